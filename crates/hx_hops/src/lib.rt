@@ -1,0 +1,2 @@
+//! The shortest ways through a state model.
+#![tactic(auto)]

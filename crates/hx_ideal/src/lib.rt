@@ -1,0 +1,58 @@
+//! Ideal states: how many replicas and partitions a resource has, and where they are wanted.
+#![tactic(auto)]
+
+ghost use Rattle.std.specs.Prelude.{◌≡◌, ℕ};
+
+use hx_ids::{InstanceId, StateId};
+use hx_lists::Seq;
+use std::marker::Model;
+
+/// Who says where the replicas of a resource are wanted.
+#[derive(Debug, PartialEq, Drop)]
+pub enum Mode {
+    /// FULL_AUTO: the controller, over all live instances.
+    Full,
+    /// SEMI_AUTO: a preference list for each partition.
+    Semi(Seq<Seq<InstanceId>>),
+    /// CUSTOMIZED: for each partition, a state on each instance that is named.
+    Custom(Seq<Seq<(InstanceId, StateId)>>),
+}
+
+/// A checked ideal state. Contracts see its replicas, its partitions and its mode.
+#[derive(Debug, Drop)]
+pub struct Ideal {
+    replicas: u32,
+    parts: u32,
+    mode: Mode,
+}
+
+impl Model for Ideal {
+    ghost use Rattle.hx_ideal.specs.IdealState.{IdealState};
+
+    ghost Value = { IdealState };
+
+    ghost view = { λ a. record { replicas = a.replicas; parts = a.parts; mode = a.mode } };
+}
+
+impl Ideal {
+    /// How many replicas each partition has. It takes no memory.
+    pub fn replicas(&self) -> u32
+        ensures { result ≡ self.now.replicas }
+    {
+        self.replicas
+    }
+
+    /// How many partitions there are. It takes no memory.
+    pub fn parts(&self) -> u32
+        ensures { result ≡ self.now.parts }
+    {
+        self.parts
+    }
+
+    /// Where the replicas are wanted. It takes no memory.
+    pub fn mode(&self) -> &Mode
+        ensures { result.now ≡ self.now.mode }
+    {
+        &self.mode
+    }
+}
