@@ -18,6 +18,23 @@ pub enum Mode {
     Custom(Seq<Seq<(InstanceId, StateId)>>),
 }
 
+/// Why something is no ideal state. A part is a partition's number, a place one in its list or map.
+#[derive(Clone, Copy, Debug, PartialEq, Eq)]
+pub enum IdealFault {
+    ZeroReplicas,
+    /// More than 64.
+    TooManyReplicas,
+    ZeroParts,
+    /// More than 1,024.
+    TooManyParts,
+    /// Another number of lists or maps than partitions.
+    PartCount { has: u32, wants: u32 },
+    UnknownInstance { part: u32, place: u32 },
+    UnknownState { part: u32, place: u32 },
+    /// The instance stands earlier in the same list or map.
+    TwiceInList { part: u32, place: u32 },
+}
+
 /// A checked ideal state. Contracts see its replicas, its partitions and its mode.
 #[derive(Debug, Drop)]
 pub struct Ideal {

@@ -1,0 +1,58 @@
+//! What a description says of a cluster.
+use hx_ideal::Ideal;
+use hx_ids::{InstanceId, ModelId, Names, PartId, StateId};
+use hx_lists::Seq;
+use hx_model::Model;
+
+/// A resource. Its number is its place among the resources, and stays its own when it is dropped.
+#[derive(Debug, Drop)]
+pub struct Resource {
+    /// The place of its name among the resource names.
+    pub name: u32,
+    pub model: ModelId,
+    pub ideal: Ideal,
+    pub dropped: bool,
+}
+
+/// Over what a throttle counts the messages in flight.
+#[derive(Clone, Copy, Debug, PartialEq, Eq)]
+pub enum Scope {
+    Cluster,
+    Instance,
+    Resource,
+}
+
+/// A throttle: at most `limit` messages in flight under each key of its scope.
+#[derive(Clone, Copy, Debug, PartialEq, Eq)]
+pub struct Rule {
+    pub scope: Scope,
+    /// The one transition that it counts, in every model; or all of them.
+    pub transition: Option<(StateId, StateId)>,
+    pub limit: u32,
+}
+
+/// A failure to come. With `make` it is that making of a handler of the part on the instance, else that run
+/// of each such handler; both are counted from 1.
+#[derive(Clone, Copy, Debug, PartialEq, Eq)]
+pub struct Failure {
+    pub instance: InstanceId,
+    pub part: PartId,
+    pub make: bool,
+    pub number: u32,
+}
+
+/// A cluster's description. The three built-in models stand first.
+#[derive(Drop)]
+pub struct Spec {
+    pub instances: Names,
+    pub states: Names,
+    pub resource_names: Names,
+    pub model_names: Names,
+    pub models: Seq<Model>,
+    pub controllers: u8,
+    /// After how many ticks without a beat a session ends.
+    pub timeout: u64,
+    pub rules: Seq<Rule>,
+    pub resources: Seq<Resource>,
+    pub failures: Seq<Failure>,
+}

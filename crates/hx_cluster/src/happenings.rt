@@ -1,0 +1,199 @@
+//! The calls that change or read a cluster, with their answers.
+use crate::state::Message;
+use hx_ideal::{Ideal, IdealFault};
+use hx_ids::{
+    ControllerId, Epoch, InstanceId, ModelId, MsgId, PartId, PassNo, ResourceId, SessionId, StateId,
+};
+use hx_lists::Seq;
+
+/// A step that an operator, a session or a controller asks for.
+#[derive(Debug, Drop)]
+pub enum Admin {
+    Join {
+        instance: InstanceId,
+    },
+    End {
+        instance: InstanceId,
+    },
+    Beat {
+        instance: InstanceId,
+    },
+    Tick {
+        n: u64,
+    },
+    Drain {
+        instance: InstanceId,
+    },
+    Undrain {
+        instance: InstanceId,
+    },
+    Add {
+        name: u32,
+        model: ModelId,
+        ideal: Ideal,
+    },
+    Drop {
+        resource: ResourceId,
+    },
+    SetList {
+        part: PartId,
+        list: Seq<InstanceId>,
+    },
+    SetMap {
+        part: PartId,
+        map: Seq<(InstanceId, StateId)>,
+    },
+    Reset {
+        instance: InstanceId,
+        part: PartId,
+    },
+    Lead {
+        controller: ControllerId,
+    },
+    Stop {
+        controller: ControllerId,
+    },
+    Start {
+        controller: ControllerId,
+    },
+}
+
+/// What a step answers.
+#[derive(Debug, PartialEq, Drop)]
+pub enum Did {
+    Joined(SessionId),
+    /// The sessions that a tick ended, in order of last beat.
+    Ended(Seq<SessionId>),
+    Added(ResourceId),
+    Leads(Epoch),
+    Done,
+}
+
+/// Why a step is refused.
+#[derive(Clone, Copy, Debug, PartialEq, Eq)]
+pub enum StepFault {
+    AlreadyLive {
+        session: SessionId,
+    },
+    NotLive,
+    ClockEnd,
+    AlreadySo,
+    NameInUse {
+        resource: ResourceId,
+    },
+    TooMany,
+    AlreadyDropped,
+    ResourceDropped,
+    WrongMode,
+    NoPart {
+        parts: u32,
+    },
+    Ideal(IdealFault),
+    NotError {
+        state: Option<StateId>,
+    },
+    AlreadyAsked,
+    LedBy {
+        controller: ControllerId,
+        epoch: Epoch,
+    },
+    ControllerDown,
+    OutOfMemory,
+}
+
+/// A transition that a controller wants a session to make.
+#[derive(Clone, Copy, Debug, PartialEq, Eq)]
+pub struct Proposal {
+    pub session: SessionId,
+    pub part: PartId,
+    pub from: StateId,
+    pub to: StateId,
+}
+
+/// What became of a proposal.
+#[derive(Clone, Copy, Debug, PartialEq, Eq)]
+pub enum Placed {
+    Ended,
+    ResourceDropped,
+    Busy { id: MsgId },
+    WrongFrom { has: Option<StateId> },
+    Illegal,
+    OverBound { count: u32, bound: u32 },
+    OverThrottle { rule: u32, load: u32, limit: u32 },
+    Sent(MsgId),
+}
+
+/// What `begin` answers.
+#[derive(Clone, Copy, Debug, PartialEq, Eq)]
+pub struct Begun {
+    pub epoch: Epoch,
+    pub pass: PassNo,
+    pub change: u64,
+}
+
+/// What a dispatch answers. The change number is the one before any proposal was placed.
+#[derive(Debug, PartialEq, Drop)]
+pub struct Dispatched {
+    pub change: u64,
+    pub placed: Seq<Placed>,
+}
+
+/// What a fetch shows: the instance's session and its pending messages by number.
+#[derive(Debug, PartialEq, Drop)]
+pub struct Mail {
+    pub session: Option<SessionId>,
+    pub messages: Seq<Message>,
+}
+
+/// How a handler's run ended.
+#[derive(Clone, Copy, Debug, PartialEq, Eq)]
+pub enum Outcome {
+    Ok,
+    Failed,
+}
+
+/// A row of the external view.
+#[derive(Clone, Copy, Debug, PartialEq, Eq)]
+pub struct Seen {
+    pub instance: InstanceId,
+    pub part: PartId,
+    pub state: StateId,
+}
+
+/// A call that was answered Ok. What a read or a fetch showed follows from the events before it.
+#[derive(Debug, Drop)]
+pub enum Event {
+    Admin(Admin, Did),
+    Line(u32),
+    Begin(ControllerId, Begun),
+    Live(ControllerId, PassNo),
+    Mail(ControllerId, PassNo, SessionId),
+    States(ControllerId, PassNo, SessionId),
+    Ideals(ControllerId, PassNo),
+    Dispatch {
+        c: ControllerId,
+        epoch: Epoch,
+        pass: PassNo,
+        proposals: Seq<Proposal>,
+        answer: Dispatched,
+    },
+    Post {
+        c: ControllerId,
+        epoch: Epoch,
+        rows: Seq<Seen>,
+    },
+    Fetch {
+        instance: InstanceId,
+        session: Option<SessionId>,
+        count: u32,
+    },
+    Take(SessionId, MsgId),
+    Write(SessionId, MsgId, Outcome),
+    Ack(SessionId, MsgId),
+}
+
+/// All that happened, in order.
+#[derive(Debug, Drop)]
+pub struct History {
+    pub entries: Seq<Event>,
+}

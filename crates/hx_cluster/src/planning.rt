@@ -1,0 +1,114 @@
+//! What a controller saw, and what it makes of it.
+use crate::description::Resource;
+use crate::happenings::Proposal;
+use crate::state::{Message, Row};
+use hx_ids::{InstanceId, MsgId, PartId, SessionId, StateId};
+use hx_lists::Seq;
+
+/// What is wanted: the resources, the drained instances and the reset flags.
+#[derive(Debug, Drop)]
+pub struct Ideals {
+    pub resources: Seq<Resource>,
+    /// For each instance, whether it is drained.
+    pub drained: Seq<bool>,
+    pub resets: Seq<(SessionId, PartId)>,
+}
+
+/// What the reads of one pass showed. They may stem from different moments.
+#[derive(Debug, Drop)]
+pub struct View {
+    pub live: Seq<(SessionId, InstanceId)>,
+    pub mail: Seq<Message>,
+    pub rows: Seq<Row>,
+    pub ideals: Ideals,
+}
+
+/// A replica, or a wanted place without one, and the state where it is to go.
+#[derive(Clone, Copy, Debug, PartialEq, Eq)]
+pub struct Target {
+    pub session: SessionId,
+    pub instance: InstanceId,
+    pub part: PartId,
+    /// None where there is no row.
+    pub state: Option<StateId>,
+    pub goal: StateId,
+    /// Its place in the preference list; the list's length where it isn't there; 0 for maps and dropped resources.
+    pub place: u32,
+}
+
+/// The next transition of a replica that isn't at its goal.
+#[derive(Clone, Copy, Debug, PartialEq, Eq)]
+pub struct Candidate {
+    pub session: SessionId,
+    pub instance: InstanceId,
+    pub part: PartId,
+    pub from: StateId,
+    pub to: StateId,
+    pub place: u32,
+}
+
+/// A candidate for a state that has as many replicas as it may have.
+#[derive(Debug, PartialEq, Drop)]
+pub struct Full {
+    pub candidate: Candidate,
+    pub count: u32,
+    pub bound: u32,
+    /// The sessions that have the state among their ends, or were accepted for it before.
+    pub holders: Seq<SessionId>,
+}
+
+/// A candidate that a throttle holds back: the first such rule, its load and its limit.
+#[derive(Clone, Copy, Debug, PartialEq, Eq)]
+pub struct Held {
+    pub candidate: Candidate,
+    pub rule: u32,
+    pub load: u32,
+    pub limit: u32,
+}
+
+/// The candidates that the bounds allow, and those that they don't.
+#[derive(Debug, PartialEq, Drop)]
+pub struct Selection {
+    pub accepted: Seq<Candidate>,
+    pub full: Seq<Full>,
+}
+
+/// The candidates that the throttles allow too, and those that they don't.
+#[derive(Debug, PartialEq, Drop)]
+pub struct Throttled {
+    pub sent: Seq<Candidate>,
+    pub held: Seq<Held>,
+}
+
+/// Why a replica is where it is.
+#[derive(Debug, PartialEq, Drop)]
+pub enum Finding {
+    /// It is in ERROR, and nobody asked for a reset.
+    Failed,
+    /// A message of it was shown.
+    Pending(MsgId),
+    AtBest,
+    Sent,
+    Held(Held),
+    Full(Full),
+}
+
+/// What a pass found of one target.
+#[derive(Debug, PartialEq, Drop)]
+pub struct Entry {
+    pub target: Target,
+    pub finding: Finding,
+}
+
+/// One entry for each target, in their order.
+#[derive(Debug, PartialEq, Drop)]
+pub struct Report {
+    pub entries: Seq<Entry>,
+}
+
+/// What a pass proposes, and its report.
+#[derive(Debug, PartialEq, Drop)]
+pub struct Plan {
+    pub proposals: Seq<Proposal>,
+    pub report: Report,
+}
