@@ -1,1 +1,4 @@
 pub mod Model
+pub mod Checked
+pub mod Walks
+pub mod Builtin

@@ -2,17 +2,26 @@
 //! of one partition may be in a state.
 #![tactic(auto)]
 
-ghost use Rattle.std.specs.Prelude.{◌≡◌, ℕ, ◌+◌, ◌-◌, ◌<◌, ◌≤◌, length, Option};
-ghost use Rattle.hx_model.specs.Model.{states_of, is_legal, limit_of};
+mod builtin;
+
+ghost use Rattle.std.specs.Prelude.{◌≡◌, ℕ, ◌+◌, ◌-◌, ◌^◌, ◌<◌, ◌≤◌, ◌==◌, length, map, take, Option, IfOk, IsTrue};
+ghost use Rattle.hx_model.specs.Model.{states_of, is_legal, bound_of, rank_of, limit_of, is_between};
+ghost use Rattle.std.specs.List.{list_any, find, position};
 
 use hx_ids::StateId;
 use hx_lists::Seq;
+use std::alloc::{AllocError, Global};
+
+pub use builtin::online_offline;
 
 /// The state of a replica whose handler failed. Every model has it.
 pub const ERROR: StateId = StateId(0);
 
 /// Where a replica goes that is no longer wanted. Every model has it.
 pub const DROPPED: StateId = StateId(1);
+
+/// The most states that a model has.
+pub const MOST_STATES: usize = 16;
 
 /// How many replicas of one partition may be in a state.
 #[derive(Clone, Copy, Debug, PartialEq, Eq)]
@@ -39,6 +48,8 @@ pub struct ModelParts {
 #[derive(Debug, Drop)]
 pub struct Model {
     parts: ModelParts,
+    order: [StateId; 16],
+    count: usize,
 }
 
 impl std::marker::Model for Model {
@@ -47,27 +58,148 @@ impl std::marker::Model for Model {
     ghost Value = { ModelParts };
 
     ghost view = { λ m. m.parts };
+
+    ghost use Rattle.hx_model.specs.Checked.{IsChecked};
+
+    ghost invariant = { λ m. IsChecked m.parts m.order m.count };
 }
 
-impl Bound {
-    /// The most replicas that it allows, or none where it allows any number. It takes no memory.
-    pub fn limit(self, replicas: u32, live: u32) -> Option<u32>
-        ensures { result ≡ limit_of self replicas live }
+/// The most replicas that a bound allows, or none where it allows any number. It takes no memory.
+pub fn limit(bound: Bound, replicas: u32, live: u32) -> Option<u32>
+    ensures { result ≡ limit_of bound replicas live }
+{
+    match bound {
+        Bound::Count(n) => Some(n),
+        Bound::Replicas => Some(replicas),
+        Bound::Live => Some(live),
+        Bound::Free => None,
+    }
+}
+
+impl ModelParts {
+    /// The same parts again.
+    pub fn copied(&self, alloc: Global) -> Result<ModelParts, AllocError>
+        ensures { IfOk result (λ parts. parts ≡ self.now) }
     {
-        match self {
-            Bound::Count(n) => Some(n),
-            Bound::Replicas => Some(replicas),
-            Bound::Live => Some(live),
-            Bound::Free => None,
-        }
+        Ok(ModelParts {
+            states: self.states.copied(alloc)?,
+            initial: self.initial,
+            transitions: self.transitions.copied(alloc)?,
+        })
     }
 }
 
 impl Model {
+    /// Whether a transition is listed, or leads from ERROR to the initial state. It takes no memory.
+    pub fn legal(&self, from: StateId, to: StateId) -> bool
+        ensures { result ≡ is_legal self.now from to }
+    {
+        self.lists(from, to) || (from == ERROR && to == self.parts.initial)
+    }
+
+    fn lists(&self, from: StateId, to: StateId) -> bool
+        ensures { result ≡ list_any (is_between from to) self.now.transitions }
+    {
+        self.parts
+            .transitions
+            .as_slice()
+            .iter()
+            .any(|t| t.0 == from && t.1 == to)
+    }
+
+    /// A state's bound. ERROR and DROPPED have none. It takes no memory.
+    pub fn bound(&self, state: StateId) -> Bound
+        ensures { result ≡ bound_of self.now state }
+    {
+        match entry_of(self.parts.states.as_slice(), state) {
+            Some(entry) => entry.1,
+            None => Bound::Free,
+        }
+    }
+
+    /// The place of a legal transition in the list, or the list's length from ERROR to the initial state. It takes
+    /// no memory.
+    pub fn rank(&self, from: StateId, to: StateId) -> u32
+        requires { IsTrue (is_legal self.now from to) }
+        ensures { result ≡ rank_of self.now from to }
+    {
+        let transitions = self.parts.transitions.as_slice();
+        match place_of(transitions, from, to) {
+            Some(place) => place as u32,
+            None => transitions.len() as u32,
+        }
+    }
+
     /// The state that a replica begins in. It takes no memory.
     pub fn initial(&self) -> StateId
         ensures { result ≡ self.now.initial }
     {
         self.parts.initial
+    }
+
+    /// The states in priority order. It takes no memory.
+    pub fn states(&self) -> &[StateId]
+        ensures states { result.now ≡ states_of self.now }
+        ensures few { length self.now.states ≤ 16 }
+    {
+        &self.order[..self.count]
+    }
+
+    /// The same model again.
+    pub fn copied(&self, alloc: Global) -> Result<Model, AllocError>
+        ensures { IfOk result (λ model. model ≡ self.now) }
+    {
+        Ok(Model {
+            parts: self.parts.copied(alloc)?,
+            order: self.order,
+            count: self.count,
+        })
+    }
+}
+
+fn entry_of(states: &[(StateId, Bound)], state: StateId) -> Option<(StateId, Bound)>
+    ensures { result ≡ find (λ p. p.0.0 == state.0) states.now }
+{
+    states.iter().copied().find(|p| p.0 == state)
+}
+
+fn place_of(transitions: &[(StateId, StateId)], from: StateId, to: StateId) -> Option<usize>
+    ensures { result ≡ position (is_between from to) transitions.now }
+{
+    transitions.iter().position(|t| t.0 == from && t.1 == to)
+}
+
+/// The states alone, in priority order.
+fn order_of(states: &[(StateId, Bound)]) -> [StateId; 16]
+    requires { length states.now ≤ 16 }
+    ensures { take (length states.now) result ≡ map (λ p. p.0) states.now }
+{
+    let mut order = [ERROR; MOST_STATES];
+    for (place, state) in states.iter().enumerate() {
+        order[place] = state.0;
+    }
+    order
+}
+
+impl Model {
+    fn of(
+        alloc: Global,
+        states: &[(StateId, Bound)],
+        initial: StateId,
+        transitions: &[(StateId, StateId)],
+    ) -> Result<Model, AllocError>
+        requires states { length states.now ≤ 16 }
+        requires transitions { length transitions.now < 2 ^ 32 }
+        ensures { IfOk result (λ m. m ≡ record { states = states.now; initial = initial; transitions = transitions.now }) }
+    {
+        Ok(Model {
+            order: order_of(states),
+            count: states.len(),
+            parts: ModelParts {
+                states: Seq::from_vec(Vec::from_slice(alloc, states)?),
+                initial,
+                transitions: Seq::from_vec(Vec::from_slice(alloc, transitions)?),
+            },
+        })
     }
 }

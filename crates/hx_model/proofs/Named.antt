@@ -1,0 +1,67 @@
+-- Places of names, before and after more names come.
+use Rattle.std.proofs.Common.{◌≡◌, ℕ, ◌+◌, ◌≤◌, ◌<◌, Bool, true, false, List, [], ◌∷◌, ◌++◌, length, refl, sym, ap, ◌∙◌, arith, length-append, subst}
+use Rattle.std.specs.Prelude.{if◌then◌else◌, nat_lt}
+use Rattle.std.specs.List.{list_any, position_or_len}
+use Rattle.std.specs.Str.{bytes_eq}
+use Rattle.std.proofs.lemmas.Bool.Decides.{nat_tests}
+use Rattle.std.proofs.lemmas.List.Sums.{prefix_len-le-length}
+use Rattle.std.proofs.lemmas.List.Folds.{position_or_len_push}
+use Rattle.hx_ids.specs.Names.{place_after, interned}
+use Rattle.hx_model.specs.Builtin.{state_named}
+
+pub place_after-le : (names : List (List ℕ)) (n : List ℕ) → place_after names n ≤ length names
+place_after-le names n = prefix_len-le-length _ names
+
+pub length-interned-le : (names : List (List ℕ)) (n : List ℕ) → length (interned names n) ≤ length names + 1
+length-interned-le names n = one (list_any (bytes_eq n) names)
+  where
+    one : (b : Bool) → length (if b then names else names ++ n ∷ []) ≤ length names + 1
+    one true = omega arith
+    one false = omega (arith, length-append names (n ∷ []))
+
+-- a test that finds an item finds it before the end, and no item where it finds none
+any_place : {X : Type 0} (p : X → Bool) (xs : List X) → list_any p xs ≡ nat_lt (position_or_len p xs) (length xs)
+any_place p [] = refl
+any_place p (x ∷ xs) = grind (arith, nat_tests, any_place p xs)
+
+-- a name keeps its place when it is interned, and has one from then on
+pub place_after-interned : (names : List (List ℕ)) (n : List ℕ) → bytes_eq n n ≡ true → place_after (interned names n) n ≡ place_after names n
+place_after-interned names n same = one (list_any (bytes_eq n) names) refl
+  where
+    most : place_after names n ≤ length names
+    most = place_after-le names n
+
+    one : (b : Bool) → list_any (bytes_eq n) names ≡ b → place_after (if b then names else names ++ n ∷ []) n ≡ place_after names n
+    one true is = refl
+    one false is = grind (arith, nat_tests, position_or_len_push (bytes_eq n) names n, any_place (bytes_eq n) names, most, same)
+
+pub interned-has : (names : List (List ℕ)) (n : List ℕ) → bytes_eq n n ≡ true → place_after (interned names n) n < length (interned names n)
+interned-has names n same = one (list_any (bytes_eq n) names) refl
+  where
+    most : place_after names n ≤ length names
+    most = place_after-le names n
+
+    one : (b : Bool) → list_any (bytes_eq n) names ≡ b → place_after (if b then names else names ++ n ∷ []) n < length (if b then names else names ++ n ∷ [])
+    one true is = grind (arith, nat_tests, any_place (bytes_eq n) names)
+    one false is = grind (arith, nat_tests, position_or_len_push (bytes_eq n) names n, any_place (bytes_eq n) names, most, same, length-append names (n ∷ []))
+
+-- a name that has a place keeps it
+pub place_after-more : (names : List (List ℕ)) (n x : List ℕ) → place_after names n < length names → place_after (interned names x) n ≡ place_after names n
+place_after-more names n x has = one (list_any (bytes_eq x) names)
+  where
+    one : (b : Bool) → place_after (if b then names else names ++ x ∷ []) n ≡ place_after names n
+    one true = refl
+    one false = grind (arith, nat_tests, position_or_len_push (bytes_eq n) names x, has)
+
+pub bytes_same : (n : List ℕ) → bytes_eq n n ≡ true
+bytes_same [] = refl
+bytes_same (x ∷ n) = grind (arith, nat_tests, bytes_same n)
+
+-- the state of a name is the same before and after further names come
+pub state_named-more : (names : List (List ℕ)) (n x : List ℕ) → place_after names n < length names → state_named (interned names x) n ≡ state_named names n
+state_named-more names n x has = ap (λ (i : ℕ). record { 0 = i }) (place_after-more names n x has)
+
+pub state_of_two : (names one two : List (List ℕ)) (n x : List ℕ) → one ≡ interned names n → two ≡ interned one x → state_named one n ≡ state_named two n
+state_of_two names one two n x is after =
+    let P : List (List ℕ) → Type 0 = λ o. place_after o n < length o in
+    sym (ap (λ (v : List (List ℕ)). state_named v n) after ∙ state_named-more one n x (subst P (sym is) (interned-has names n (bytes_same n))))

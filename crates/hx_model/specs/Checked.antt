@@ -1,0 +1,11 @@
+-- What holds of each checked model.
+use Rattle.std.specs.Prelude.{◌≡◌, ℕ, ◌≤◌, ◌<◌, ◌^◌, List, length, take}
+use Rattle.hx_ids.specs.declared.StateId.{StateId}
+use Rattle.hx_model.specs.declared.ModelParts.{ModelParts}
+use Rattle.hx_model.specs.Model.{states_of}
+
+-- its states stand apart too, and its places fit their types
+pub record IsChecked (parts : ModelParts) (order : List StateId) (count : ℕ) : Type 0 where
+  pub apart : take count order ≡ states_of parts
+  pub room : (count ≤ 16) × (length order ≡ 16)
+  pub ranks : length parts.transitions < 2 ^ 32
