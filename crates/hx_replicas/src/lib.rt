@@ -1,0 +1,17 @@
+//! Participants: what a session's replicas are, and the messages that move them.
+#![tactic(auto)]
+
+use hx_ids::{MsgId, SessionId, StateId};
+
+/// Why a message is not accepted.
+#[derive(Clone, Copy, Debug, PartialEq, Eq)]
+pub enum DeliverFault {
+    /// The message is of another session than the participant's.
+    OtherSession { mine: Option<SessionId> },
+    /// A message of that part is accepted or out.
+    Running { id: MsgId },
+    /// A message of that part with this or a higher number was accepted before.
+    Repeat { last: MsgId },
+    /// The replica is at another state than the message's `from`.
+    WrongFrom { has: StateId },
+}
