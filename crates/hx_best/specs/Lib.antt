@@ -1,0 +1,4 @@
+pub mod RoundRobin
+pub mod Wants
+pub mod Goals
+pub mod Targets

@@ -1,0 +1,2 @@
+//! Where the replicas of each part are to go: the goals of a pass.
+#![tactic(auto)]

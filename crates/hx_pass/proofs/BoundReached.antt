@@ -1,0 +1,37 @@
+-- A map that wants two replicas in a state that one may have.
+use Rattle.std.specs.Prelude.{◌≡◌, refl, [], ◌∷◌, true, false, Some}
+use Rattle.hx_ideal.specs.declared.Mode.TheVariants as modes
+use Rattle.hx_cluster.specs.declared.planning.View.{View}
+use Rattle.hx_cluster.specs.declared.planning.Finding.TheVariants as findings
+use Rattle.hx_pass.specs.Plans.{plan}
+use Rattle.hx_pass.specs.Views.{is_well_formed}
+use Rattle.hx_pass.proofs.Examples.{n, s, master, slave, models, resource, row, target, candidate}
+
+abbrev view : View
+view = record {
+  live = (s 1, n 0) ∷ (s 2, n 1) ∷ [];
+  mail = [];
+  rows = row 1 0 master ∷ row 2 0 slave ∷ [];
+  ideals = record {
+    resources = resource 0 2 1 (modes.Custom (((n 0, master) ∷ (n 1, master) ∷ []) ∷ [])) ∷ [];
+    drained = false ∷ false ∷ false ∷ [];
+    resets = [];
+  };
+}
+
+well_formed : is_well_formed models 3 view ≡ true
+well_formed = refl
+
+plan_is : plan models [] view ≡ record {
+  proposals = [];
+  report = record {
+    entries =
+        record { target = target 1 0 0 (Some master) master 0; finding = findings.AtBest }
+        ∷ record {
+          target = target 2 1 0 (Some slave) master 0;
+          finding = findings.Full (record { candidate = candidate 2 1 0 slave master 0; count = 1; bound = 1; holders = s 1 ∷ [] });
+        }
+        ∷ [];
+  };
+}
+plan_is = refl

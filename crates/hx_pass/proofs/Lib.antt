@@ -1,0 +1,4 @@
+mod Examples
+mod PreferenceList
+mod BoundReached
+mod ThrottledParts

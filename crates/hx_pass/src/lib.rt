@@ -1,0 +1,2 @@
+//! The plan of a pass: what a controller proposes, given what it was shown.
+#![tactic(auto)]

@@ -1,0 +1,2 @@
+//! Why each replica is where it is.
+#![tactic(auto)]

@@ -1,0 +1,2 @@
+//! The candidates that the bounds of their states allow.
+#![tactic(auto)]

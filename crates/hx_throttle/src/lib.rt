@@ -1,0 +1,2 @@
+//! The candidates that the throttles allow.
+#![tactic(auto)]
