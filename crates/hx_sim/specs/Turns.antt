@@ -19,7 +19,7 @@ use Rattle.hx_cluster.specs.declared.happenings.Placed.TheVariants as placings
 use Rattle.hx_cluster.specs.declared.happenings.Dispatched.{Dispatched}
 use Rattle.hx_cluster.specs.declared.happenings.Seen.{Seen}
 use Rattle.hx_cluster.specs.declared.happenings.Event.TheVariants as events
-use Rattle.hx_cluster.specs.Ends.{part_before, part_eq, instance_in, shown_of}
+use Rattle.hx_cluster.specs.Ends.{part_before, part_eq, instance_in}
 use Rattle.hx_cluster.specs.Steps.{is_leader}
 use Rattle.hx_cluster.specs.Reads.{live_shown, mail_shown, states_shown, ideals_shown, nothing_shown}
 use Rattle.hx_cluster.specs.Events.{begun_of, dispatched_of, is_epoch, is_pass, is_proposable, is_postable}
@@ -29,7 +29,7 @@ use Rattle.hx_print.specs.declared.Word.TheVariants as words
 use Rattle.hx_print.specs.Texts.{sent_text, waiting_text, moved_text, settled_text, failed_text, full_text}
 use Rattle.hx_control.specs.declared.PassOutcome.{PassOutcome}
 use Rattle.hx_control.specs.declared.PassOutcome.TheVariants as ends
-use Rattle.hx_pass.specs.Plan.{plan}
+use Rattle.hx_pass.specs.Plans.{plan}
 use Rattle.hx_sim.specs.World.{World, Turn, Voice, idle_turn, happen, note, say, say_if_loud, turn_of, with_turn}
 
 -- a turn goes to another word
@@ -74,12 +74,12 @@ read_states_of w k [] = w
 read_states_of w k (s ∷ ss) = read_states_of (read_states w k s) k ss
 
 -- after `live`, a turn that was shown no session goes on with `ideals`
+abbrev pub word_after_live : List SessionId → Word
+word_after_live [] = words.Ideals
+word_after_live (s ∷ ss) = words.Mail
+
 abbrev pub after_live : World → ControllerId → World
-after_live w k = go_to w k (shown (shown_sessions w k))
-  where
-    shown : List SessionId → Word
-    shown [] = words.Ideals
-    shown (s ∷ ss) = words.Mail
+after_live w k = go_to w k (word_after_live (shown_sessions w k))
 
 abbrev pub do_live : World → ControllerId → World
 do_live w k = if has_pass w k then after_live (read_live w k) k else go_to w k words.Begin
@@ -114,7 +114,7 @@ outcome_of t p d =
 -- the lines of a settled report: replicas that failed, and those that a bound holds back, by resource, partition and instance
 abbrev pub say_finding : World → Target → Finding → World
 say_finding w t findings.Failed = say w 1 (failed_text w.spec w.cluster.resources t.instance t.part)
-say_finding w t (findings.Full f) = say w (1 + length f.holders) (full_text w.spec w.cluster.resources (shown_of w.cluster.live) f)
+say_finding w t (findings.Full f) = say w (1 + length f.holders) (full_text w.spec w.cluster.resources (live_shown w.cluster) f)
 say_finding w t (findings.Pending id) = w
 say_finding w t findings.AtBest = w
 say_finding w t findings.Sent = w
@@ -136,7 +136,7 @@ tell_outcome (Voice.Loud n) w k o = say_outcome w k o
 
 -- the plan of what the turn was shown
 abbrev pub plan_of : World → ControllerId → Plan
-plan_of w k = plan w.spec (turn_of w k).view
+plan_of w k = plan w.spec.models w.spec.rules (turn_of w k).view
 
 -- send: refused where another epoch stands. The parts of what a turn in a world was shown are all on the board
 abbrev pub sent_as : Voice → World → ControllerId → Plan → Dispatched → World
