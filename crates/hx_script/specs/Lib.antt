@@ -1,0 +1,1 @@
+pub use Rattle.hx_print.specs.Texts

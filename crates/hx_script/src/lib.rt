@@ -1,0 +1,80 @@
+//! Scripts: what their lines ask for.
+#![tactic(auto)]
+
+use hx_ids::{ControllerId, InstanceId, ModelId, MsgId, StateId};
+use hx_lists::Seq;
+pub use hx_print::{Note, Word};
+
+/// Which of a turn's reads.
+#[derive(Clone, Copy, Debug, PartialEq, Eq)]
+pub enum ReadKind {
+    Live,
+    Mail,
+    States,
+    Ideals,
+}
+
+/// What a script line asks for. A resource is given by the place of its name among the resource names, a mode
+/// as 0, 1 or 2 for FULL_AUTO, SEMI_AUTO and CUSTOMIZED.
+#[derive(Debug, PartialEq, Drop)]
+pub enum What {
+    Join(InstanceId),
+    Beat(InstanceId),
+    Drain(InstanceId),
+    Undrain(InstanceId),
+    Tick(u64),
+    Expire(InstanceId),
+    Die(InstanceId),
+    Add {
+        name: u32,
+        model: ModelId,
+        replicas: u32,
+        parts: u32,
+        mode: u8,
+    },
+    Drop(u32),
+    List {
+        name: u32,
+        part: u32,
+        list: Seq<InstanceId>,
+    },
+    Map {
+        name: u32,
+        part: u32,
+        map: Seq<(InstanceId, StateId)>,
+    },
+    Reset {
+        instance: InstanceId,
+        name: u32,
+        part: u32,
+    },
+    Lead(ControllerId),
+    Stop(ControllerId),
+    Start(ControllerId),
+    Begin(ControllerId),
+    Read(ControllerId, ReadKind),
+    Send(ControllerId),
+    Post(ControllerId),
+    Pass(ControllerId),
+    Fetch(InstanceId),
+    Deliver(InstanceId, MsgId),
+    Take(InstanceId, MsgId),
+    Write(InstanceId, MsgId),
+    Ack(InstanceId, MsgId),
+    Work(InstanceId),
+    Settle,
+    View,
+    Route {
+        name: u32,
+        part: u32,
+        state: StateId,
+    },
+    Summary,
+}
+
+/// A script line. Comments and empty lines count in the numbers, which begin at 1.
+#[derive(Debug, PartialEq, Drop)]
+pub struct Line {
+    pub number: u32,
+    pub what: What,
+}
