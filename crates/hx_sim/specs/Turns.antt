@@ -30,7 +30,7 @@ use Rattle.hx_print.specs.Texts.{sent_text, waiting_text, moved_text, settled_te
 use Rattle.hx_control.specs.declared.PassOutcome.{PassOutcome}
 use Rattle.hx_control.specs.declared.PassOutcome.TheVariants as ends
 use Rattle.hx_pass.specs.Plans.{plan}
-use Rattle.hx_sim.specs.World.{World, Turn, Voice, idle_turn, happen, note, say, say_if_loud, turn_of, with_turn}
+use Rattle.hx_sim.specs.World.{World, Turn, Voice, idle_turn, when, happen, note, say, say_if_loud, turn_of, with_turn}
 
 -- a turn goes to another word
 abbrev pub go_to : World → ControllerId → Word → World
@@ -183,34 +183,25 @@ word_number words.Post = 6
 abbrev pub is_at : World → ControllerId → Word → Bool
 is_at w k word = word_number (turn_of w k).at == word_number word
 
--- the rest of a turn; one that a refusal ended goes no further
+-- the rest of a turn, word by word: each is done where the turn is at it, so one that a refusal ended goes no further
 abbrev pub finish_post : Voice → ControllerId → World → World
-finish_post v k w = if is_at w k words.Post then do_post v w k else w
+finish_post v k w = when (is_at w k words.Post) (λ x. do_post v x k) w
 
 abbrev pub finish_send : Voice → ControllerId → World → World
-finish_send v k w = if is_at w k words.Send then finish_post v k (do_send v w k) else w
+finish_send v k w = finish_post v k (when (is_at w k words.Send) (λ x. do_send v x k) w)
 
 abbrev pub finish_ideals : Voice → ControllerId → World → World
-finish_ideals v k w = if is_at w k words.Ideals then finish_send v k (do_ideals w k) else w
+finish_ideals v k w = finish_send v k (when (is_at w k words.Ideals) (λ x. do_ideals x k) w)
 
 abbrev pub finish_states : Voice → ControllerId → World → World
-finish_states v k w = if is_at w k words.States then finish_ideals v k (do_states w k) else finish_ideals v k w
+finish_states v k w = finish_ideals v k (when (is_at w k words.States) (λ x. do_states x k) w)
 
 abbrev pub finish_mail : Voice → ControllerId → World → World
-finish_mail v k w = if is_at w k words.Mail then finish_states v k (do_mail w k) else finish_states v k w
+finish_mail v k w = finish_states v k (when (is_at w k words.Mail) (λ x. do_mail x k) w)
 
 abbrev pub finish_live : Voice → ControllerId → World → World
-finish_live v k w = if is_at w k words.Live then finish_mail v k (do_live w k) else w
+finish_live v k w = finish_mail v k (when (is_at w k words.Live) (λ x. do_live x k) w)
 
 -- a whole turn where it is idle, and else its rest
-abbrev pub pass_at : Word → Voice → ControllerId → World → World
-pass_at words.Begin v k w = finish_live v k (do_begin v w k)
-pass_at words.Live v k w = finish_live v k w
-pass_at words.Mail v k w = finish_mail v k w
-pass_at words.States v k w = finish_states v k w
-pass_at words.Ideals v k w = finish_ideals v k w
-pass_at words.Send v k w = finish_send v k w
-pass_at words.Post v k w = finish_post v k w
-
 abbrev pub do_pass : Voice → World → ControllerId → World
-do_pass v w k = pass_at (turn_of w k).at v k w
+do_pass v w k = finish_live v k (when (is_at w k words.Begin) (λ x. do_begin v x k) w)

@@ -80,6 +80,11 @@ opening_world spec limit handlers = record {
   is_full = false;
 }
 
+-- something is done, or not
+abbrev pub when : Bool → (World → World) → World → World
+when true f w = f w
+when false f w = w
+
 -- an event happens, where there is room for it
 abbrev pub happened : World → Event → World
 happened w e = record w { cluster = next w.cluster e; history = w.history ++ e ∷ []; text = w.text ++ entry_text w.spec w.cluster e; weight = w.weight + weight_of e }

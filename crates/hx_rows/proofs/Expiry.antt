@@ -1,0 +1,44 @@
+use Rattle.std.specs.Prelude.{◌≡◌, ℕ, Bool, true, false, List, [], ◌∷◌, Option, None, Some, codes}
+use Rattle.std.specs.Fmt.{digits}
+use Rattle.std.proofs.Common.{refl}
+use Rattle.hx_model.specs.declared.Bound.TheVariants as bounds
+use Rattle.hx_ideal.specs.declared.Mode.TheVariants as modes
+use Rattle.hx_cluster.specs.declared.description.Spec.{Spec}
+use Rattle.hx_cluster.specs.declared.description.Scope.TheVariants as scopes
+use Rattle.hx_script.specs.declared.ReadKind.TheVariants as kinds
+use Rattle.hx_script.specs.declared.What.TheVariants as asks
+use Rattle.hx_script.specs.declared.Line.{Line}
+use Rattle.hx_sim.specs.Scripts.{sim_text}
+
+abbrev the_spec : Spec
+the_spec = record {
+  instances = (codes "n1" ∷ codes "n2" ∷ codes "n3" ∷ []);
+  states = (codes "ERROR" ∷ codes "DROPPED" ∷ codes "MASTER" ∷ codes "SLAVE" ∷ codes "OFFLINE" ∷ codes "ONLINE" ∷ codes "LEADER" ∷ codes "STANDBY" ∷ []);
+  resource_names = (codes "db" ∷ []);
+  model_names = (codes "MasterSlave" ∷ codes "OnlineOffline" ∷ codes "LeaderStandby" ∷ []);
+  models = ((record { states = (((record { 0 = 2 }), (bounds.Count 1)) ∷ ((record { 0 = 3 }), bounds.Replicas) ∷ ((record { 0 = 4 }), bounds.Free) ∷ []); initial = (record { 0 = 4 }); transitions = (((record { 0 = 2 }), (record { 0 = 3 })) ∷ ((record { 0 = 3 }), (record { 0 = 2 })) ∷ ((record { 0 = 4 }), (record { 0 = 3 })) ∷ ((record { 0 = 3 }), (record { 0 = 4 })) ∷ ((record { 0 = 4 }), (record { 0 = 1 })) ∷ []) }) ∷ (record { states = (((record { 0 = 5 }), bounds.Replicas) ∷ ((record { 0 = 4 }), bounds.Free) ∷ []); initial = (record { 0 = 4 }); transitions = (((record { 0 = 4 }), (record { 0 = 5 })) ∷ ((record { 0 = 5 }), (record { 0 = 4 })) ∷ ((record { 0 = 4 }), (record { 0 = 1 })) ∷ []) }) ∷ (record { states = (((record { 0 = 6 }), (bounds.Count 1)) ∷ ((record { 0 = 7 }), bounds.Replicas) ∷ ((record { 0 = 4 }), bounds.Free) ∷ []); initial = (record { 0 = 4 }); transitions = (((record { 0 = 6 }), (record { 0 = 7 })) ∷ ((record { 0 = 7 }), (record { 0 = 6 })) ∷ ((record { 0 = 4 }), (record { 0 = 7 })) ∷ ((record { 0 = 7 }), (record { 0 = 4 })) ∷ ((record { 0 = 4 }), (record { 0 = 1 })) ∷ []) }) ∷ []);
+  controllers = 2;
+  timeout = 30;
+  rules = ([]);
+  resources = ((record { name = 0; model = (record { 0 = 0 }); ideal = (record { replicas = 3; parts = 1; mode = (modes.Semi (((record { 0 = 0 }) ∷ (record { 0 = 1 }) ∷ (record { 0 = 2 }) ∷ []) ∷ [])) }); dropped = false }) ∷ []);
+  failures = ([]);
+}
+
+abbrev the_lines : List Line
+the_lines = (record { number = 1; what = asks.Join (record { 0 = 0 }) })
+    ∷ (record { number = 2; what = asks.Join (record { 0 = 1 }) })
+    ∷ (record { number = 3; what = asks.Tick 10 })
+    ∷ (record { number = 4; what = asks.Beat (record { 0 = 1 }) })
+    ∷ (record { number = 5; what = asks.Tick 19 })
+    ∷ (record { number = 6; what = asks.Tick 1 })
+    ∷ (record { number = 7; what = asks.Tick 10 })
+    ∷ (record { number = 8; what = asks.Join (record { 0 = 1 }) })
+    ∷ (record { number = 9; what = asks.Join (record { 0 = 0 }) })
+    ∷ (record { number = 10; what = asks.Beat (record { 0 = 1 }) })
+    ∷ (record { number = 11; what = asks.Tick 30 })
+    ∷ []
+
+-- expiry
+pub expiry : sim_text the_spec the_lines ≡ codes "line 1\njoin n1 s1\nline 2\njoin n2 s2\nline 3\ntick 10\nline 4\nbeat n2 s2\nline 5\ntick 19\nline 6\ntick 1\n  end n1 s1\nline 7\ntick 10\n  end n2 s2\nline 8\njoin n2 s3\nline 9\njoin n1 s4\nline 10\nbeat n2 s3\nline 11\ntick 30\n  end n1 s4\n  end n2 s3\n= db#0/0 -\n"
+unfolding digits
+expiry = refl

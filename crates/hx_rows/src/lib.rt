@@ -1,0 +1,2 @@
+//! Worked examples, whose whole outputs the definitions compute.
+#![tactic(auto)]
