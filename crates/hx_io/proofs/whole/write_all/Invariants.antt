@@ -1,0 +1,14 @@
+use Rattle.std.proofs.Common.{length, take, ◌-◌, ◌≤◌}
+use Rattle.std.specs.Io.KnownBytes.{Appends}
+use Rattle.hx_io.proofs.whole.write_all.Given as goal
+
+-- the sink has the bytes up to here
+abbrev pub invariant-loop-sent : goal.invariant-loop-sent
+invariant-loop-sent g l = record {
+  within : l.sent ≤ length l.bytes;
+  sent : Appends (g.K.Sink.got l.fn.sink) (g.K.Sink.got l.sink) (take l.sent l.bytes);
+  later : g.K.Sink.faults l.fn.sink ≤ g.K.Sink.faults l.sink;
+}
+
+abbrev pub decreases-loop-sent : goal.decreases-loop-sent
+decreases-loop-sent g l = length l.bytes - l.sent
