@@ -1,48 +1,57 @@
 -- What contracts see of an ideal state.
-use Rattle.std.specs.Prelude.{ℕ, ◌+◌, Bool, not, ◌==◌, nat_lt, List, [], ◌∷◌, ◌++◌, Option, None, Some, if◌then◌else◌, slice_set}
-use Rattle.std.specs.List.{list_any}
+use Rattle.std.specs.Prelude.{ℕ, ◌≤◌, ◌≡◌, List, length, Option, Some, None, slice_set}
 use Rattle.hx_ids.specs.declared.InstanceId.{InstanceId}
 use Rattle.hx_ids.specs.declared.StateId.{StateId}
 use Rattle.hx_ideal.specs.declared.Mode.{Mode}
 use Rattle.hx_ideal.specs.declared.Mode.TheVariants.{Full, Semi, Custom}
-use Rattle.hx_ideal.specs.declared.IdealFault.{IdealFault}
-use Rattle.hx_ideal.specs.declared.IdealFault.TheVariants.{UnknownInstance, UnknownState, TwiceInList}
 
 pub record IdealState : Type 0 where
   pub replicas : ℕ
   pub parts : ℕ
   pub mode : Mode
 
--- another list, or another map, for one partition
-abbrev pub mode_with_list : Mode → ℕ → List InstanceId → Mode
-mode_with_list Full part list = Full
-mode_with_list (Semi lists) part list = Semi (slice_set lists part list)
-mode_with_list (Custom maps) part list = Custom maps
+-- how many lists or maps a mode has, if it has any
+abbrev pub count_of : Mode → Option ℕ
+count_of Full = None
+count_of (Semi lists) = Some (length lists)
+count_of (Custom maps) = Some (length maps)
 
-abbrev pub mode_with_map : Mode → ℕ → List (InstanceId × StateId) → Mode
-mode_with_map Full part map = Full
-mode_with_map (Semi lists) part map = Semi lists
-mode_with_map (Custom maps) part map = Custom (slice_set maps part map)
+-- the preference lists, and the maps
+abbrev pub lists_of : Mode → Option (List (List InstanceId))
+lists_of Full = None
+lists_of (Semi lists) = Some lists
+lists_of (Custom maps) = None
 
--- the first fault of a list's entries from a place on, with those before them
-abbrev pub list_fault_from : ℕ → ℕ → ℕ → List InstanceId → List InstanceId → Option IdealFault
-list_fault_from instances part place before [] = None
-list_fault_from instances part place before (i ∷ list) =
-    if not (nat_lt i.0 instances) then Some (UnknownInstance part place)
-    else if list_any (λ j. j.0 == i.0) before then Some (TwiceInList part place)
-    else list_fault_from instances part (place + 1) (before ++ i ∷ []) list
+abbrev pub maps_of : Mode → Option (List (List (InstanceId × StateId)))
+maps_of Full = None
+maps_of (Semi lists) = None
+maps_of (Custom maps) = Some maps
 
-abbrev pub list_fault : ℕ → ℕ → List InstanceId → Option IdealFault
-list_fault instances part list = list_fault_from instances part 0 [] list
+-- another list, or map, for one partition
+abbrev pub put_list : Mode → ℕ → List InstanceId → Mode
+put_list Full part list = Full
+put_list (Semi lists) part list = Semi (slice_set lists part list)
+put_list (Custom maps) part list = Custom maps
 
--- the same of a map, whose states are those of a model
-abbrev pub map_fault_from : ℕ → List StateId → ℕ → ℕ → List InstanceId → List (InstanceId × StateId) → Option IdealFault
-map_fault_from instances states part place before [] = None
-map_fault_from instances states part place before (e ∷ map) =
-    if not (nat_lt e.0.0 instances) then Some (UnknownInstance part place)
-    else if not (list_any (λ s. s.0 == e.1.0) states) then Some (UnknownState part place)
-    else if list_any (λ j. j.0 == e.0.0) before then Some (TwiceInList part place)
-    else map_fault_from instances states part (place + 1) (before ++ e.0 ∷ []) map
+abbrev pub put_map : Mode → ℕ → List (InstanceId × StateId) → Mode
+put_map Full part entries = Full
+put_map (Semi lists) part entries = Semi lists
+put_map (Custom maps) part entries = Custom (slice_set maps part entries)
 
-abbrev pub map_fault : ℕ → List StateId → ℕ → List (InstanceId × StateId) → Option IdealFault
-map_fault instances states part map = map_fault_from instances states part 0 [] map
+-- as many lists or maps as partitions, if any
+abbrev pub HasCount : Option ℕ → ℕ → Type 0
+HasCount None parts = Unit {0}
+HasCount (Some n) parts = n ≡ parts
+
+-- what holds of each checked ideal state
+pub record IsIdeal (replicas parts : ℕ) (mode : Mode) : Type 0 where
+  pub some_replicas : (1 ≤ replicas) × (replicas ≤ 64)
+  pub some_parts : (1 ≤ parts) × (parts ≤ 1024)
+  pub lists : HasCount (count_of mode) parts
+
+-- an ideal state with another list, or map, for one partition
+abbrev pub with_list : IdealState → ℕ → List InstanceId → IdealState
+with_list ideal part list = record ideal { mode = put_list ideal.mode part list }
+
+abbrev pub with_map : IdealState → ℕ → List (InstanceId × StateId) → IdealState
+with_map ideal part entries = record ideal { mode = put_map ideal.mode part entries }

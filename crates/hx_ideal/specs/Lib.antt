@@ -1,1 +1,2 @@
 pub mod IdealState
+pub mod Faults

@@ -1,10 +1,15 @@
 //! Ideal states: how many replicas and partitions a resource has, and where they are wanted.
 #![tactic(auto)]
 
-ghost use Rattle.std.specs.Prelude.{◌≡◌, ℕ};
+ghost use Rattle.std.specs.Prelude.{◌≡◌, ℕ, ◌<◌, ◌≤◌, ◌==◌, None, Some, IfOk, IfErr, OnOk, OnErr, IsSome};
+ghost use Rattle.hx_ideal.specs.IdealState.{lists_of, maps_of, with_list, with_map, count_of, HasCount};
+ghost use Rattle.hx_ideal.specs.Faults.{fault_of, list_fault, map_fault};
+
+mod faults;
 
 use hx_ids::{InstanceId, StateId};
 use hx_lists::Seq;
+use std::alloc::{AllocError, Global};
 use std::marker::Model;
 
 /// Who says where the replicas of a resource are wanted.
@@ -18,7 +23,7 @@ pub enum Mode {
     Custom(Seq<Seq<(InstanceId, StateId)>>),
 }
 
-/// Why something is no ideal state. A part is a partition's number, a place one in its list or map.
+/// What is wrong with an ideal state. Partitions, and places in a list or map, count from 0.
 #[derive(Clone, Copy, Debug, PartialEq, Eq)]
 pub enum IdealFault {
     ZeroReplicas,
@@ -27,12 +32,24 @@ pub enum IdealFault {
     ZeroParts,
     /// More than 1,024.
     TooManyParts,
-    /// Another number of lists or maps than partitions.
-    PartCount { has: u32, wants: u32 },
-    UnknownInstance { part: u32, place: u32 },
-    UnknownState { part: u32, place: u32 },
-    /// The instance stands earlier in the same list or map.
-    TwiceInList { part: u32, place: u32 },
+    /// Another number of lists or maps than of partitions.
+    PartCount {
+        has: u32,
+        wants: u32,
+    },
+    UnknownInstance {
+        part: u32,
+        place: u32,
+    },
+    UnknownState {
+        part: u32,
+        place: u32,
+    },
+    /// An instance that stands earlier in the same list or map.
+    TwiceInList {
+        part: u32,
+        place: u32,
+    },
 }
 
 /// A checked ideal state. Contracts see its replicas, its partitions and its mode.
@@ -44,32 +61,137 @@ pub struct Ideal {
 }
 
 impl Model for Ideal {
-    ghost use Rattle.hx_ideal.specs.IdealState.{IdealState};
+    ghost use Rattle.hx_ideal.specs.IdealState.{IdealState, IsIdeal};
 
     ghost Value = { IdealState };
 
     ghost view = { λ a. record { replicas = a.replicas; parts = a.parts; mode = a.mode } };
+
+    ghost invariant = { λ a. IsIdeal a.replicas a.parts a.mode };
 }
 
 impl Ideal {
+    /// Tests an ideal state for a number of instances and for the states of its model. It takes no memory.
+    pub fn check(
+        replicas: u32,
+        parts: u32,
+        mode: Mode,
+        instances: u32,
+        states: &[StateId],
+    ) -> Result<Ideal, IdealFault>
+        ensures ok { IfOk result (λ ideal. (fault_of replicas parts mode instances states.now ≡ None) × (ideal ≡ record { replicas = replicas; parts = parts; mode = mode })) }
+        ensures err { IfErr result (λ fault. fault_of replicas parts mode instances states.now ≡ Some fault) }
+    {
+        match faults::first_fault(replicas, parts, &mode, instances, states) {
+            Some(fault) => Err(fault),
+            None => Ok(Ideal {
+                replicas,
+                parts,
+                mode,
+            }),
+        }
+    }
+
     /// How many replicas each partition has. It takes no memory.
     pub fn replicas(&self) -> u32
-        ensures { result ≡ self.now.replicas }
+        ensures value { result ≡ self.now.replicas }
+        ensures range { (1 ≤ self.now.replicas) × (self.now.replicas ≤ 64) }
     {
         self.replicas
     }
 
     /// How many partitions there are. It takes no memory.
     pub fn parts(&self) -> u32
-        ensures { result ≡ self.now.parts }
+        ensures value { result ≡ self.now.parts }
+        ensures range { (1 ≤ self.now.parts) × (self.now.parts ≤ 1024) }
     {
         self.parts
     }
 
     /// Where the replicas are wanted. It takes no memory.
     pub fn mode(&self) -> &Mode
-        ensures { result.now ≡ self.now.mode }
+        ensures value { result.now ≡ self.now.mode }
+        ensures count { HasCount (count_of self.now.mode) self.now.parts }
     {
         &self.mode
     }
+
+    /// Replaces the preference list of a partition. It is refused by the fault of the list's first faulty entry, as
+    /// in `check`. It takes no memory.
+    pub fn set_list(
+        &mut self,
+        part: u32,
+        list: Vec<InstanceId>,
+        instances: u32,
+    ) -> Result<(), IdealFault>
+        requires mode { IsSome (lists_of self.old.mode) }
+        requires part { part < self.old.parts }
+        ensures ok { OnOk result ((list_fault instances part list.items ≡ None) × (self.new ≡ with_list self.old part list.items)) }
+        ensures err { IfErr result (λ fault. (list_fault instances part list.items ≡ Some fault) × (self.new ≡ self.old)) }
+    {
+        if let Some(fault) = faults::list_fault(list.as_slice(), part, instances) {
+            return Err(fault);
+        }
+        if let Mode::Semi(lists) = &mut self.mode {
+            lists.set(part as usize, Seq::from_vec(list));
+        }
+        Ok(())
+    }
+
+    /// Replaces the map of a partition. It is refused by the fault of the map's first faulty entry, as in `check`. It
+    /// takes no memory.
+    pub fn set_map(
+        &mut self,
+        part: u32,
+        map: Vec<(InstanceId, StateId)>,
+        instances: u32,
+        states: &[StateId],
+    ) -> Result<(), IdealFault>
+        requires mode { IsSome (maps_of self.old.mode) }
+        requires part { part < self.old.parts }
+        ensures ok { OnOk result ((map_fault instances states.now part map.items ≡ None) × (self.new ≡ with_map self.old part map.items)) }
+        ensures err { IfErr result (λ fault. (map_fault instances states.now part map.items ≡ Some fault) × (self.new ≡ self.old)) }
+    {
+        if let Some(fault) = faults::map_fault(map.as_slice(), part, instances, states) {
+            return Err(fault);
+        }
+        if let Mode::Custom(maps) = &mut self.mode {
+            maps.set(part as usize, Seq::from_vec(map));
+        }
+        Ok(())
+    }
+
+    /// The same ideal state again.
+    pub fn copied(&self, alloc: Global) -> Result<Ideal, AllocError>
+        ensures { IfOk result (λ ideal. ideal ≡ self.now) }
+    {
+        Ok(Ideal {
+            replicas: self.replicas,
+            parts: self.parts,
+            mode: self.mode.copied(alloc)?,
+        })
+    }
+}
+
+impl Mode {
+    /// The same mode again.
+    pub fn copied(&self, alloc: Global) -> Result<Mode, AllocError>
+        ensures { IfOk result (λ mode. mode ≡ self.now) }
+    {
+        match self {
+            Mode::Full => Ok(Mode::Full),
+            Mode::Semi(lists) => Ok(Mode::Semi(copies(alloc, lists.as_slice())?)),
+            Mode::Custom(maps) => Ok(Mode::Custom(copies(alloc, maps.as_slice())?)),
+        }
+    }
+}
+
+fn copies<T: Copy>(alloc: Global, lists: &[Seq<T>]) -> Result<Seq<Seq<T>>, AllocError>
+    ensures { IfOk result (λ copies. copies ≡ lists.now) }
+{
+    let mut copies = Seq::new(alloc);
+    for list in lists {
+        copies.push(list.copied(alloc)?)?;
+    }
+    Ok(copies)
 }
