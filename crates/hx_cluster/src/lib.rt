@@ -2,8 +2,10 @@
 #![tactic(auto)]
 
 mod description;
+mod ends;
 mod happenings;
 mod planning;
+mod readers;
 mod state;
 
 pub use description::{Failure, Resource, Rule, Scope, Spec};
@@ -11,7 +13,9 @@ pub use happenings::{
     Admin, Begun, Did, Dispatched, Event, History, Mail, Outcome, Placed, Proposal, Seen, StepFault,
 };
 pub use hx_ids::Live;
+pub use ends::{count_on, has_end};
 pub use planning::{
     Candidate, Entry, Finding, Full, Held, Ideals, Plan, Report, Selection, Target, Throttled, View,
 };
+pub use readers::state_on;
 pub use state::{Cluster, Message, Row};

@@ -1,0 +1,194 @@
+//! What stands in a cluster. No reader takes memory.
+ghost use Rattle.std.specs.Prelude.{◌≡◌, ℕ, ◌^◌, ◌<◌, ◌==◌, length, find, option_copied};
+ghost use Rattle.std.specs.List.{list_any};
+ghost use Rattle.hx_cluster.specs.Ends.{is_row, is_message, row_of, message_of, state_of, is_live as is_live_of, is_session, resource_at};
+ghost use Rattle.hx_cluster.specs.Steps.{session_of, is_drained, is_down, is_leader, is_dropped, newest};
+ghost use Rattle.hx_cluster.specs.Reads.{pass_of};
+ghost use Rattle.hx_cluster.specs.Events.{is_pass, is_epoch};
+ghost use Rattle.hx_cluster.specs.Messages.{has_id, pending_of};
+
+use crate::description::Resource;
+use crate::state::{Cluster, Message, Row};
+use hx_ids::{ControllerId, Epoch, InstanceId, Live, MsgId, PartId, PassNo, ResourceId, SessionId, StateId};
+
+impl Row {
+    /// Whether it is the row of a session's part.
+    pub fn is_of(&self, session: SessionId, part: PartId) -> bool
+        ensures { result ≡ is_row session part self.now }
+    {
+        self.session == session && self.part == part
+    }
+}
+
+impl Message {
+    /// Whether it is of a session's part.
+    pub fn is_of(&self, session: SessionId, part: PartId) -> bool
+        ensures { result ≡ is_message session part self.now }
+    {
+        self.session == session && self.part == part
+    }
+
+    /// Whether it is the message with this number of a session.
+    pub fn has_id(&self, session: SessionId, id: MsgId) -> bool
+        ensures { result ≡ has_id session id self.now }
+    {
+        self.session == session && self.id == id
+    }
+}
+
+/// The state of a session's replica, if it has one.
+pub fn state_on(rows: &[Row], session: SessionId, part: PartId) -> Option<StateId>
+    ensures { result ≡ state_of rows.now session part }
+{
+    rows.iter()
+        .find(|r| r.is_of(session, part))
+        .map(|r| r.state)
+}
+
+/// The pending message of a session's part.
+pub fn message_on(mail: &[Message], session: SessionId, part: PartId) -> Option<Message>
+    ensures { result ≡ message_of mail.now session part }
+{
+    mail.iter().copied().find(|m| m.is_of(session, part))
+}
+
+impl Cluster {
+    /// The live session of an instance.
+    pub fn session_of(&self, instance: InstanceId) -> Option<SessionId>
+        ensures { result ≡ session_of self.now instance }
+    {
+        self.live
+            .as_slice()
+            .iter()
+            .find(|l| l.instance == instance)
+            .map(|l| l.session)
+    }
+
+    /// Whether a session is live.
+    pub fn is_live(&self, session: SessionId) -> bool
+        ensures { result ≡ is_live_of self.now.live session }
+    {
+        self.live.as_slice().iter().any(|l| l.session == session)
+    }
+
+    /// A live session with its instance and its last beat.
+    pub fn live_of(&self, session: SessionId) -> Option<Live>
+        ensures { result ≡ find (is_session session) self.now.live }
+    {
+        self.live
+            .as_slice()
+            .iter()
+            .copied()
+            .find(|l| l.session == session)
+    }
+
+    /// Whether an instance is drained.
+    pub fn is_drained(&self, instance: InstanceId) -> bool
+        ensures { result ≡ is_drained self.now.instances instance }
+    {
+        match self.instances.as_slice().get(instance.0 as usize) {
+            Some(drained) => *drained,
+            None => false,
+        }
+    }
+
+    /// Whether a controller is down.
+    pub fn is_down(&self, controller: ControllerId) -> bool
+        ensures { result ≡ is_down self.now controller }
+    {
+        match self.controllers.as_slice().get(controller.0 as usize) {
+            Some(entry) => entry.0,
+            None => false,
+        }
+    }
+
+    /// Whether a controller leads.
+    pub fn is_leader(&self, controller: ControllerId) -> bool
+        ensures { result ≡ is_leader controller self.now.leader }
+    {
+        match self.leader {
+            Some(leader) => leader == controller,
+            None => false,
+        }
+    }
+
+    /// The number of a controller's pass.
+    pub fn pass_of(&self, controller: ControllerId) -> PassNo
+        ensures { result ≡ pass_of self.now controller }
+    {
+        match self.controllers.as_slice().get(controller.0 as usize) {
+            Some(entry) => entry.1,
+            None => PassNo(0),
+        }
+    }
+
+    /// Whether a controller has a pass of this number.
+    pub fn is_pass(&self, controller: ControllerId, pass: PassNo) -> bool
+        ensures { result ≡ is_pass self.now controller pass }
+    {
+        (controller.0 as usize) < self.controllers.len() && self.pass_of(controller) == pass
+    }
+
+    /// Whether this epoch stands.
+    pub fn is_epoch(&self, epoch: Epoch) -> bool
+        ensures { result ≡ is_epoch self.now epoch }
+    {
+        self.epoch == epoch
+    }
+
+    /// The state of a session's replica, if it has one.
+    pub fn state_of(&self, session: SessionId, part: PartId) -> Option<StateId>
+        ensures { result ≡ state_of self.now.rows session part }
+    {
+        state_on(self.rows.as_slice(), session, part)
+    }
+
+    /// The pending message of a session's part.
+    pub fn message_of(&self, session: SessionId, part: PartId) -> Option<Message>
+        ensures { result ≡ message_of self.now.mail session part }
+    {
+        message_on(self.mail.as_slice(), session, part)
+    }
+
+    /// A session's pending message by number.
+    pub fn pending_of(&self, session: SessionId, id: MsgId) -> Option<Message>
+        ensures { result ≡ pending_of self.now session id }
+    {
+        self.mail
+            .as_slice()
+            .iter()
+            .copied()
+            .find(|m| m.has_id(session, id))
+    }
+
+    /// A resource, dropped or not.
+    pub fn resource(&self, resource: ResourceId) -> Option<&Resource>
+        ensures { option_copied result ≡ resource_at self.now.resources resource }
+    {
+        self.resources.as_slice().get(resource.0 as usize)
+    }
+
+    /// Whether a resource is dropped.
+    pub fn is_dropped(&self, resource: ResourceId) -> bool
+        ensures { result ≡ is_dropped self.now.resources resource }
+    {
+        match self.resource(resource) {
+            Some(resource) => resource.dropped,
+            None => false,
+        }
+    }
+
+    /// The newest resource of a name, by the name's place among the resource names.
+    pub fn newest(&self, name: u32) -> Option<ResourceId>
+        requires { length self.now.resources < 2 ^ 32 }
+        ensures { result ≡ newest self.now name }
+    {
+        let mut found = None;
+        for (place, resource) in self.resources.as_slice().iter().enumerate() {
+            if resource.name == name {
+                found = Some(ResourceId(place as u32));
+            }
+        }
+        found
+    }
+}
