@@ -16,7 +16,8 @@ use Rattle.hx_model.specs.Model.{states_of, error}
 use Rattle.hx_ideal.specs.declared.Mode.{Mode}
 use Rattle.hx_ideal.specs.declared.Mode.TheVariants as modes
 use Rattle.hx_ideal.specs.declared.IdealFault.{IdealFault}
-use Rattle.hx_ideal.specs.IdealState.{IdealState, mode_with_list, mode_with_map, list_fault, map_fault}
+use Rattle.hx_ideal.specs.IdealState.{IdealState, put_list, put_map}
+use Rattle.hx_ideal.specs.Faults.{list_fault, map_fault}
 use Rattle.hx_cluster.specs.declared.description.Resource.{Resource}
 use Rattle.hx_cluster.specs.declared.description.Spec.{Spec}
 use Rattle.hx_cluster.specs.declared.state.Row.{Row}
@@ -252,8 +253,8 @@ after c (steps.Add name model ideal) = record c {
   change = c.change + 1;
 }
 after c (steps.Drop r) = with_resource c r (λ x. record x { dropped = true })
-after c (steps.SetList p list) = with_resource c p.resource (λ x. with_mode x (mode_with_list x.ideal.mode p.index list))
-after c (steps.SetMap p map) = with_resource c p.resource (λ x. with_mode x (mode_with_map x.ideal.mode p.index map))
+after c (steps.SetList p list) = with_resource c p.resource (λ x. with_mode x (put_list x.ideal.mode p.index list))
+after c (steps.SetMap p map) = with_resource c p.resource (λ x. with_mode x (put_map x.ideal.mode p.index map))
 after c (steps.Reset i p) = asked_of c p (live_of c.live i)
 after c (steps.Lead k) = record c { leader = Some k }
 after c (steps.Stop k) = without_leader k (with_down c k true)
