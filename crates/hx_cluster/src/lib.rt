@@ -4,6 +4,7 @@
 mod description;
 mod ends;
 mod happenings;
+mod opening;
 mod planning;
 mod readers;
 mod state;
@@ -14,6 +15,7 @@ pub use happenings::{
 };
 pub use hx_ids::Live;
 pub use ends::{count_on, has_end};
+pub use opening::{copied_models, copied_resources};
 pub use planning::{
     Candidate, Entry, Finding, Full, Held, Ideals, Plan, Report, Selection, Target, Throttled, View,
 };
