@@ -12,8 +12,9 @@ use Rattle.hx_model.specs.declared.ModelParts.{ModelParts}
 use Rattle.hx_model.specs.Model.{error, dropped, limit_of}
 use Rattle.hx_cluster.specs.declared.description.Resource.{Resource}
 use Rattle.hx_cluster.specs.declared.planning.View.{View}
-use Rattle.hx_cluster.specs.Ends.{part_eq, row_of, row_at, session_in, model_at}
-use Rattle.hx_best.specs.Wants.{Wants, Listed, Mapped, wants_of, is_wanted, is_drained}
+use Rattle.hx_cluster.specs.Ends.{state_of, session_in, model_at}
+use Rattle.hx_cluster.specs.Steps.{is_drained, is_flag, is_error}
+use Rattle.hx_best.specs.Wants.{Wants, Listed, Mapped, wants_of, is_wanted}
 
 -- how many replicas a state takes: as many as its limit, and none where it has no limit
 abbrev pub room_in : Bound → ℕ → ℕ → ℕ
@@ -31,15 +32,15 @@ abbrev pub best_state : ModelParts → ℕ → ℕ → ℕ → StateId
 best_state m replicas live k = best_among m.states m.initial replicas live k
 
 abbrev pub is_in_error : View → SessionId → PartId → Bool
-is_in_error view s p = row_at error (row_of view.rows s p)
+is_in_error view s p = is_error (state_of view.rows s p)
 
 -- whether a reset was asked for
 abbrev pub is_asked : View → SessionId → PartId → Bool
-is_asked view s p = list_any (λ f. (f.0.0 == s.0) && part_eq f.1 p) view.ideals.resets
+is_asked view s p = list_any (is_flag s p) view.ideals.resets
 
 -- an instance can take a state of a part where it is live and not drained, and its replica isn't in ERROR
 abbrev pub is_eligible : View → PartId → InstanceId → Bool
-is_eligible view p i = option_map_or (λ s. not (is_drained view i) && not (is_in_error view s p)) (session_in view.live i) false
+is_eligible view p i = option_map_or (λ s. not (is_drained view.ideals.drained i) && not (is_in_error view s p)) (session_in view.live i) false
 
 -- how many can before an instance of the list
 abbrev pub eligible_before : View → PartId → List InstanceId → InstanceId → ℕ
@@ -61,5 +62,5 @@ goal models view r p s i =
     let wants = wants_of view r p.index in
     if is_in_error view s p then (if is_asked view s p then m.initial else error)
     else if not (is_wanted wants i) then dropped
-    else if is_drained view i then m.initial
+    else if is_drained view.ideals.drained i then m.initial
     else wanted_goal m view r p wants i

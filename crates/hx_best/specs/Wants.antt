@@ -1,5 +1,5 @@
 -- Where the replicas of a part are wanted.
-use Rattle.std.specs.Prelude.{ℕ, Bool, false, not, ◌==◌, nat_lt, List, [], map, filter, length, slice_get, slice_index_or, if◌then◌else◌}
+use Rattle.std.specs.Prelude.{ℕ, Bool, not, ◌==◌, List, [], map, filter, length, slice_get, slice_index_or, if◌then◌else◌}
 use Rattle.std.specs.List.{list_any, filter_map, position_or_len}
 use Rattle.hx_lists.specs.Lists.{sort_by}
 use Rattle.hx_ids.specs.declared.InstanceId.{InstanceId}
@@ -9,18 +9,17 @@ use Rattle.hx_ideal.specs.declared.Mode.{Mode}
 use Rattle.hx_ideal.specs.declared.Mode.TheVariants as modes
 use Rattle.hx_cluster.specs.declared.description.Resource.{Resource}
 use Rattle.hx_cluster.specs.declared.planning.View.{View}
+use Rattle.hx_cluster.specs.Steps.{is_drained}
+use Rattle.hx_cluster.specs.Reads.{instance_before}
 use Rattle.hx_best.specs.RoundRobin.{round_robin_list}
 
 -- the shown sessions, in order of instance
 abbrev pub by_instance : List (SessionId × InstanceId) → List (SessionId × InstanceId)
-by_instance live = sort_by (λ a b. nat_lt a.1.0 b.1.0) live
-
-abbrev pub is_drained : View → InstanceId → Bool
-is_drained view i = slice_index_or view.ideals.drained i.0 false
+by_instance live = sort_by instance_before live
 
 -- the live instances that aren't drained, in order
 abbrev pub open_instances : View → List InstanceId
-open_instances view = filter (λ i. not (is_drained view i)) (map (λ e. e.1) (by_instance view.live))
+open_instances view = filter (λ i. not (is_drained view.ideals.drained i)) (map (λ e. e.1) (by_instance view.live))
 
 -- those of them whose turn a part is
 abbrev pub in_turn : List InstanceId → ℕ → ℕ → List InstanceId

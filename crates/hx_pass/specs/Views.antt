@@ -13,18 +13,8 @@ use Rattle.hx_model.specs.Model.{error, dropped, has_state}
 use Rattle.hx_cluster.specs.declared.description.Resource.{Resource}
 use Rattle.hx_cluster.specs.declared.state.Row.{Row}
 use Rattle.hx_cluster.specs.declared.state.Message.{Message}
-use Rattle.hx_cluster.specs.declared.state.Cluster.{Cluster}
 use Rattle.hx_cluster.specs.declared.planning.View.{View}
-use Rattle.hx_cluster.specs.Ends.{is_row, is_message, is_shown, shown_of, model_at, model_of, parts_of}
-
--- what a cluster would show if all were read at once
-abbrev pub view_at : Cluster → View
-view_at c = record {
-  live = shown_of c.live;
-  mail = c.mail;
-  rows = c.rows;
-  ideals = record { resources = c.resources; drained = c.instances; resets = c.resets };
-}
+use Rattle.hx_cluster.specs.Ends.{is_row, is_message, is_shown, model_at, model_of, parts_of}
 
 -- a session of an instance in range, whose number and instance no other has
 abbrev pub is_good_session : ℕ → List (SessionId × InstanceId) → SessionId × InstanceId → Bool

@@ -1,8 +1,7 @@
 -- What a pass finds of each target.
-use Rattle.std.specs.Prelude.{Bool, false, not, ◌==◌, ◌&&◌, List, map, find, if◌then◌else◌}
+use Rattle.std.specs.Prelude.{Bool, not, ◌==◌, ◌&&◌, List, map, find, if◌then◌else◌}
 use Rattle.std.specs.List.{list_any}
 use Rattle.std.specs.Option.{option_map_or}
-use Rattle.hx_model.specs.Model.{error}
 use Rattle.hx_cluster.specs.declared.planning.View.{View}
 use Rattle.hx_cluster.specs.declared.planning.Target.{Target}
 use Rattle.hx_cluster.specs.declared.planning.Candidate.{Candidate}
@@ -13,11 +12,11 @@ use Rattle.hx_cluster.specs.declared.planning.Report.{Report}
 use Rattle.hx_cluster.specs.declared.planning.Finding.{Finding}
 use Rattle.hx_cluster.specs.declared.planning.Finding.TheVariants.{Failed, Pending, AtBest, Sent, Held, Full}
 use Rattle.hx_cluster.specs.Ends.{part_eq, message_of}
+use Rattle.hx_cluster.specs.Steps.{is_error, is_flag}
 
 -- whether a replica is in ERROR and nobody asked for a reset
 abbrev pub is_failed : View → Target → Bool
-is_failed view t =
-    option_map_or (λ s. s.0 == error.0) t.state false && not (list_any (λ f. (f.0.0 == t.session.0) && part_eq f.1 t.part) view.ideals.resets)
+is_failed view t = is_error t.state && not (list_any (is_flag t.session t.part) view.ideals.resets)
 
 -- whether a candidate is a target's
 abbrev pub is_of : Target → Candidate → Bool

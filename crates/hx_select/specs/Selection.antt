@@ -1,8 +1,9 @@
 -- The candidates that the bounds allow, walked in order.
-use Rattle.std.specs.Prelude.{ℕ, ◌+◌, Bool, true, ◌==◌, ◌&&◌, ◌||◌, nat_lt, List, [], ◌∷◌, ◌++◌, length, map, filter, Option, unwrap_or, if◌then◌else◌}
-use Rattle.std.specs.List.{list_any, fold}
+use Rattle.std.specs.Prelude.{ℕ, ◌+◌, Bool, true, ◌==◌, ◌&&◌, ◌||◌, nat_lt, List, [], ◌∷◌, length, map, filter, Option, unwrap_or}
+use Rattle.std.specs.List.{list_any}
 use Rattle.std.specs.Option.{option_map_or}
 use Rattle.hx_lists.specs.Lists.{count}
+use Rattle.hx_lists.specs.Choices.{chosen_of, left_after, IsChoice}
 use Rattle.hx_ids.specs.declared.StateId.{StateId}
 use Rattle.hx_ids.specs.declared.SessionId.{SessionId}
 use Rattle.hx_ids.specs.declared.PartId.{PartId}
@@ -31,13 +32,15 @@ limit_for models view c = limit_over models view.ideals.resources (length view.l
 abbrev pub has_room : List ModelParts → View → List Candidate → Candidate → Bool
 has_room models view accepted c = option_map_or (nat_lt (filling view accepted c)) (limit_for models view c) true
 
-abbrev pub accept : List ModelParts → View → List Candidate → Candidate → List Candidate
-accept models view accepted c = accepted ++ (if has_room models view accepted c then c ∷ [] else [])
-
--- those that are accepted, and those for which there is no room
+-- the accepted candidates: those for which there is room
 abbrev pub accepted_of : List ModelParts → View → List Candidate → List Candidate
-accepted_of models view candidates = fold (accept models view) [] candidates
+accepted_of models view candidates = chosen_of (has_room models view) candidates
 
+-- marks of the candidates, where the marked ones are accepted
+abbrev pub IsSelection : List ModelParts → View → List Candidate → List Bool → Type 0
+IsSelection models view candidates marks = IsChoice (has_room models view) candidates marks
+
+-- the sessions that have a candidate's state among their ends or were accepted for it
 abbrev pub holds : View → List Candidate → Candidate → SessionId → Bool
 holds view accepted c s = has_end view.rows view.mail c.part c.to s || list_any (λ a. goes_to c.part c.to a && (a.session.0 == s.0)) accepted
 
@@ -49,10 +52,9 @@ full models view accepted c = record {
   holders = filter (holds view accepted c) (shown_sessions view);
 }
 
-abbrev pub full_after : List ModelParts → View → List Candidate → List Candidate → List Full
-full_after models view accepted [] = []
-full_after models view accepted (c ∷ candidates) =
-    (if has_room models view accepted c then [] else full models view accepted c ∷ []) ++ full_after models view (accept models view accepted c) candidates
+-- those for which there is no room, with who takes it
+abbrev pub full_of : List ModelParts → View → List Candidate → List Full
+full_of models view candidates = left_after (has_room models view) (λ accepted c. full models view accepted c ∷ []) [] candidates
 
 abbrev pub selection : List ModelParts → View → List Candidate → Selection
-selection models view candidates = record { accepted = accepted_of models view candidates; full = full_after models view [] candidates }
+selection models view candidates = record { accepted = accepted_of models view candidates; full = full_of models view candidates }
