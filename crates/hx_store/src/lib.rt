@@ -1,0 +1,216 @@
+//! A store of versioned records by key, some of which belong to a session.
+#![tactic(auto)]
+
+ghost use Rattle.std.specs.Prelude.{◌≡◌, ℕ, ◌<◌, List, [], length, IfOk, IfSome, OnOk, OnErr, MatchOption, Option, None, Some, option_map, option_copied, IsTrue, ◌↔◌};
+ghost use Rattle.std.specs.Map.{keys_of};
+ghost use Rattle.std.specs.List.Sorted.{IsStrictlySortedBy};
+ghost use Rattle.std.specs.Ordering.{nat_cmp};
+ghost use Rattle.hx_lists.specs.Lists.{insert_by};
+ghost use Rattle.hx_store.specs.Records.{record_at, is_before, created, set_to, deleted, owns, without_owner, owned_by, keys_within};
+ghost use Rattle.hx_store.specs.Refusals.{RefusedAs, RefusedBy, create_refusal, change_refusal, CanChange};
+ghost use Rattle.hx_store.specs.Owners.{owner_of};
+
+mod owners;
+mod records;
+
+use hx_ids::SessionId;
+use owners::Owners;
+use records::first_record;
+use std::alloc::{AllocError, AllocFailed, Global};
+use std::collections::BTreeMap;
+use std::marker::Model;
+use std::mem;
+
+/// A record: its version, which begins at 1 and rises with each change, the session that owns it, if any, and its value.
+#[derive(Debug, Drop)]
+pub struct Record<V> {
+    pub version: u64,
+    pub owner: Option<SessionId>,
+    pub value: V,
+}
+
+/// Why an operation is refused.
+#[derive(Clone, Copy, Debug, PartialEq, Eq)]
+pub enum StoreFault {
+    /// The key has a record, of this version.
+    Exists { version: u64 },
+    /// The key has no record.
+    NoRecord,
+    /// The key's record has another version, this one.
+    Version { has: u64 },
+    OutOfMemory,
+}
+
+impl From<AllocError> for StoreFault {
+    ghost use Rattle.std.specs.Prelude.{◌≡◌};
+    ghost use Rattle.hx_store.specs.declared.StoreFault.TheVariants.{OutOfMemory};
+
+    ghost from_gives = { λ _ e. e ≡ OutOfMemory };
+
+    fn from(_e: AllocError) -> StoreFault {
+        StoreFault::OutOfMemory
+    }
+}
+
+/// Records by key. Contracts see them as the list of keys with their records, in order of key.
+#[derive(Drop)]
+pub struct Store<V> {
+    alloc: Global,
+    records: BTreeMap<u64, Record<V>>,
+    owners: Owners,
+}
+
+impl<V> Model for Store<V> {
+    ghost use Rattle.std.specs.Prelude.{List, ℕ};
+    ghost use Rattle.hx_store.specs.declared.Record.{Record};
+
+    ghost Value = { List (ℕ × Record V) };
+
+    ghost view = { λ a. a.records.entries };
+
+    ghost use Rattle.hx_store.specs.Owners.{IsStore};
+
+    ghost invariant = { λ a. IsStore a.records.entries a.owners };
+}
+
+impl<V: Drop> Store<V> {
+    /// A store without records.
+    pub fn new(alloc: Global) -> Store<V>
+        ensures { result ≡ [] }
+    {
+        Store {
+            alloc,
+            records: BTreeMap::new(alloc),
+            owners: Owners::new(alloc),
+        }
+    }
+
+    /// Makes a record of version 1.
+    pub fn create(
+        &mut self,
+        key: u64,
+        owner: Option<SessionId>,
+        value: V,
+    ) -> Result<(), StoreFault>
+        ensures refused { RefusedBy StoreFault.OutOfMemory (create_refusal self.old key) result }
+        ensures ok { OnOk result (self.new ≡ created self.old key owner value) }
+        ensures err { OnErr result (self.new ≡ self.old) }
+    {
+        if let Some(record) = self.records.get(&key) {
+            return Err(StoreFault::Exists {
+                version: record.version,
+            });
+        }
+        self.add(key, first_record(owner, value))?;
+        Ok(())
+    }
+
+    /// Changes the value of a record of this version, and gives the old one. It takes no memory.
+    pub fn set(&mut self, key: u64, version: u64, value: V) -> Result<V, StoreFault>
+        requires { CanChange (record_at self.old key) }
+        ensures refused { RefusedAs (change_refusal self.old key version) result }
+        ensures value { IfOk result (λ v. option_map (λ r. r.value) (record_at self.old key) ≡ Some v) }
+        ensures ok { OnOk result (self.new ≡ set_to self.old key value) }
+        ensures err { OnErr result (self.new ≡ self.old) }
+    {
+        let Some(record) = self.records.get_mut(&key) else {
+            return Err(StoreFault::NoRecord);
+        };
+        if record.version != version {
+            return Err(StoreFault::Version {
+                has: record.version,
+            });
+        }
+        record.version += 1;
+        Ok(mem::replace(&mut record.value, value))
+    }
+
+    /// Removes a record of this version, and gives its value. It takes no memory.
+    pub fn delete(&mut self, key: u64, version: u64) -> Result<V, StoreFault>
+        ensures refused { RefusedAs (change_refusal self.old key version) result }
+        ensures value { IfOk result (λ v. option_map (λ r. r.value) (record_at self.old key) ≡ Some v) }
+        ensures ok { OnOk result (self.new ≡ deleted self.old key) }
+        ensures err { OnErr result (self.new ≡ self.old) }
+    {
+        match self.records.get(&key) {
+            None => return Err(StoreFault::NoRecord),
+            Some(record) if record.version != version => {
+                return Err(StoreFault::Version {
+                    has: record.version,
+                });
+            }
+            Some(_) => {}
+        }
+        match self.take(key) {
+            Some(record) => Ok(record.value),
+            None => unreachable!(),
+        }
+    }
+
+    /// The version and the value of a key's record. It takes no memory. The keys of all records rise.
+    pub fn get(&self, key: u64) -> Option<(u64, &V)>
+        ensures version { option_map (λ p. p.0) result ≡ option_map (λ r. r.version) (record_at self.now key) }
+        ensures value { option_map (λ p. p.1.now) result ≡ option_map (λ r. r.value) (record_at self.now key) }
+        ensures ordered { IsStrictlySortedBy nat_cmp (keys_of self.now) }
+    {
+        let record = self.records.get(&key)?;
+        Some((record.version, &record.value))
+    }
+
+    /// The keys that have a record, in order, from one on and below another.
+    pub fn range(&self, from: u64, to: u64) -> Result<Vec<u64>, AllocError>
+        ensures { IfOk result (λ keys. keys.items ≡ keys_within self.now from to) }
+    {
+        if to <= from {
+            return Ok(Vec::new(self.alloc));
+        }
+        self.records.range(from..to).map(|(key, _)| *key).collect(self.alloc)
+    }
+
+    /// Removes all records that a session owns, and gives their number. It takes no memory, and goes over no others.
+    pub fn end_session(&mut self, owner: SessionId) -> u64
+        ensures count { result ≡ owned_by self.old owner }
+        ensures rest { self.new ≡ without_owner self.old owner }
+    {
+        let before = self.records.len();
+        while let Some(key) = self.owned_key(owner) {
+            self.take(key);
+        }
+        (before - self.records.len()) as u64
+    }
+
+    // A key whose record a session owns.
+    fn owned_key(&self, owner: SessionId) -> Option<u64>
+        ensures ordered { IsStrictlySortedBy nat_cmp (keys_of self.now) }
+        ensures owned { MatchOption result (without_owner self.now owner ≡ self.now) (λ key. IsTrue (owns (owner_of (record_at self.now key)) owner)) }
+    {
+        self.owners.first(owner)
+    }
+
+    // Puts a record where there is none.
+    fn add(&mut self, key: u64, added: Record<V>) -> Result<(), AllocError>
+        requires { record_at self.old key ≡ None }
+        ensures ok { OnOk result (self.new ≡ insert_by is_before (key, added) self.old) }
+        ensures err { OnErr result (self.new ≡ self.old) }
+    {
+        let owner = added.owner;
+        self.owners.claim(owner, key)?;
+        match self.records.insert(key, added) {
+            Ok(_) => Ok(()),
+            Err(_) => {
+                self.owners.release(owner, key);
+                Err(AllocError)
+            }
+        }
+    }
+
+    // Takes a record out, if there is one.
+    fn take(&mut self, key: u64) -> Option<Record<V>>
+        ensures value { result ≡ record_at self.old key }
+        ensures rest { self.new ≡ deleted self.old key }
+    {
+        let record = self.records.remove(&key)?;
+        self.owners.release(record.owner, key);
+        Some(record)
+    }
+}
