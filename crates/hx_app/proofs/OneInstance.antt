@@ -1,0 +1,40 @@
+use Rattle.std.specs.Prelude.{◌≡◌, ℕ, Bool, true, false, List, [], ◌∷◌, Option, None, Some, codes}
+use Rattle.std.specs.Fmt.{digits}
+use Rattle.std.proofs.Common.{refl}
+use Rattle.hx_model.specs.declared.Bound.TheVariants as bounds
+use Rattle.hx_ideal.specs.declared.Mode.TheVariants as modes
+use Rattle.hx_cluster.specs.declared.description.Spec.{Spec}
+use Rattle.hx_cluster.specs.declared.description.Scope.TheVariants as scopes
+use Rattle.hx_script.specs.declared.ReadKind.TheVariants as kinds
+use Rattle.hx_script.specs.declared.What.TheVariants as asks
+use Rattle.hx_script.specs.declared.Line.{Line}
+use Rattle.hx_app.specs.FirstPath.{script_text}
+use Rattle.hx_app.specs.Demo.{demo}
+use Rattle.hx_cluster.specs.Steps.{opening}
+
+abbrev the_spec : Spec
+the_spec = record {
+  instances = (codes "n1" ∷ codes "n2" ∷ codes "n3" ∷ []);
+  states = (codes "ERROR" ∷ codes "DROPPED" ∷ codes "MASTER" ∷ codes "SLAVE" ∷ codes "OFFLINE" ∷ codes "ONLINE" ∷ codes "LEADER" ∷ codes "STANDBY" ∷ []);
+  resource_names = (codes "db" ∷ []);
+  model_names = (codes "MasterSlave" ∷ codes "OnlineOffline" ∷ codes "LeaderStandby" ∷ []);
+  models = ((record { states = (((record { 0 = 2 }), (bounds.Count 1)) ∷ ((record { 0 = 3 }), bounds.Replicas) ∷ ((record { 0 = 4 }), bounds.Free) ∷ []); initial = (record { 0 = 4 }); transitions = (((record { 0 = 2 }), (record { 0 = 3 })) ∷ ((record { 0 = 3 }), (record { 0 = 2 })) ∷ ((record { 0 = 4 }), (record { 0 = 3 })) ∷ ((record { 0 = 3 }), (record { 0 = 4 })) ∷ ((record { 0 = 4 }), (record { 0 = 1 })) ∷ []) }) ∷ (record { states = (((record { 0 = 5 }), bounds.Replicas) ∷ ((record { 0 = 4 }), bounds.Free) ∷ []); initial = (record { 0 = 4 }); transitions = (((record { 0 = 4 }), (record { 0 = 5 })) ∷ ((record { 0 = 5 }), (record { 0 = 4 })) ∷ ((record { 0 = 4 }), (record { 0 = 1 })) ∷ []) }) ∷ (record { states = (((record { 0 = 6 }), (bounds.Count 1)) ∷ ((record { 0 = 7 }), bounds.Replicas) ∷ ((record { 0 = 4 }), bounds.Free) ∷ []); initial = (record { 0 = 4 }); transitions = (((record { 0 = 6 }), (record { 0 = 7 })) ∷ ((record { 0 = 7 }), (record { 0 = 6 })) ∷ ((record { 0 = 4 }), (record { 0 = 7 })) ∷ ((record { 0 = 7 }), (record { 0 = 4 })) ∷ ((record { 0 = 4 }), (record { 0 = 1 })) ∷ []) }) ∷ []);
+  controllers = 2;
+  timeout = 30;
+  rules = ([]);
+  resources = ((record { name = 0; model = (record { 0 = 1 }); ideal = (record { replicas = 2; parts = 2; mode = (modes.Semi (((record { 0 = 0 }) ∷ (record { 0 = 1 }) ∷ (record { 0 = 2 }) ∷ []) ∷ ((record { 0 = 1 }) ∷ (record { 0 = 2 }) ∷ (record { 0 = 0 }) ∷ []) ∷ [])) }); dropped = false }) ∷ []);
+  failures = ([]);
+}
+
+abbrev the_lines : List Line
+the_lines = (record { number = 1; what = asks.Join (record { 0 = 0 }) })
+    ∷ (record { number = 2; what = asks.Lead (record { 0 = 0 }) })
+    ∷ (record { number = 3; what = asks.Pass (record { 0 = 0 }) })
+    ∷ (record { number = 4; what = asks.Work (record { 0 = 0 }) })
+    ∷ (record { number = 5; what = asks.View })
+    ∷ []
+
+-- one_instance
+pub one_instance : script_text demo (opening demo) the_lines ≡ codes "line 1\njoin n1 s1\nline 2\nlead c1 e1\nline 3\nbegin c1 e1 p1\nlive c1 p1\nmail c1 p1 s1\nstates c1 p1 s1\nideals c1 p1\nsend c1 e1 p1\n  sent m1 s1 db#0/0 OFFLINE>ONLINE\n  sent m2 s1 db#0/1 OFFLINE>ONLINE\n? c1 sent 2\npost c1 e1 0\nline 4\nfetch n1 s1 2\ntake s1 m1\nwrite s1 m1 ok\nack s1 m1\ntake s1 m2\nwrite s1 m2 ok\nack s1 m2\nline 5\n= db#0/0 n1:ONLINE\n= db#0/1 n1:ONLINE\n= db#0/0 n1:ONLINE\n= db#0/1 n1:ONLINE\n"
+unfolding digits
+one_instance = refl

@@ -1,0 +1,74 @@
+-- The demo cluster, and what a controller's pass plans for it.
+use Rattle.std.specs.Prelude.{ℕ, ◌-◌, Bool, true, false, not, ◌==◌, ◌&&◌, List, [], ◌∷◌, ◌++◌, map, length, take, Option, None, Some, is_some, is_none, if◌then◌else◌, nat_lt, slice_index_or, codes}
+use Rattle.std.specs.List.{before_first, filter_map, flat_map}
+use Rattle.hx_lists.specs.Lists.{count, numbers_below}
+use Rattle.hx_ids.specs.Names.{interned}
+use Rattle.hx_ids.specs.declared.StateId.{StateId}
+use Rattle.hx_ids.specs.declared.SessionId.{SessionId}
+use Rattle.hx_ids.specs.declared.InstanceId.{InstanceId}
+use Rattle.hx_ids.specs.declared.PartId.{PartId}
+use Rattle.hx_model.specs.declared.Bound.TheVariants.{Count, Replicas, Free}
+use Rattle.hx_model.specs.declared.ModelParts.{ModelParts}
+use Rattle.hx_ideal.specs.declared.Mode.TheVariants.{Semi}
+use Rattle.hx_cluster.specs.declared.description.Spec.{Spec}
+use Rattle.hx_cluster.specs.declared.happenings.Proposal.{Proposal}
+use Rattle.hx_cluster.specs.declared.planning.View.{View}
+use Rattle.hx_cluster.specs.Ends.{session_in, state_of, message_of, count_over}
+
+-- the states, by their places among the names
+abbrev pub dropped : StateId
+dropped = record { 0 = 1 }
+
+abbrev pub offline : StateId
+offline = record { 0 = 4 }
+
+abbrev pub online : StateId
+online = record { 0 = 5 }
+
+abbrev pub state_names : List (List ℕ)
+state_names = codes "ERROR" ∷ codes "DROPPED" ∷ codes "MASTER" ∷ codes "SLAVE" ∷ codes "OFFLINE" ∷ codes "ONLINE" ∷ codes "LEADER" ∷ codes "STANDBY" ∷ []
+
+-- the models that every description has, in order
+abbrev pub state : ℕ → StateId
+state n = record { 0 = n }
+
+-- one state of which there is one, one of which there are as many as replicas, and OFFLINE
+abbrev pub with_one_above : StateId → StateId → ModelParts
+with_one_above first second = record {
+  states = (first, Count 1) ∷ (second, Replicas) ∷ (offline, Free) ∷ [];
+  initial = offline;
+  transitions = (first, second) ∷ (second, first) ∷ (offline, second) ∷ (second, offline) ∷ (offline, dropped) ∷ [];
+}
+
+abbrev pub online_offline : ModelParts
+online_offline = record {
+  states = (online, Replicas) ∷ (offline, Free) ∷ [];
+  initial = offline;
+  transitions = (offline, online) ∷ (online, offline) ∷ (offline, dropped) ∷ [];
+}
+
+abbrev pub built_in : List ModelParts
+built_in = with_one_above (state 2) (state 3) ∷ online_offline ∷ with_one_above (state 6) (state 7) ∷ []
+
+abbrev pub instances_of : List ℕ → List InstanceId
+instances_of numbers = map (λ n. record { 0 = n }) numbers
+
+-- three instances, two controllers, and a resource of two partitions, each with two replicas
+abbrev pub demo : Spec
+demo = record {
+  instances = codes "n1" ∷ codes "n2" ∷ codes "n3" ∷ [];
+  states = state_names;
+  resource_names = codes "db" ∷ [];
+  model_names = codes "MasterSlave" ∷ codes "OnlineOffline" ∷ codes "LeaderStandby" ∷ [];
+  models = built_in;
+  controllers = 2;
+  timeout = 30;
+  rules = [];
+  resources = (record {
+    name = 0;
+    model = record { 0 = 1 };
+    ideal = record { replicas = 2; parts = 2; mode = Semi (instances_of (0 ∷ 1 ∷ 2 ∷ []) ∷ instances_of (1 ∷ 2 ∷ 0 ∷ []) ∷ []) };
+    dropped = false;
+  }) ∷ [];
+  failures = [];
+}
