@@ -3,7 +3,8 @@ use Rattle.std.specs.Prelude.{ℕ, ◌-◌, ◌==◌, Bool, ◌||◌, nat_le, Li
 use Rattle.std.specs.List.{list_any}
 use Rattle.hx_io.specs.Faults.{count_up}
 
--- a source: the bytes that are left, the calls that fail by their numbers from 1, how many calls were made, and how many failed
+-- a source: the bytes that are left, the calls that fail by their numbers from 1,
+-- how many calls were made, and how many failed
 pub record SourceState : Type 0 where
   pub left : List ℕ
   pub fails : List ℕ

@@ -25,7 +25,12 @@ impl Model for MemSource {
 
     ghost Value = { SourceState };
 
-    ghost view = { λ a. record { left = drop a.given a.bytes.items; fails = a.fails.items; calls = a.calls; faults = a.faults } };
+    ghost view = { λ a. record {
+      left = drop a.given a.bytes.items;
+      fails = a.fails.items;
+      calls = a.calls;
+      faults = a.faults;
+    } };
 
     ghost invariant = { λ a. a.given ≤ length a.bytes.items };
 }
@@ -33,7 +38,12 @@ impl Model for MemSource {
 impl MemSource {
     /// A source of these bytes, of which the calls with these numbers, from 1, fail.
     pub fn new(bytes: Vec<u8>, fails: Vec<u64>) -> MemSource
-        ensures { result ≡ record { left = bytes.items; fails = fails.items; calls = 0; faults = 0 } }
+        ensures { result ≡ record {
+          left = bytes.items;
+          fails = fails.items;
+          calls = 0;
+          faults = 0;
+        } }
     {
         MemSource {
             bytes,
@@ -55,7 +65,9 @@ impl Source for MemSource {
         ensures fails { is_err result ≡ next_fails self.old.fails self.old.calls }
         ensures count { IfOk result (λ n. n ≡ min (length self.old.left) (length buf.new)) }
         ensures bytes { IfOk result (λ n. take n buf.new ≡ take n self.old.left) }
-        ensures after { MatchResult result (λ n. self.new ≡ source_after self.old n) (λ _. self.new ≡ failed_source self.old) }
+        ensures after { MatchResult result
+            (λ n. self.new ≡ source_after self.old n)
+            (λ _. self.new ≡ failed_source self.old) }
         ensures cause { CountsFault self.old.faults self.new.faults result }
     {
         self.calls = self.calls.saturating_add(1);
@@ -86,14 +98,26 @@ impl Model for MemSink {
 
     ghost Value = { SinkState };
 
-    ghost view = { λ a. record { got = a.got.items; most = a.most; fails = a.fails.items; calls = a.calls; faults = a.faults } };
+    ghost view = { λ a. record {
+      got = a.got.items;
+      most = a.most;
+      fails = a.fails.items;
+      calls = a.calls;
+      faults = a.faults;
+    } };
 }
 
 impl MemSink {
     /// A sink of which the calls with these numbers, from 1, fail, and each call once it has taken
     /// `most` bytes.
     pub fn new(alloc: Global, fails: Vec<u64>, most: u64) -> MemSink
-        ensures { result ≡ record { got = []; most = most; fails = fails.items; calls = 0; faults = 0 } }
+        ensures { result ≡ record {
+          got = [];
+          most = most;
+          fails = fails.items;
+          calls = 0;
+          faults = 0;
+        } }
     {
         MemSink {
             got: Vec::new(alloc),
@@ -122,7 +146,9 @@ impl Sink for MemSink {
     fn write(&mut self, bytes: &[u8]) -> Result<usize, Failed>
         ensures count { IfOk result (λ n. n ≡ min (length bytes.now) (room self.old)) }
         ensures taken { OnOk result (refuses self.old ≡ false) }
-        ensures after { MatchResult result (λ n. self.new ≡ sink_after self.old (take n bytes.now)) (λ _. self.new ≡ failed_sink self.old) }
+        ensures after { MatchResult result
+            (λ n. self.new ≡ sink_after self.old (take n bytes.now))
+            (λ _. self.new ≡ failed_sink self.old) }
         ensures cause { CountsFault self.old.faults self.new.faults result }
     {
         self.calls = self.calls.saturating_add(1);

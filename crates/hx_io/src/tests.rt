@@ -57,11 +57,13 @@ fn writes_what_the_sink_takes(rt: HostRuntime) -> Result<(), Fail> {
     Ok(())
 }
 
+fn read_into_nothing(source: &mut impl Source) -> Result<usize, Failed> {
+    source.read(&mut [])
+}
+
 #[test]
 fn standard_streams_read_and_write(rt: HostRuntime) -> Result<(), Fail> {
-    let mut source = StdSource::new(rt.reader());
-    assert_eq!(rt; source.read(&mut [])?, 0);
-    let mut sink = StdSink::new(io::writer(&rt));
-    assert_eq!(rt; sink.write(b"written\n")?, 8);
+    assert_eq!(rt; read_into_nothing(&mut StdSource::new(rt.reader()))?, 0);
+    write_all(&mut StdSink::new(io::writer(&rt)), b"written\n")?;
     Ok(())
 }

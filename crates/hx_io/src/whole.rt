@@ -59,15 +59,19 @@ pub fn read_all<S: Source>(
     source: &mut S,
     limit: usize,
 ) -> Result<Vec<u8>, ReadFault>
-    ensures all { IfOk result (λ bytes. Consumes (S.left source.old) (S.left source.new) bytes.items) }
+    ensures all { IfOk result (λ bytes.
+        Consumes (S.left source.old) (S.left source.new) bytes.items) }
     ensures end { OnOk result (IsAtEnd (S.left source.new)) }
 
     // It is too long exactly where the source gave more bytes than the limit, if memory sufficed.
     ensures within { IfOk result (λ bytes. length bytes.items ≤ limit) }
-    ensures too_long { IsErrOf result ReadFault.TooLong → Gave (S.left source.old) (S.left source.new) (λ bytes. limit < length bytes) }
-    ensures short { IsErrOf result ReadFault.Failed → Gave (S.left source.old) (S.left source.new) (λ bytes. length bytes ≤ limit) }
+    ensures too_long { IsErrOf result ReadFault.TooLong →
+        Gave (S.left source.old) (S.left source.new) (λ bytes. limit < length bytes) }
+    ensures short { IsErrOf result ReadFault.Failed →
+        Gave (S.left source.old) (S.left source.new) (λ bytes. length bytes ≤ limit) }
 
-    ensures failed { IsErrOf result ReadFault.Failed → Rose (S.faults source.old) (S.faults source.new) }
+    ensures failed { IsErrOf result ReadFault.Failed →
+        Rose (S.faults source.old) (S.faults source.new) }
     ensures later { S.faults source.old ≤ S.faults source.new }
     ensures err { OnErr result (Gave (S.left source.old) (S.left source.new) (λ _. ⊤)) }
 {
@@ -86,7 +90,8 @@ pub fn read_all<S: Source>(
 /// Writes all the bytes. It takes no memory of its own.
 pub fn write_all<K: Sink>(sink: &mut K, bytes: &[u8]) -> Result<(), WriteFault>
     ensures all { OnOk result (Appends (K.got sink.old) (K.got sink.new) bytes.now) }
-    ensures part { IfErr result (λ fault. Appends (K.got sink.old) (K.got sink.new) (take fault.sent bytes.now)) }
+    ensures part { IfErr result (λ fault.
+        Appends (K.got sink.old) (K.got sink.new) (take fault.sent bytes.now)) }
     ensures within { IfErr result (λ fault. fault.sent < length bytes.now) }
     ensures cause { CountsFault (K.faults sink.old) (K.faults sink.new) result }
 {

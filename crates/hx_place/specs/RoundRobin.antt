@@ -2,7 +2,8 @@
 use Rattle.std.specs.Prelude.{ℕ, ◌+◌, ◌*◌, ◌%◌, List, map, min}
 use Rattle.hx_lists.specs.Lists.{numbers_below}
 
--- the instances of a part, by their places among all: as many as there are replicas, each part from where the one before it ended
+-- the instances of a part, by their places among all: as many as there are replicas, or all,
+-- each part from where the one before it ended
 abbrev pub round_robin_list : ℕ → ℕ → ℕ → List ℕ
 round_robin_list instances replicas part =
     let k = min replicas instances in map (λ j. (part * k + j) % instances) (numbers_below k)

@@ -8,7 +8,8 @@ use std::alloc::{AllocError, Global};
 
 /// The instances of a part, by their places among all.
 fn list_of(alloc: Global, instances: u32, replicas: u32, part: u32) -> Result<Vec<u32>, AllocError>
-    ensures { IfOk result (λ places. places.items ≡ lists.round_robin_list instances replicas part) }
+    ensures { IfOk result (λ places.
+        places.items ≡ lists.round_robin_list instances replicas part) }
 {
     let k = replicas.min(instances);
     let start = u64::from(part) * u64::from(k);
@@ -27,7 +28,8 @@ pub fn round_robin(
     parts: u32,
     replicas: u32,
 ) -> Result<Vec<Vec<u32>>, AllocError>
-    ensures { IfOk result (λ all. map (λ list. list.items) all.items ≡ lists.round_robin instances parts replicas) }
+    ensures { IfOk result (λ all.
+        map (λ list. list.items) all.items ≡ lists.round_robin instances parts replicas) }
 {
     let mut all = Vec::with_capacity(alloc, parts as usize)?;
     for part in 0..parts {
