@@ -9,7 +9,7 @@ use Rattle.hx_ids.specs.declared.StateId.{StateId}
 use Rattle.hx_ideal.specs.declared.IdealFault.{IdealFault}
 use Rattle.hx_ideal.specs.declared.IdealFault.TheVariants.{UnknownInstance, UnknownState, TwiceInList}
 use Rattle.hx_ideal.specs.Faults.{id_fault, entry_fault}
-use Rattle.hx_ideal.proofs.Known.{AreKnown, known_item}
+use Rattle.hx_lists.proofs.Known.{AreKnown, known_item}
 
 pub known_id : (n part : ℕ) (xs : List InstanceId) (i : InstanceId) → id_fault n part xs i ≡ None → AreKnown n (map (λ x. x.0) xs) → AreKnown n (map (λ x. x.0) (xs ++ i ∷ []))
 known_id n part xs i e k = one (nat_lt i.0 n) (list_any (λ b. eqb b.0 i.0) xs) refl refl e

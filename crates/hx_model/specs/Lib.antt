@@ -1,4 +1,5 @@
 pub mod Model
-pub mod Checked
 pub mod Walks
+pub mod Faults
+pub mod Checked
 pub mod Builtin

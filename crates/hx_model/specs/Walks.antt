@@ -1,5 +1,5 @@
 -- Walks through a state model: lists of states in which each neighbouring pair is legal.
-use Rattle.std.specs.Prelude.{ℕ, zero, suc, ◌+◌, Bool, ◌==◌, List, [], ◌∷◌, ◌++◌, length, map, filter, if◌then◌else◌}
+use Rattle.std.specs.Prelude.{ℕ, zero, suc, ◌+◌, Bool, ◌==◌, List, [], ◌∷◌, ◌++◌, length, map, filter, nat_lt, if◌then◌else◌}
 use Rattle.std.specs.List.{list_any}
 use Rattle.hx_ids.specs.declared.StateId.{StateId}
 use Rattle.hx_model.specs.declared.ModelParts.{ModelParts}
@@ -21,3 +21,7 @@ least_from p n (suc few) = if p n then n else least_from p (n + 1) few
 -- the least number of transitions that lead from a state to the goal. No shortest walk repeats a state
 abbrev pub dist : ModelParts → StateId → StateId → ℕ
 dist m s goal = least_from (λ n. has_walk m n s goal) 0 (length m.states + 2)
+
+-- whether some walk leads from a state to the goal
+abbrev pub reaches : ModelParts → StateId → StateId → Bool
+reaches m s goal = nat_lt (dist m s goal) (length m.states + 2)

@@ -3,10 +3,14 @@
 #![tactic(auto)]
 
 mod builtin;
+mod faults;
+mod walks;
 
-ghost use Rattle.std.specs.Prelude.{◌≡◌, ℕ, ◌+◌, ◌-◌, ◌^◌, ◌<◌, ◌≤◌, ◌==◌, length, map, take, Option, IfOk, IsTrue};
+ghost use Rattle.std.specs.Prelude.{◌≡◌, ℕ, ◌+◌, ◌-◌, ◌^◌, ◌<◌, ◌≤◌, ◌==◌, length, map, take, None, Some, IfOk, IfErr, IsTrue};
 ghost use Rattle.hx_model.specs.Model.{states_of, is_legal, bound_of, rank_of, limit_of, is_between};
 ghost use Rattle.std.specs.List.{list_any, find, position};
+ghost use Rattle.std.specs.Option.{option_map_or};
+ghost use Rattle.hx_model.specs.Faults.{fault_of};
 
 use hx_ids::StateId;
 use hx_lists::Seq;
@@ -34,6 +38,47 @@ pub enum Bound {
     Live,
     /// Any number.
     Free,
+}
+
+/// What is wrong with a model. Places count from 0, in the list of states or of transitions. A place past the end of
+/// its type counts as the last.
+#[derive(Clone, Copy, Debug, PartialEq, Eq)]
+pub enum ModelFault {
+    /// More than 16.
+    TooManyStates,
+    /// ERROR or DROPPED among the states, a transition that names ERROR, or one that starts at DROPPED.
+    Reserved {
+        place: u32,
+    },
+    TwiceState {
+        place: u32,
+    },
+    ZeroBound {
+        place: u32,
+    },
+    /// The initial state isn't among the states.
+    NoInitial,
+    InitialBounded,
+    /// A transition that names a state which isn't among the states.
+    UnknownState {
+        place: u32,
+    },
+    SelfLoop {
+        place: u32,
+    },
+    TwiceTransition {
+        place: u32,
+    },
+    /// No transition leads from the initial state to DROPPED.
+    NoDrop,
+    /// No walk leads to this state from the initial state.
+    CantReach {
+        state: StateId,
+    },
+    /// No walk leads from this state to the initial state.
+    CantLeave {
+        state: StateId,
+    },
 }
 
 /// What a model is made of: its states in priority order, and its transitions in rank order.
@@ -90,31 +135,33 @@ impl ModelParts {
 }
 
 impl Model {
+    /// Tests what a model is made of. It takes no memory.
+    pub fn check(parts: ModelParts) -> Result<Model, ModelFault>
+        ensures ok { IfOk result (λ model. (fault_of parts ≡ None) × (model ≡ parts)) }
+        ensures err { IfErr result (λ fault. fault_of parts ≡ Some fault) }
+    {
+        match faults::first_fault(&parts) {
+            Some(fault) => Err(fault),
+            None => Ok(Model {
+                order: order_of(parts.states.as_slice()),
+                count: parts.states.len(),
+                parts,
+            }),
+        }
+    }
+
     /// Whether a transition is listed, or leads from ERROR to the initial state. It takes no memory.
     pub fn legal(&self, from: StateId, to: StateId) -> bool
         ensures { result ≡ is_legal self.now from to }
     {
-        self.lists(from, to) || (from == ERROR && to == self.parts.initial)
-    }
-
-    fn lists(&self, from: StateId, to: StateId) -> bool
-        ensures { result ≡ list_any (is_between from to) self.now.transitions }
-    {
-        self.parts
-            .transitions
-            .as_slice()
-            .iter()
-            .any(|t| t.0 == from && t.1 == to)
+        lists(self.parts.transitions.as_slice(), from, to) || (from == ERROR && to == self.parts.initial)
     }
 
     /// A state's bound. ERROR and DROPPED have none. It takes no memory.
     pub fn bound(&self, state: StateId) -> Bound
         ensures { result ≡ bound_of self.now state }
     {
-        match entry_of(self.parts.states.as_slice(), state) {
-            Some(entry) => entry.1,
-            None => Bound::Free,
-        }
+        bound_in(self.parts.states.as_slice(), state)
     }
 
     /// The place of a legal transition in the list, or the list's length from ERROR to the initial state. It takes
@@ -163,6 +210,22 @@ fn entry_of(states: &[(StateId, Bound)], state: StateId) -> Option<(StateId, Bou
     states.iter().copied().find(|p| p.0 == state)
 }
 
+fn bound_in(states: &[(StateId, Bound)], state: StateId) -> Bound
+    ensures { result ≡ option_map_or (λ p. p.1) (find (λ p. p.0.0 == state.0) states.now) Bound.Free }
+{
+    match entry_of(states, state) {
+        Some(entry) => entry.1,
+        None => Bound::Free,
+    }
+}
+
+fn lists(transitions: &[(StateId, StateId)], from: StateId, to: StateId) -> bool
+    ensures found { result ≡ list_any (is_between from to) transitions.now }
+    ensures bytes { (from.0 < 256) × (to.0 < 256) }
+{
+    transitions.iter().any(|t| t.0 == from && t.1 == to)
+}
+
 fn place_of(transitions: &[(StateId, StateId)], from: StateId, to: StateId) -> Option<usize>
     ensures { result ≡ position (is_between from to) transitions.now }
 {
@@ -188,6 +251,7 @@ impl Model {
         initial: StateId,
         transitions: &[(StateId, StateId)],
     ) -> Result<Model, AllocError>
+        requires sound { fault_of (record { states = states.now; initial = initial; transitions = transitions.now }) ≡ None }
         requires states { length states.now ≤ 16 }
         requires transitions { length transitions.now < 2 ^ 32 }
         ensures { IfOk result (λ m. m ≡ record { states = states.now; initial = initial; transitions = transitions.now }) }

@@ -1,7 +1,7 @@
 use Rattle.std.proofs.Common.{◌≡◌, map, take, drop}
 use Rattle.hx_lists.specs.First.{answer_behind, first_answer}
 use Rattle.hx_ideal.specs.Faults.{id_fault}
-use Rattle.hx_ideal.proofs.Known.{AreKnown}
+use Rattle.hx_lists.proofs.Known.{AreKnown}
 use Rattle.hx_ideal.proofs.faults.list_fault.Given as goal
 
 -- the answer stands behind the entries so far, which have no fault

@@ -1,7 +1,7 @@
 use Rattle.std.proofs.Common.{◌≡◌, ◌∙◌, refl, sym, arith}
-use Rattle.hx_ideal.proofs.Known.{known_none, place-known}
+use Rattle.hx_lists.proofs.Known.{known_none, place-known}
 use Rattle.hx_ideal.proofs.Entries.{known_entries}
-use Rattle.hx_ideal.proofs.Walked.{answer_behind-more}
+use Rattle.hx_lists.proofs.First.{answer_behind-more}
 use Rattle.hx_ideal.proofs.faults.map_fault.Goals as goal
 
 pub loop-place-init : goal.loop-place-init
