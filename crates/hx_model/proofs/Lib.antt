@@ -1,3 +1,5 @@
 pub mod Places
 pub mod Named
 pub mod Pairs
+pub mod Steps
+pub mod Distances

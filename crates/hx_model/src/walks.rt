@@ -1,5 +1,5 @@
 //! Distances between the states of a model.
-ghost use Rattle.std.specs.Prelude.{◌≡◌, ℕ, ◌+◌, ◌^◌, ◌<◌, ◌≤◌, ◌==◌, length, min, not, slice_index, slice_set};
+ghost use Rattle.std.specs.Prelude.{◌≡◌, ℕ, ◌+◌, ◌^◌, ◌<◌, ◌≤◌, ◌==◌, ◌≢◌, length, min, not, slice_index, slice_set};
 ghost use Rattle.std.specs.List.{find};
 ghost use Rattle.hx_model.specs.Model.{states_of};
 ghost use Rattle.hx_model.specs.Walks.{dist, reaches};
@@ -13,10 +13,9 @@ pub fn unreached(parts: &ModelParts) -> Option<StateId>
     ensures { result ≡ find (λ s. not (reaches parts.now parts.now.initial s)) (states_of parts.now) }
 {
     let none = parts.states.len() + 2;
-    for (state, _) in parts.states.as_slice() {
-        let dists = distances(parts, *state);
-        if dists[parts.initial.0 as usize] as usize == none {
-            return Some(*state);
+    for entry in parts.states.as_slice() {
+        if at(&distances(parts, entry.0), parts.initial) == none {
+            return Some(entry.0);
         }
     }
     None
@@ -29,12 +28,19 @@ pub fn unleft(parts: &ModelParts) -> Option<StateId>
 {
     let none = parts.states.len() + 2;
     let dists = distances(parts, parts.initial);
-    for (state, _) in parts.states.as_slice() {
-        if dists[state.0 as usize] as usize == none {
-            return Some(*state);
+    for entry in parts.states.as_slice() {
+        if at(&dists, entry.0) == none {
+            return Some(entry.0);
         }
     }
     None
+}
+
+fn at(dists: &[u8; 256], state: StateId) -> usize
+    ensures dist { result ≡ slice_index dists.now state.0 }
+    ensures byte { state.0 < 256 }
+{
+    dists[state.0 as usize] as usize
 }
 
 /// For each state number the length of a shortest walk to the goal, and where there is no walk the number of states
@@ -45,21 +51,32 @@ pub fn distances(parts: &ModelParts, goal: StateId) -> [u8; 256]
     ensures most { (s : ℕ) → slice_index result s ≤ length parts.now.states + 2 }
 {
     let none = parts.states.len() as u8 + 2;
-    let mut dists = [none; 256];
-    dists[goal.0 as usize] = 0;
+    let mut dists = first_distances(none, goal);
     for _round in 1..none {
-        for (from, to) in parts.transitions.as_slice() {
-            shorten(&mut dists, *from, *to);
+        for step in parts.transitions.as_slice() {
+            shorten(&mut dists, step.0, step.1);
         }
         shorten(&mut dists, ERROR, parts.initial);
     }
     dists
 }
 
+/// The goal alone is at its own distance.
+fn first_distances(none: u8, goal: StateId) -> [u8; 256]
+    ensures room { length result ≡ 256 }
+    ensures goal { slice_index result goal.0 ≡ 0 }
+    ensures rest { (s : ℕ) → s < 256 → s ≢ goal.0 → slice_index result s ≡ none }
+{
+    let mut dists = [none; 256];
+    dists[goal.0 as usize] = 0;
+    dists
+}
+
 /// A walk may begin with this transition.
 fn shorten(dists: &mut [u8; 256], from: StateId, to: StateId)
     requires { slice_index dists.old to.0 < 255 }
-    ensures { dists.new ≡ slice_set dists.old from.0 (min (slice_index dists.old from.0) (slice_index dists.old to.0 + 1)) }
+    ensures dists { dists.new ≡ slice_set dists.old from.0 (min (slice_index dists.old from.0) (slice_index dists.old to.0 + 1)) }
+    ensures bytes { (from.0 < 256) × (to.0 < 256) }
 {
     let here = dists[from.0 as usize];
     let through = dists[to.0 as usize] + 1;
