@@ -1,0 +1,15 @@
+use Rattle.std.proofs.Common.{◌≡◌, true, false}
+use Rattle.std.specs.Str.{bytes_eq}
+use Rattle.hx_text.specs.Lines.{separator}
+use Rattle.hx_text.proofs.FirstLine.{seen_more, seen_cut}
+use Rattle.hx_text.proofs.line_ends.cut.Goals as goal
+
+pub returns-then-eq : goal.returns-then-eq
+returns-then-eq c =
+    let found : bytes_eq c.split_line.result.0.now separator ≡ true = cc in
+    seen_cut c.args.bytes.now c.loop-rest.rest.now _ _ c.loop-rest.invariant c.split_line.ensures.line c.split_line.ensures.rest found
+
+pub loop-rest-preserved : goal.loop-rest-preserved
+loop-rest-preserved c =
+    let other : bytes_eq c.split_line.result.0.now separator ≡ false = cc in
+    seen_more c.args.bytes.now c.loop-rest.rest.now _ _ c.loop-rest.invariant c.split_line.ensures.line c.split_line.ensures.rest other

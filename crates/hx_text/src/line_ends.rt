@@ -1,0 +1,77 @@
+//! Where lines end, where an input is cut, and the words of a line.
+ghost use Rattle.std.specs.Prelude.{◌≡◌, map, length, IfOk};
+ghost use Rattle.std.specs.List.{position};
+ghost use Rattle.std.specs.Option.{option_map};
+ghost use Rattle.std.specs.Str.Lines.{strip_carriage_return};
+ghost use Rattle.hx_text.specs.Lines.{is_line_feed, first_line, after_line, cut_of, words_of};
+
+use std::alloc::{AllocError, Global};
+
+/// The line between a description and what follows it.
+const SEPARATOR: [u8; 3] = *b"---";
+
+/// An input in two parts.
+#[derive(Clone, Copy, Debug, PartialEq, Eq)]
+pub struct Input<'a> {
+    /// The bytes before the separator line.
+    pub description: &'a [u8],
+    /// The bytes behind the separator line and its end.
+    pub script: &'a [u8],
+}
+
+/// The line without a carriage return at its end.
+fn without_return(line: &[u8]) -> &[u8]
+    ensures { result.now ≡ strip_carriage_return line.now }
+{
+    match line {
+        [front @ .., b'\r'] => front,
+        _ => line,
+    }
+}
+
+/// The place of the first line feed.
+fn find_line_feed(bytes: &[u8]) -> Option<usize>
+    ensures { result ≡ position is_line_feed bytes.now }
+{
+    bytes.iter().position(|b| *b == b'\n')
+}
+
+/// The first line, and what stands behind its end.
+pub(crate) fn split_line(bytes: &[u8]) -> (&[u8], &[u8])
+    ensures line { result.0.now ≡ first_line bytes.now }
+    ensures rest { result.1.now ≡ after_line bytes.now }
+{
+    match find_line_feed(bytes) {
+        Some(end) => (without_return(&bytes[..end]), &bytes[end + 1..]),
+        None => (bytes, &bytes[bytes.len()..]),
+    }
+}
+
+/// Cuts an input at the first line that is exactly `---`. Without one there is no cut.
+///
+/// One `\r` before the `\n` of a line isn't part of that line. At the end of the input it is.
+pub fn cut(bytes: &[u8]) -> Option<Input<'_>>
+    ensures { option_map (λ i. (i.description.now, i.script.now)) result ≡ cut_of bytes.now }
+{
+    let mut rest = bytes;
+    while !rest.is_empty() {
+        let (line, behind) = split_line(rest);
+        if line == SEPARATOR.as_slice() {
+            return Some(Input {
+                description: &bytes[..bytes.len() - rest.len()],
+                script: behind,
+            });
+        }
+        rest = behind;
+    }
+    None
+}
+
+/// The words of a line, which one or more spaces part.
+pub fn words(alloc: Global, line: &str) -> Result<Vec<&str>, AllocError>
+    ensures { IfOk result (λ ws. map (λ w. w.now) ws.items ≡ words_of line.now) }
+{
+    line.split(' ')
+        .filter(|word| !word.is_empty())
+        .collect(alloc)
+}
