@@ -2,3 +2,4 @@ mod Examples
 mod PreferenceList
 mod BoundReached
 mod ThrottledParts
+mod FirstPass

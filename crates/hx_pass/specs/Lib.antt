@@ -1,2 +1,5 @@
 pub mod Plans
 pub mod Views
+pub mod Turns
+pub mod Lawful
+pub mod Explained
