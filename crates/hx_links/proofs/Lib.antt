@@ -1,0 +1,4 @@
+pub mod Vacancy
+pub mod Entries
+pub mod Linked
+pub mod Reading

@@ -1,0 +1,4 @@
+pub mod Pool
+pub mod Slots
+pub mod Layout
+pub mod Chains
