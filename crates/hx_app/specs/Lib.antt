@@ -1,3 +1,5 @@
 pub mod Demo
 pub mod DemoPlan
 pub mod FirstPath
+pub mod Input
+pub mod Answers
