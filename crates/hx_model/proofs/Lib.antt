@@ -3,3 +3,5 @@ pub mod Named
 pub mod Pairs
 pub mod Steps
 pub mod Distances
+pub mod Found
+pub mod Sound

@@ -1,10 +1,11 @@
 -- Places of names, before and after more names come.
-use Rattle.std.proofs.Common.{◌≡◌, ℕ, ◌+◌, ◌≤◌, ◌<◌, Bool, true, false, List, [], ◌∷◌, ◌++◌, length, refl, sym, ap, ◌∙◌, arith, length-append, subst}
+use Rattle.std.proofs.Common.{◌≡◌, ℕ, ◌+◌, ◌≤◌, ◌<◌, Bool, true, false, List, [], ◌∷◌, ◌++◌, length, refl, sym, ap, ◌∙◌, arith, length-append, subst, ◌≢◌, get_or, take, drop, true≢false}
 use Rattle.std.specs.Prelude.{if◌then◌else◌, nat_lt}
 use Rattle.std.specs.List.{list_any, position_or_len}
 use Rattle.std.specs.Str.{bytes_eq}
 use Rattle.std.proofs.lemmas.Bool.Decides.{nat_tests}
-use Rattle.std.proofs.lemmas.List.Sums.{prefix_len-le-length}
+use Rattle.std.proofs.lemmas.List.Sums.{prefix_len-le-length, passes_at_first}
+use Rattle.std.proofs.lemmas.Slice.Eq.{bytes_eq-Decides}
 use Rattle.std.proofs.lemmas.List.Folds.{position_or_len_push}
 use Rattle.hx_ids.specs.Names.{place_after, interned}
 use Rattle.hx_model.specs.Builtin.{state_named}
@@ -65,3 +66,13 @@ pub state_of_two : (names one two : List (List ℕ)) (n x : List ℕ) → one �
 state_of_two names one two n x is after =
     let P : List (List ℕ) → Type 0 = λ o. place_after o n < length o in
     sym (ap (λ (v : List (List ℕ)). state_named v n) after ∙ state_named-more one n x (subst P (sym is) (interned-has names n (bytes_same n))))
+
+-- different names have different places
+pub places_differ : (names : List (List ℕ)) (n k : List ℕ) → bytes_eq n k ≡ false → place_after names n < length names → place_after names n ≢ place_after names k
+places_differ names n k other has same =
+    let one : bytes_eq n (get_or names (place_after names n) []) ≡ true = passes_at_first (bytes_eq n) names [] has in
+    let two : bytes_eq k (get_or names (place_after names k) []) ≡ true = passes_at_first (bytes_eq k) names [] (omega (arith, same)) in
+    let is = (bytes_eq-Decides n (get_or names (place_after names n) [])).0 one in
+    let was = (bytes_eq-Decides k (get_or names (place_after names k) [])).0 two in
+    let names_same : n ≡ k = is ∙ ap (λ i. get_or names i []) same ∙ sym was in
+    true≢false (sym (ap (bytes_eq n) (sym names_same) ∙ bytes_same n) ∙ other)
