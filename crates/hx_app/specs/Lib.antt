@@ -3,3 +3,5 @@ pub mod DemoPlan
 pub mod FirstPath
 pub mod Input
 pub mod Answers
+pub mod Runs
+pub mod Refusals
