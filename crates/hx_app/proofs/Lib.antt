@@ -1,2 +1,3 @@
 mod Empty
 mod OneInstance
+pub mod Asked

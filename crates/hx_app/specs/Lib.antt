@@ -5,3 +5,4 @@ pub mod Input
 pub mod Answers
 pub mod Runs
 pub mod Refusals
+pub mod Writes

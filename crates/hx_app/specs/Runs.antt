@@ -18,7 +18,7 @@ pub record Ends : Type 0 where
 -- the input was read to its end, it isn't too long, and its answer was written whole
 pub record IsAnswered (old new : Ends) (status : ℕ) (bytes : List ℕ) : Type 0 where
   pub short : length bytes ≤ most_bytes
-  pub status : (answer_of bytes).status ≡ status
+  pub answers : (answer_of bytes).status ≡ status
   pub text : Appends old.got new.got (answer_of bytes).text
   pub end : IsAtEnd new.left
 

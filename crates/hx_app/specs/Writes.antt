@@ -2,7 +2,7 @@
 use Rattle.std.specs.Prelude.{◌≡◌, ℕ, ◌≤◌, List, length, take, Option, codes, decimal}
 use Rattle.std.specs.Io.KnownBytes.{Appends}
 use Rattle.hx_io.specs.Faults.{Rose}
-use Rattle.hx_app.specs.declared.run.Answer.{Answer as Told}
+use Rattle.hx_app.specs.declared.program.Reply.{Reply}
 use Rattle.hx_app.specs.Answers.{Answer}
 
 -- the text was written whole; or the sink failed, and has a front of it
@@ -12,6 +12,6 @@ pub record Writes (status : ℕ) (text : List ℕ) (old new : Option (List ℕ))
   pub later : before ≤ now
 
 -- an answer as it is defined
-pub record AnswersAs (wanted : Answer) (told : Told) : Type 0 where
-  pub status : told.status ≡ wanted.status
-  pub text : told.text ≡ wanted.text
+pub record AnswersAs (wanted : Answer) (reply : Reply) : Type 0 where
+  pub status : reply.status ≡ wanted.status
+  pub text : reply.text ≡ wanted.text

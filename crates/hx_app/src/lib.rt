@@ -2,10 +2,10 @@
 #![tactic(auto)]
 
 mod input;
-mod run;
+mod program;
 mod world;
 
-pub use run::{RunMode, Status, Task, run, run_script};
+pub use program::{RunMode, Status, Task, run, run_script};
 
-#[cfg(test)]
-mod tests;
+
+

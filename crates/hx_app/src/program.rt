@@ -1,12 +1,8 @@
 //! The run of the program: it reads a description and a script, and writes what comes of them.
-ghost use Rattle.std.specs.Prelude.{◌≡◌, ℕ, ◌<◌, ◌≤◌, ◌++◌, List, length, codes, decimal, IfOk, OnOk};
-ghost use Rattle.std.specs.Io.KnownBytes.{Appends};
-ghost use Rattle.hx_cluster.specs.Steps.{opening};
-ghost use Rattle.hx_app.specs.Demo.{demo};
-ghost use Rattle.hx_app.specs.FirstPath.{script_text};
-ghost use Rattle.hx_app.specs.Answers.{answer_of};
+ghost use Rattle.std.specs.Prelude.{◌≡◌, ◌≢◌, ◌<◌, ◌≤◌, length, Some, IfOk};
+ghost use Rattle.hx_app.specs.Answers.{answer_of, script_answer as script_answer_of};
 ghost use Rattle.hx_app.specs.Runs.{Runs, RefusesWords};
-ghost use Rattle.hx_app.specs.Writes.{Writes};
+ghost use Rattle.hx_app.specs.Writes.{Writes, AnswersAs};
 
 use crate::input::{Refused, demo_script, script_lines};
 use crate::world::script_page;
@@ -50,17 +46,18 @@ pub struct Status(pub u8);
 const MOST_BYTES: usize = 16_777_216;
 
 /// A status with its text.
-struct Answer {
+#[derive(Drop)]
+struct Reply {
     status: u8,
     text: Page,
 }
 
 /// The answer of a script that names a line, or of one that is done.
-fn script_answer(alloc: Global, script: &[u8]) -> Result<Answer, AllocError>
-    ensures { IfOk result (AnswersAs (answer_to script.now)) }
+fn script_answer(alloc: Global, script: &[u8]) -> Result<Reply, AllocError>
+    ensures { IfOk result (AnswersAs (script_answer_of (Some script.now))) }
 {
     match script_lines(alloc, script) {
-        Ok(lines) => Ok(Answer {
+        Ok(lines) => Ok(Reply {
             status: 0,
             text: script_page(alloc, &lines)?,
         }),
@@ -71,14 +68,14 @@ fn script_answer(alloc: Global, script: &[u8]) -> Result<Answer, AllocError>
                 Piece::Number(line as u64),
                 Piece::Text(" not-built\n"),
             ])?;
-            Ok(Answer { status: 4, text })
+            Ok(Reply { status: 4, text })
         }
         Err(Refused::OutOfMemory) => Err(AllocError),
     }
 }
 
 /// The answer to an input.
-fn answer(alloc: Global, bytes: &[u8]) -> Result<Answer, AllocError>
+fn answer(alloc: Global, bytes: &[u8]) -> Result<Reply, AllocError>
     ensures { IfOk result (AnswersAs (answer_of bytes.now)) }
 {
     match demo_script(bytes) {
@@ -86,7 +83,7 @@ fn answer(alloc: Global, bytes: &[u8]) -> Result<Answer, AllocError>
         None => {
             let mut text = Page::new(alloc);
             text.push_str("description not-built $\n")?;
-            Ok(Answer { status: 3, text })
+            Ok(Reply { status: 3, text })
         }
     }
 }
@@ -128,7 +125,7 @@ pub fn run_script<S: Source, K: Sink>(
         Err(ReadFault::OutOfMemory) => return Status(7),
     };
     match answer(alloc, &bytes) {
-        Ok(answer) => write(answer.status, answer.text.as_bytes(), out),
+        Ok(reply) => write(reply.status, reply.text.as_bytes(), out),
         Err(AllocError) => Status(7),
     }
 }
