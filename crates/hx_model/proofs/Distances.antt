@@ -10,7 +10,7 @@ use Rattle.std.proofs.lemmas.Bool.Decides.{nat_tests}
 use Rattle.hx_ids.specs.declared.StateId.{StateId}
 use Rattle.hx_model.specs.declared.ModelParts.{ModelParts}
 use Rattle.hx_model.specs.Model.{error}
-use Rattle.hx_model.specs.Walks.{steps_from, has_walk, least_from, dist}
+use Rattle.hx_model.specs.Walks.{has_walk, least_from, dist}
 use Rattle.hx_model.proofs.Steps.{any-steps_from, any_at}
 
 -- the state of a number
@@ -64,15 +64,15 @@ least_is p n (suc few) v low high here least = one (p n) refl (least_is p (n + 1
 pub dist_is : (m : ModelParts) (goal : StateId) (xs : List ℕ) (s : ℕ) → s < 256 → IsReached m goal xs → IsShort m goal (length m.states + 2) xs → get_or xs s 0 ≡ dist m (state s) goal
 dist_is m goal xs s lt r short =
     sym
-      (least_is
-        (λ n. has_walk m n (state s) goal)
-        0
-        (length m.states + 2)
-        (get_or xs s 0)
-        (omega arith)
-        (omega (arith, r.most s))
-        (λ h. r.walk s lt (omega arith))
-        (λ k low high e. short k s (omega arith) e))
+    (least_is
+    (λ n. has_walk m n (state s) goal)
+    0
+    (length m.states + 2)
+    (get_or xs s 0)
+    (omega arith)
+    (omega (arith, r.most s))
+    (λ h. r.walk s lt (omega arith))
+    (λ k low high e. short k s (omega arith) e))
 
 get_or-set : (xs : List ℕ) (a v s : ℕ) → a < length xs → get_or (set xs a v) s 0 ≡ (if s == a then v else get_or xs s 0)
 get_or-set xs a v s lt = one (s == a) refl
@@ -80,7 +80,6 @@ get_or-set xs a v s lt = one (s == a) refl
     one : (b : Bool) → (s == a) ≡ b → get_or (set xs a v) s 0 ≡ (if b then v else get_or xs s 0)
     one true e = let same : s ≡ a = grind (arith, nat_tests) in ap (λ n. get_or (set xs a v) n 0) same ∙ get_or-set_same xs a v 0 lt
     one false e = get_or-set_other xs a s v 0 (λ h. true≢false (sym (let is : (s == a) ≡ true = grind (arith, nat_tests) in is) ∙ e))
-
 
 fewer_set : (xs : List ℕ) (a b s : ℕ) → a < length xs → get_or (set xs a (min (get_or xs a 0) (get_or xs b 0 + 1))) s 0 ≤ get_or xs s 0
 fewer_set xs a b s lt = one (s == a) refl
@@ -163,9 +162,9 @@ short_more m goal old xs k some short r zero s lt w = omega (arith, r.fewer s, s
 short_more m goal old xs k some short r (suc n) s lt w =
     let less : n < k = omega arith in
     rw (← add-one)
-       (step_short m goal n k s xs old (m.transitions ++ (error, m.initial) ∷ []) less short r.tried
-         (list_any-append (λ t. (t.0.0 == s) && has_walk m n t.1 goal) m.transitions ((error, m.initial) ∷ [])
-         ∙ grind (arith, nat_tests, sym (any-steps_from m (λ t. has_walk m n t goal) (state s)) ∙ w)))
+    (step_short m goal n k s xs old (m.transitions ++ (error, m.initial) ∷ []) less short r.tried
+    (list_any-append (λ t. (t.0.0 == s) && has_walk m n t.1 goal) m.transitions ((error, m.initial) ∷ [])
+    ∙ grind (arith, nat_tests, sym (any-steps_from m (λ t. has_walk m n t goal) (state s)) ∙ w)))
 
 -- at the beginning the goal alone is reached
 pub first_reached : (m : ModelParts) (goal : StateId) (xs : List ℕ) → length xs ≡ 256 → get_or xs goal.0 0 ≡ 0 → ((s : ℕ) → s < 256 → s ≢ goal.0 → get_or xs s 0 ≡ length m.states + 2) → IsReached m goal xs
@@ -217,11 +216,11 @@ pub round_step : (m : ModelParts) (goal : StateId) (old xs ys : List ℕ) (items
 round_step m goal old xs ys items i d are lt la lb is r =
     let P : List ℕ → Type 0 = λ v. IsRound m goal old v (take (i + 1) m.transitions) in
     let Q : List (StateId × StateId) → Type 0 = λ ts. i < length ts → (get_or ts i d).0.0 < 256 → (get_or ts i d).1.0 < 256
-        → IsRound m goal old (set xs (get_or ts i d).0.0 (min (get_or xs (get_or ts i d).0.0 0) (get_or xs (get_or ts i d).1.0 0 + 1))) (take (i + 1) m.transitions) in
+    → IsRound m goal old (set xs (get_or ts i d).0.0 (min (get_or xs (get_or ts i d).0.0 0) (get_or xs (get_or ts i d).1.0 0 + 1))) (take (i + 1) m.transitions) in
     let step : Q m.transitions = λ lt la lb.
-        let R : List (StateId × StateId) → Type 0 = λ done. IsRound m goal old (set xs (get_or m.transitions i d).0.0 (min (get_or xs (get_or m.transitions i d).0.0 0) (get_or xs (get_or m.transitions i d).1.0 0 + 1))) done in
-        let one : take (i + 1) m.transitions ≡ take i m.transitions ++ get_or m.transitions i d ∷ [] = rw add-one (take-suc m.transitions i d lt) in
-        subst R (sym one) (round_more m goal old xs (take i m.transitions) (get_or m.transitions i d).0 (get_or m.transitions i d).1 la lb (λ n w. listed_leads m goal i d n lt w) r) in
+    let R : List (StateId × StateId) → Type 0 = λ done. IsRound m goal old (set xs (get_or m.transitions i d).0.0 (min (get_or xs (get_or m.transitions i d).0.0 0) (get_or xs (get_or m.transitions i d).1.0 0 + 1))) done in
+    let one : take (i + 1) m.transitions ≡ take i m.transitions ++ get_or m.transitions i d ∷ [] = rw add-one (take-suc m.transitions i d lt) in
+    subst R (sym one) (round_more m goal old xs (take i m.transitions) (get_or m.transitions i d).0 (get_or m.transitions i d).1 la lb (λ n w. listed_leads m goal i d n lt w) r) in
     subst P (sym is) (subst Q (sym are) step lt la lb)
 
 pub round_end : (m : ModelParts) (goal : StateId) (old xs ys : List ℕ) (i k : ℕ) → length m.transitions ≤ i → m.initial.0 < 256

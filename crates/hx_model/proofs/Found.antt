@@ -1,5 +1,5 @@
 -- Tests that find nothing.
-use Rattle.std.proofs.Common.{◌≡◌, ℕ, suc, zero, ◌+◌, ◌≤◌, ◌<◌, ◌==◌, ◌&&◌, not, Bool, true, false, List, [], ◌∷◌, ◌++◌, length, find, position, Option, Some, None, refl, sym, ap, ◌∙◌, true≢false, arith}
+use Rattle.std.proofs.Common.{◌≡◌, ℕ, suc, zero, ◌+◌, ◌≤◌, ◌<◌, ◌==◌, not, Bool, true, false, List, [], ◌∷◌, ◌++◌, length, find, position, Option, Some, None, refl, sym, ap, ◌∙◌, true≢false, arith}
 use Rattle.std.specs.Prelude.{if◌then◌else◌, nat_lt}
 use Rattle.std.specs.List.{list_any, list_all, prefix_len}
 use Rattle.std.specs.Option.{option_or}
@@ -8,7 +8,7 @@ use Rattle.hx_ids.specs.declared.StateId.{StateId}
 use Rattle.hx_lists.specs.First.{answer_behind}
 use Rattle.hx_model.specs.declared.ModelFault.{ModelFault}
 use Rattle.hx_model.specs.declared.ModelParts.{ModelParts}
-use Rattle.hx_model.specs.Faults.{found_by, twice_at, twice_place}
+use Rattle.hx_model.specs.Faults.{found_by, twice_at}
 use Rattle.hx_model.specs.Walks.{has_walk, least_from, dist, reaches}
 
 -- none of some tests finds a fault

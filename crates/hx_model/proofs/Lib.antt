@@ -5,3 +5,4 @@ pub mod Steps
 pub mod Distances
 pub mod Found
 pub mod Sound
+pub mod Interned

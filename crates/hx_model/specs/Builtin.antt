@@ -1,5 +1,6 @@
 -- The models that every description has.
-use Rattle.std.specs.Prelude.{◌≡◌, ℕ, List, [], ◌∷◌, take, codes}
+use Rattle.std.specs.Prelude.{◌≡◌, ℕ, false, List, [], ◌∷◌, take, codes}
+use Rattle.std.specs.Str.{bytes_eq}
 use Rattle.hx_ids.specs.declared.StateId.{StateId}
 use Rattle.hx_ids.specs.Names.{place_after, interned}
 use Rattle.hx_model.specs.declared.Bound.TheVariants.{Count, Replicas, Free}
@@ -48,3 +49,13 @@ leader_standby_parts names = one_leads (state_named names (codes "LEADER")) (sta
 
 abbrev pub leader_standby_names : List (List ℕ) → List (List ℕ)
 leader_standby_names names = interned (interned (interned names (codes "LEADER")) (codes "STANDBY")) (codes "OFFLINE")
+
+-- names of two states, neither of them the other, OFFLINE, or one that every model has
+pub record AreNew (one two : List ℕ) : Type 0 where
+  pub apart : bytes_eq one two ≡ false
+  pub one_offline : bytes_eq one (codes "OFFLINE") ≡ false
+  pub two_offline : bytes_eq two (codes "OFFLINE") ≡ false
+  pub one_error : bytes_eq one (codes "ERROR") ≡ false
+  pub two_error : bytes_eq two (codes "ERROR") ≡ false
+  pub one_dropped : bytes_eq one (codes "DROPPED") ≡ false
+  pub two_dropped : bytes_eq two (codes "DROPPED") ≡ false

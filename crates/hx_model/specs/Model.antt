@@ -1,5 +1,5 @@
 -- State models, seen as what they are made of.
-use Rattle.std.specs.Prelude.{ℕ, Bool, true, ◌==◌, ◌&&◌, ◌||◌, List, map, Option, None, Some, if◌then◌else◌}
+use Rattle.std.specs.Prelude.{ℕ, Bool, ◌==◌, ◌&&◌, ◌||◌, List, map, Option, None, Some}
 use Rattle.std.specs.List.{list_any, find, position_or_len}
 use Rattle.std.specs.Option.{option_map_or}
 use Rattle.hx_ids.specs.declared.StateId.{StateId}

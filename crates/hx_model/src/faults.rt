@@ -30,16 +30,24 @@ fn state_fault(parts: &ModelParts) -> Option<ModelFault>
         return Some(ModelFault::TooManyStates);
     }
     if let Some(place) = reserved_state(states) {
-        return Some(ModelFault::Reserved { place: short(place) });
+        return Some(ModelFault::Reserved {
+            place: short(place),
+        });
     }
     if let Some(place) = reserved_transition(parts.transitions.as_slice()) {
-        return Some(ModelFault::Reserved { place: short(place) });
+        return Some(ModelFault::Reserved {
+            place: short(place),
+        });
     }
     if let Some(place) = twice_state(states) {
-        return Some(ModelFault::TwiceState { place: short(place) });
+        return Some(ModelFault::TwiceState {
+            place: short(place),
+        });
     }
     if let Some(place) = zero_bound(states) {
-        return Some(ModelFault::ZeroBound { place: short(place) });
+        return Some(ModelFault::ZeroBound {
+            place: short(place),
+        });
     }
     initial_fault(parts)
 }
@@ -63,13 +71,19 @@ fn transition_fault(parts: &ModelParts) -> Option<ModelFault>
 {
     let transitions = parts.transitions.as_slice();
     if let Some(place) = unknown_state(parts) {
-        return Some(ModelFault::UnknownState { place: short(place) });
+        return Some(ModelFault::UnknownState {
+            place: short(place),
+        });
     }
     if let Some(place) = self_loop(transitions) {
-        return Some(ModelFault::SelfLoop { place: short(place) });
+        return Some(ModelFault::SelfLoop {
+            place: short(place),
+        });
     }
     if let Some(place) = twice_transition(transitions) {
-        return Some(ModelFault::TwiceTransition { place: short(place) });
+        return Some(ModelFault::TwiceTransition {
+            place: short(place),
+        });
     }
     if !lists(transitions, parts.initial, DROPPED) {
         return Some(ModelFault::NoDrop);

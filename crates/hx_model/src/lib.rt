@@ -6,17 +6,17 @@ mod builtin;
 mod faults;
 mod walks;
 
-ghost use Rattle.std.specs.Prelude.{◌≡◌, ℕ, ◌+◌, ◌-◌, ◌^◌, ◌<◌, ◌≤◌, ◌==◌, length, map, take, None, Some, IfOk, IfErr, IsTrue};
+ghost use Rattle.std.specs.Prelude.{◌≡◌, ℕ, ◌+◌, ◌-◌, ◌^◌, ◌<◌, ◌≤◌, ◌==◌, length, map, take, slice_index, None, Some, IfOk, IfErr, IsTrue};
 ghost use Rattle.hx_model.specs.Model.{states_of, is_legal, bound_of, rank_of, limit_of, is_between};
 ghost use Rattle.std.specs.List.{list_any, find, position};
 ghost use Rattle.std.specs.Option.{option_map_or};
 ghost use Rattle.hx_model.specs.Faults.{fault_of};
+ghost use Rattle.hx_model.specs.Walks.{dist};
 
+pub use builtin::{leader_standby, master_slave, online_offline};
 use hx_ids::StateId;
 use hx_lists::Seq;
 use std::alloc::{AllocError, Global};
-
-pub use builtin::online_offline;
 
 /// The state of a replica whose handler failed. Every model has it.
 pub const ERROR: StateId = StateId(0);
@@ -47,38 +47,22 @@ pub enum ModelFault {
     /// More than 16.
     TooManyStates,
     /// ERROR or DROPPED among the states, a transition that names ERROR, or one that starts at DROPPED.
-    Reserved {
-        place: u32,
-    },
-    TwiceState {
-        place: u32,
-    },
-    ZeroBound {
-        place: u32,
-    },
+    Reserved { place: u32 },
+    TwiceState { place: u32 },
+    ZeroBound { place: u32 },
     /// The initial state isn't among the states.
     NoInitial,
     InitialBounded,
     /// A transition that names a state which isn't among the states.
-    UnknownState {
-        place: u32,
-    },
-    SelfLoop {
-        place: u32,
-    },
-    TwiceTransition {
-        place: u32,
-    },
+    UnknownState { place: u32 },
+    SelfLoop { place: u32 },
+    TwiceTransition { place: u32 },
     /// No transition leads from the initial state to DROPPED.
     NoDrop,
     /// No walk leads to this state from the initial state.
-    CantReach {
-        state: StateId,
-    },
+    CantReach { state: StateId },
     /// No walk leads from this state to the initial state.
-    CantLeave {
-        state: StateId,
-    },
+    CantLeave { state: StateId },
 }
 
 /// What a model is made of: its states in priority order, and its transitions in rank order.
@@ -154,7 +138,8 @@ impl Model {
     pub fn legal(&self, from: StateId, to: StateId) -> bool
         ensures { result ≡ is_legal self.now from to }
     {
-        lists(self.parts.transitions.as_slice(), from, to) || (from == ERROR && to == self.parts.initial)
+        lists(self.parts.transitions.as_slice(), from, to)
+            || (from == ERROR && to == self.parts.initial)
     }
 
     /// A state's bound. ERROR and DROPPED have none. It takes no memory.
@@ -188,8 +173,25 @@ impl Model {
     pub fn states(&self) -> &[StateId]
         ensures states { result.now ≡ states_of self.now }
         ensures few { length self.now.states ≤ 16 }
+        ensures sound { fault_of self.now ≡ None }
     {
         &self.order[..self.count]
+    }
+
+    /// The transitions in rank order. It takes no memory.
+    pub fn transitions(&self) -> &[(StateId, StateId)]
+        ensures { result.now ≡ self.now.transitions }
+    {
+        self.parts.transitions.as_slice()
+    }
+
+    /// For each state number the length of a shortest walk to the goal, and where there is no walk the number of
+    /// states and two. It takes no memory.
+    pub fn distances(&self, goal: StateId) -> [u8; 256]
+        ensures room { length result ≡ 256 }
+        ensures dists { (s : ℕ) → s < 256 → slice_index result s ≡ dist self.now (record { 0 = s }) goal }
+    {
+        walks::distances(&self.parts, goal)
     }
 
     /// The same model again.

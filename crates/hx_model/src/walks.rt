@@ -47,6 +47,7 @@ fn at(dists: &[u8; 256], state: StateId) -> usize
 /// and two.
 pub fn distances(parts: &ModelParts, goal: StateId) -> [u8; 256]
     requires { length parts.now.states ≤ 16 }
+    ensures room { length result ≡ 256 }
     ensures dists { (s : ℕ) → s < 256 → slice_index result s ≡ dist parts.now (record { 0 = s }) goal }
     ensures most { (s : ℕ) → slice_index result s ≤ length parts.now.states + 2 }
 {

@@ -1,6 +1,6 @@
-use Rattle.std.proofs.Common.{◌≡◌, ℕ, List, sym, ap, ◌∙◌, arith}
+use Rattle.std.proofs.Common.{ℕ, List, sym, ap, ◌∙◌, arith}
 use Rattle.hx_model.specs.Builtin.{state_named}
-use Rattle.hx_model.proofs.Named.{place_after-le, place_after-interned, length-interned-le, bytes_same}
+use Rattle.hx_model.proofs.Named.{place_after-le, place_after-interned, bytes_same}
 use Rattle.hx_model.proofs.builtin.state_of.Goals as goal
 
 pub overflow_cast-result : goal.overflow_cast-result

@@ -1,6 +1,4 @@
-use Rattle.std.proofs.Common.{◌≡◌, ◌==◌, length, take, drop, Option, None, Some}
-use Rattle.std.specs.Prelude.{if◌then◌else◌}
-use Rattle.std.specs.List.{list_any}
+use Rattle.std.proofs.Common.{◌≡◌, ◌==◌, take, drop}
 use Rattle.hx_lists.specs.First.{answer_behind}
 use Rattle.hx_model.specs.Faults.{twice_at, twice_place}
 use Rattle.hx_model.proofs.faults.twice_state.Given as goal

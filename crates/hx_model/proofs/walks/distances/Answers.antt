@@ -20,40 +20,40 @@ loop-step-preserved c =
       end = c.loop-step.invariant.end;
       round =
           round_step
-            c.args.parts.now
-            c.args.goal
-            c.loop-round.dists
-            c.loop-step.dists
-            c.shorten.new.dists
-            c.as_slice-step-items.result.now
-            c.loop-step.step-index
-            none
-            c.as_slice-step-items.ensures
-            c.loop-step-test.true
-            c.shorten.ensures.bytes.0
-            c.shorten.ensures.bytes.1
-            c.shorten.ensures.dists
-            c.loop-step.invariant.round;
+          c.args.parts.now
+          c.args.goal
+          c.loop-round.dists
+          c.loop-step.dists
+          c.shorten.new.dists
+          c.as_slice-step-items.result.now
+          c.loop-step.step-index
+          none
+          c.as_slice-step-items.ensures
+          c.loop-step-test.true
+          c.shorten.ensures.bytes.0
+          c.shorten.ensures.bytes.1
+          c.shorten.ensures.dists
+          c.loop-step.invariant.round;
     }
 
 pub loop-round-preserved : goal.loop-round-preserved
 loop-round-preserved c =
     let last = c.shorten-in-loop-round in
     let ended =
-        round_end
-          c.args.parts.now
-          c.args.goal
-          c.loop-round.dists
-          c.loop-step.dists
-          last.new.dists
-          c.loop-step.step-index
-          c.loop-round._round
-          (omega (arith, c.loop-step-test.false, ap length c.as_slice-step-items.ensures))
-          last.ensures.bytes.1
-          last.ensures.dists
-          (omega arith)
-          c.loop-round.invariant.short
-          c.loop-step.invariant.round in
+    round_end
+    c.args.parts.now
+    c.args.goal
+    c.loop-round.dists
+    c.loop-step.dists
+    last.new.dists
+    c.loop-step.step-index
+    c.loop-round._round
+    (omega (arith, c.loop-step-test.false, ap length c.as_slice-step-items.ensures))
+    last.ensures.bytes.1
+    last.ensures.dists
+    (omega arith)
+    c.loop-round.invariant.short
+    c.loop-step.invariant.round in
     record { end = c.loop-round.invariant.end; reached = ended.0; short = ended.1 }
 
 pub returns-clause-dists : goal.returns-clause-dists

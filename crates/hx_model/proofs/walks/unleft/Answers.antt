@@ -1,4 +1,4 @@
-use Rattle.std.proofs.Common.{◌≡◌, ◌+◌, not, length, sym, ap, ◌∙◌, arith}
+use Rattle.std.proofs.Common.{◌+◌, not, sym, ap, ◌∙◌}
 use Rattle.hx_ids.specs.declared.StateId.{StateId}
 use Rattle.hx_model.specs.declared.Bound.{Bound}
 use Rattle.hx_model.specs.declared.Bound.TheVariants.{Count}
