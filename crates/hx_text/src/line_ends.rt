@@ -47,9 +47,9 @@ pub(crate) fn split_line(bytes: &[u8]) -> (&[u8], &[u8])
     }
 }
 
-/// Cuts an input at the first line that is exactly `---`. Without one there is no cut.
+/// Cuts an input at its first line that is exactly `---`. Without such a line it is no input.
 ///
-/// One `\r` before the `\n` of a line isn't part of that line. At the end of the input it is.
+/// One `\r` before the `\n` of a line isn't part of that line. Before the end of the input it is.
 pub fn cut(bytes: &[u8]) -> Option<Input<'_>>
     ensures { option_map (λ i. (i.description.now, i.script.now)) result ≡ cut_of bytes.now }
 {

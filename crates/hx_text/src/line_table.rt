@@ -120,8 +120,8 @@ fn check_line(line: &[u8], number: u32, most: usize) -> Result<&str, TextFault>
 /// Takes a text apart into its lines, of which each has `most` bytes at most.
 ///
 /// A line ends at `\n` or at the end of the text. One `\r` before that `\n` isn't part of it. The fault is
-/// that of the first line that has one, and of a line that isn't UTF-8 its length isn't asked. Lines are
-/// numbered from 1. Any call may run out of memory.
+/// that of the first line that has one, where lines are numbered from 1. Of a line that isn't UTF-8 the
+/// length isn't asked.
 pub fn split_lines(alloc: Global, bytes: &[u8], most: usize) -> Result<Lines, TextFault>
     requires { length bytes.now < 2 ^ 32 - 1 }
     ensures ok { IfOk result (λ lines. (lines ≡ lines_of bytes.now) × (lines_fault most bytes.now ≡ None)) }
