@@ -32,10 +32,10 @@ split_none bs past = slice_split_none is_line_feed bs (λ k d lt. fails_before_f
 split_some : (bs : List ℕ) → position_or_len is_line_feed bs < length bs → slice_split is_line_feed bs ≡ before_first is_line_feed bs ∷ slice_split is_line_feed (after_line bs)
 split_some bs within = slice_split_first is_line_feed bs 0 within
 
-some_parts : (bs : List ℕ) → 0 < length (slice_split is_line_feed bs)
+pub some_parts : (bs : List ℕ) → 0 < length (slice_split is_line_feed bs)
 some_parts bs = omega (arith, length-slice_split is_line_feed bs)
 
-lines_step : (part : List ℕ) (parts : List (List ℕ)) → 0 < length parts → lines_of_parts (part ∷ parts) ≡ strip_carriage_return part ∷ lines_of_parts parts
+pub lines_step : (part : List ℕ) (parts : List (List ℕ)) → 0 < length parts → lines_of_parts (part ∷ parts) ≡ strip_carriage_return part ∷ lines_of_parts parts
 lines_step part [] some = absurd (omega arith)
 lines_step part (x ∷ more) some = refl
 
@@ -135,13 +135,6 @@ pub record IsSeen (bytes rest : List ℕ) : Type 0 where
   pub whole : bytes ≡ seen ++ rest
   pub cut : cut_of bytes ≡ before seen (cut_of rest)
 
-before-nil : (o : Option (List ℕ × List ℕ)) → o ≡ before [] o
-before-nil None = refl
-before-nil (Some h) = refl
-
-pub seen_none : (bytes : List ℕ) → IsSeen bytes bytes
-seen_none bytes = record { seen = []; whole = refl; cut = before-nil (cut_of bytes) }
-
 pub seen_more : (bytes rest line behind : List ℕ) → IsSeen bytes rest → line ≡ first_line rest → behind ≡ after_line rest → bytes_eq line separator ≡ false → IsSeen bytes behind
 seen_more bytes rest line behind h line_is behind_is other =
     let c = cut_of-first rest in
@@ -150,10 +143,6 @@ seen_more bytes rest line behind h line_is behind_is other =
       whole = h.whole ∙ ap (λ r. h.seen ++ r) (c.whole ∙ ap (λ r. c.taken ++ r) (sym behind_is)) ∙ sym (append_assoc h.seen c.taken behind);
       cut = rw behind_is (h.cut ∙ ap (before h.seen) (c.other (ap (λ l. bytes_eq l separator) (sym line_is) ∙ other)) ∙ before-before h.seen c.taken (cut_of (after_line rest)));
     }
-
-pub seen_all : (bytes rest : List ℕ) → IsSeen bytes rest → length rest ≡ 0 → cut_of bytes ≡ None
-seen_all bytes [] h e = h.cut
-seen_all bytes (b ∷ bs) h e = absurd (omega arith)
 
 -- the cut where the first line of the rest is the separator
 pub seen_cut : (bytes rest line behind : List ℕ) → IsSeen bytes rest → line ≡ first_line rest → behind ≡ after_line rest → bytes_eq line separator ≡ true

@@ -1,5 +1,5 @@
 -- The first fault of the lines of a text.
-use Rattle.std.proofs.Common.{◌≡◌, ℕ, ◌+◌, ◌<◌, ◌≤◌, cond, not, nat_lt, List, [], ◌∷◌, ◌++◌, length, Some, None, refl, sym, ap, ◌∙◌, append-nil, append_assoc, length-append, arith}
+use Rattle.std.proofs.Common.{◌≡◌, ℕ, ◌+◌, ◌<◌, ◌≤◌, cond, not, nat_lt, List, [], ◌∷◌, ◌++◌, length, Some, None, sym, ap, ◌∙◌, append-nil, append_assoc, length-append, arith}
 use Rattle.std.proofs.lemmas.Bool.{cond-true, cond-false, lt-ltb, le-ltb, false_from_ne_true}
 use Rattle.std.proofs.lemmas.Str.{is_utf8-from_IsUtf8, IsUtf8-from_is_utf8}
 use Rattle.std.specs.List.{concat}
@@ -33,9 +33,6 @@ pub record IsTaken (most : ℕ) (bytes rest : List ℕ) (lines : List (List ℕ)
 length-concat-push : (lines : List (List ℕ)) (line : List ℕ) → length (concat (lines ++ line ∷ [])) ≡ length (concat lines) + length line
 length-concat-push [] line = ap length (append-nil line) ∙ omega arith
 length-concat-push (l ∷ lines) line = omega (arith, length-append l (concat (lines ++ line ∷ [])), length-append l (concat lines), length-concat-push lines line)
-
-pub taken_none : (most : ℕ) (bytes : List ℕ) → IsTaken most bytes bytes []
-taken_none most bytes = record { whole = refl; fault = refl; few = omega arith; room = omega arith }
 
 pub taken_more : (most : ℕ) (bytes rest line behind : List ℕ) (lines new_lines : List (List ℕ)) → 0 < length rest → IsTaken most bytes rest lines
     → line ≡ first_line rest → behind ≡ after_line rest → line_fault most (length lines + 1) line ≡ None → new_lines ≡ lines ++ line ∷ []

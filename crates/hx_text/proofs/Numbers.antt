@@ -1,8 +1,9 @@
 -- Numbers as they are printed and read.
-use Rattle.std.proofs.Common.{◌≡◌, ℕ, ◌^◌, ◌<◌, true, not, ◌&&◌, ◌||◌, eqb, ltb, List, [], ◌∷◌, length, get_or, slice_get, Some, None, Result, Ok, Err, sym, ap, ◌∙◌, inl, inr, arith}
+use Rattle.std.proofs.Common.{All, false, ◌≡◌, ℕ, ◌^◌, ◌<◌, true, not, ◌&&◌, ◌||◌, eqb, ltb, List, [], ◌∷◌, length, get_or, slice_get, Some, None, Result, Ok, Err, sym, ap, ◌∙◌, inl, inr, arith}
 use Rattle.std.proofs.lemmas.Bool.{cases_eq, cases_Bool, or_cases, false_from_ne_true, not-true, eqb-true, eqb-false, and_parts, and_from, or_left, or_right, cond-true, cond-false, lt-ltb, ltb-true, eq-eqb, ne_eqb}
 use Rattle.std.proofs.lemmas.Fmt.{digits_decimal, digits_value-decimal, decimal_nonempty, decimal_digit, first_decimal, decimal-digits_value}
-use Rattle.std.proofs.lemmas.Str.Parse.{IsNumeralModel, numerals_by_value, tells_all_ascii_digits, parse_plain}
+use Rattle.std.proofs.lemmas.List.{get_or_default}
+use Rattle.std.proofs.lemmas.Str.Parse.{IsNumeralModel, numerals_by_value, tells_all_ascii_digits, parse_plain, not_in_digits}
 use Rattle.std.specs.Fmt.{decimal}
 use Rattle.std.specs.Result.{result_ok}
 use Rattle.std.specs.Str.{all_ascii_digits}
@@ -91,3 +92,8 @@ number_of-parse {E = E} bs (Err e) b at nonzero h =
     let parts = and_parts (is_numeral bs) (ltb (digits_value 10 bs) (2 ^ 64)) fits in
     let d = digits_from_numeral bs parts.0 in
     p (d.digits, d.some, ltb-true _ _ parts.1))))
+
+-- no byte below `0` stands in a number
+pub decimal-without : (n c : ℕ) → n < 2 ^ 64 → c < 48 → All (λ b. eqb b c ≡ false) (decimal n)
+decimal-without n c h low k d lt =
+    ne_eqb _ c (λ e. not_in_digits own (decimal n) c (digits_decimal own n h) (λ digit. omega arith) k lt (sym (get_or_default (decimal n) k d 0 lt) ∙ e))
