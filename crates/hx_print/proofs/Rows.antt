@@ -31,7 +31,7 @@ use Rattle.hx_cluster.specs.Events.{begun_of, dispatched_of, next, replay}
 use Rattle.hx_print.specs.declared.Word.TheVariants as turn_words
 use Rattle.hx_print.specs.declared.Note.{Note}
 use Rattle.hx_print.specs.declared.Note.TheVariants as notes
-use Rattle.hx_print.specs.Texts.{entry_text, log_text, note_text, sent_text, waiting_text, moved_text, settled_text, settle_text, accept_text, failed_text, full_text, view_text, route_text, summary_text, history_full_text, placed_lines}
+use Rattle.hx_print.specs.Texts.{entry_text, log_text, note_text, sent_text, waiting_text, moved_text, settled_text, settle_text, accept_text, failed_text, full_text, view_text, route_text, summary_text, history_full_text, placed_lines, names_of}
 
 abbrev instance : ℕ → InstanceId
 instance n = record { 0 = n }
@@ -171,7 +171,7 @@ without_session = refl
 abbrev proposal : Proposal
 proposal = record { session = session 1; part = part 0 0; from = state 4; to = state 3 }
 
-answers : placed_lines demo demo.resources (proposal ∷ proposal ∷ proposal ∷ proposal ∷ proposal ∷ proposal ∷ proposal ∷ proposal ∷ proposal ∷ [])
+answers : placed_lines demo (names_of demo.resources) (proposal ∷ proposal ∷ proposal ∷ proposal ∷ proposal ∷ proposal ∷ proposal ∷ proposal ∷ proposal ∷ [])
     (placings.Sent (message 1) ∷ placings.Ended ∷ placings.ResourceDropped ∷ placings.Busy (message 3) ∷ placings.WrongFrom (Some (state 3)) ∷ placings.WrongFrom None
     ∷ placings.Illegal ∷ placings.OverBound 1 1 ∷ placings.OverThrottle 0 4 4 ∷ [])
     ≡ codes "  sent m1 s1 db#0/0 OFFLINE>SLAVE\n  ended s1 db#0/0 OFFLINE>SLAVE\n  dropped s1 db#0/0 OFFLINE>SLAVE\n  busy m3 s1 db#0/0 OFFLINE>SLAVE\n  from SLAVE s1 db#0/0 OFFLINE>SLAVE\n  from - s1 db#0/0 OFFLINE>SLAVE\n  illegal s1 db#0/0 OFFLINE>SLAVE\n  bound 1 of 1 s1 db#0/0 OFFLINE>SLAVE\n  throttle 0 4 of 4 s1 db#0/0 OFFLINE>SLAVE\n"

@@ -35,12 +35,13 @@ use Rattle.hx_cluster.specs.declared.happenings.Outcome.{Outcome}
 use Rattle.hx_cluster.specs.declared.happenings.Outcome.TheVariants as outcomes
 use Rattle.hx_cluster.specs.declared.happenings.Event.{Event}
 use Rattle.hx_cluster.specs.declared.happenings.Event.TheVariants as events
-use Rattle.hx_cluster.specs.Ends.{resource_at, shown_of, instance_in, state_of}
-use Rattle.hx_cluster.specs.Steps.{session_of, is_empty_list}
+use Rattle.hx_cluster.specs.Ends.{shown_of, instance_in, session_in, state_of}
+use Rattle.hx_cluster.specs.Steps.{is_empty_list}
 use Rattle.hx_cluster.specs.Reads.{live_shown}
 use Rattle.hx_cluster.specs.Events.{next}
 use Rattle.hx_print.specs.declared.Word.{Word}
 use Rattle.hx_print.specs.declared.Word.TheVariants as turn_words
+use Rattle.hx_print.specs.declared.roll.Roll.{Roll}
 use Rattle.hx_print.specs.declared.Note.{Note}
 use Rattle.hx_print.specs.declared.Note.TheVariants as notes
 
@@ -94,27 +95,40 @@ abbrev pub or_dash : {X : Type 0} → (X → List ℕ) → Option X → List ℕ
 or_dash name x = option_map_or name x (codes "-")
 
 -- a resource's name with its number, and a part
-abbrev pub name_of_resource : Spec → List Resource → ResourceId → List ℕ
-name_of_resource spec resources r = option_map_or (λ x. name_at spec.resource_names x.name) (resource_at resources r) []
+abbrev pub names_of : List Resource → List ℕ
+names_of resources = map (λ x. x.name) resources
+
+abbrev pub name_of_resource : Spec → List ℕ → ResourceId → List ℕ
+name_of_resource spec names r = option_map_or (name_at spec.resource_names) (slice_get names r.0) []
 
 abbrev pub numbered : List ℕ → ResourceId → List ℕ
 numbered name r = name ++ codes "#" ++ decimal r.0
 
-abbrev pub resource_name : Spec → List Resource → ResourceId → List ℕ
-resource_name spec resources r = numbered (name_of_resource spec resources r) r
+abbrev pub part_of_name : List ℕ → PartId → List ℕ
+part_of_name name p = numbered name p.resource ++ codes "/" ++ decimal p.index
+
+abbrev pub part_in : Spec → List ℕ → PartId → List ℕ
+part_in spec names p = part_of_name (name_of_resource spec names p.resource) p
 
 abbrev pub part_name : Spec → List Resource → PartId → List ℕ
-part_name spec resources p = resource_name spec resources p.resource ++ codes "/" ++ decimal p.index
+part_name spec resources p = part_in spec (names_of resources) p
 
 abbrev pub move_text : Spec → StateId → StateId → List ℕ
 move_text spec from to = state_name spec from ++ codes ">" ++ state_name spec to
 
 -- an instance with a state, as maps and views have them
+abbrev pub pair_name : Spec → List ℕ → InstanceId × StateId → List ℕ
+pair_name spec sign e = instance_name spec e.0 ++ sign ++ state_name spec e.1
+
 abbrev pub mapped_name : Spec → InstanceId × StateId → List ℕ
-mapped_name spec e = instance_name spec e.0 ++ codes "=" ++ state_name spec e.1
+mapped_name spec e = pair_name spec (codes "=") e
 
 abbrev pub seen_name : Spec → InstanceId × StateId → List ℕ
-seen_name spec e = instance_name spec e.0 ++ codes ":" ++ state_name spec e.1
+seen_name spec e = pair_name spec (codes ":") e
+
+-- what the names in a log need of a cluster: the names of its resources, and the live sessions with their instances
+abbrev pub roll_of : Cluster → Roll
+roll_of c = record { resources = names_of c.resources; live = shown_of c.live }
 
 -- a join, an end or a beat: the instance and its session
 abbrev pub session_line : List ℕ → Spec → InstanceId → Option SessionId → List ℕ
@@ -152,40 +166,40 @@ leads_in dids.Done = None
 
 -- a session that a tick ended, with the instance that it had
 abbrev pub ended_line : Spec → List (SessionId × InstanceId) → SessionId → List ℕ
-ended_line spec shown s = line_of (codes "  end" ∷ option_map_or (instance_name spec) (instance_in shown s) [] ∷ session_name s ∷ [])
+ended_line spec live s = line_of (codes "  end" ∷ option_map_or (instance_name spec) (instance_in live s) [] ∷ session_name s ∷ [])
 
 abbrev pub tick_text : Spec → List (SessionId × InstanceId) → ℕ → List SessionId → List ℕ
-tick_text spec shown n ended = line_of (codes "tick" ∷ decimal n ∷ []) ++ flat_map (ended_line spec shown) ended
+tick_text spec live n ended = line_of (codes "tick" ∷ decimal n ∷ []) ++ flat_map (ended_line spec live) ended
 
-abbrev pub add_line : Spec → ℕ → ModelId → ℕ → ℕ → Mode → Option ResourceId → List ℕ
-add_line spec name model replicas parts mode None = []
-add_line spec name model replicas parts mode (Some r) =
+abbrev pub add_text : Spec → ℕ → ModelId → ℕ → ℕ → Mode → Option ResourceId → List ℕ
+add_text spec name model replicas parts mode None = []
+add_text spec name model replicas parts mode (Some r) =
     line_of (codes "add" ∷ numbered (name_at spec.resource_names name) r ∷ model_name spec model ∷ decimal replicas ∷ decimal parts ∷ mode_name mode ∷ [])
 
-abbrev pub reset_line : Spec → List Resource → InstanceId → PartId → Option SessionId → List ℕ
-reset_line spec resources i p None = []
-reset_line spec resources i p (Some s) = line_of (codes "reset" ∷ instance_name spec i ∷ session_name s ∷ part_name spec resources p ∷ [])
+abbrev pub reset_text : Spec → List ℕ → InstanceId → PartId → Option SessionId → List ℕ
+reset_text spec names i p None = []
+reset_text spec names i p (Some s) = line_of (codes "reset" ∷ instance_name spec i ∷ session_name s ∷ part_in spec names p ∷ [])
 
-abbrev pub lead_line : ControllerId → Option Epoch → List ℕ
-lead_line k None = []
-lead_line k (Some e) = line_of (codes "lead" ∷ controller_name k ∷ epoch_name e ∷ [])
+abbrev pub lead_text : ControllerId → Option Epoch → List ℕ
+lead_text k None = []
+lead_text k (Some e) = line_of (codes "lead" ∷ controller_name k ∷ epoch_name e ∷ [])
 
 -- what a step adds to the log
-abbrev pub step_text : Spec → Cluster → Admin → Did → List ℕ
-step_text spec c (steps.Join i) did = session_line (codes "join") spec i (joined_by did)
-step_text spec c (steps.End i) did = session_line (codes "end") spec i (session_of c i)
-step_text spec c (steps.Beat i) did = session_line (codes "beat") spec i (session_of c i)
-step_text spec c (steps.Tick n) did = tick_text spec (shown_of c.live) n (ended_by_tick did)
-step_text spec c (steps.Drain i) did = line_of (codes "drain" ∷ instance_name spec i ∷ [])
-step_text spec c (steps.Undrain i) did = line_of (codes "undrain" ∷ instance_name spec i ∷ [])
-step_text spec c (steps.Add name model ideal) did = add_line spec name model ideal.replicas ideal.parts ideal.mode (added_as did)
-step_text spec c (steps.Drop r) did = line_of (codes "drop" ∷ resource_name spec c.resources r ∷ [])
-step_text spec c (steps.SetList p list) did = line_of (codes "list" ∷ part_name spec c.resources p ∷ map (instance_name spec) list)
-step_text spec c (steps.SetMap p entries) did = line_of (codes "map" ∷ part_name spec c.resources p ∷ map (mapped_name spec) entries)
-step_text spec c (steps.Reset i p) did = reset_line spec c.resources i p (session_of c i)
-step_text spec c (steps.Lead k) did = lead_line k (leads_in did)
-step_text spec c (steps.Stop k) did = line_of (codes "stop" ∷ controller_name k ∷ [])
-step_text spec c (steps.Start k) did = line_of (codes "start" ∷ controller_name k ∷ [])
+abbrev pub step_text : Spec → Roll → Admin → Did → List ℕ
+step_text spec roll (steps.Join i) did = session_line (codes "join") spec i (joined_by did)
+step_text spec roll (steps.End i) did = session_line (codes "end") spec i (session_in roll.live i)
+step_text spec roll (steps.Beat i) did = session_line (codes "beat") spec i (session_in roll.live i)
+step_text spec roll (steps.Tick n) did = tick_text spec roll.live n (ended_by_tick did)
+step_text spec roll (steps.Drain i) did = line_of (codes "drain" ∷ instance_name spec i ∷ [])
+step_text spec roll (steps.Undrain i) did = line_of (codes "undrain" ∷ instance_name spec i ∷ [])
+step_text spec roll (steps.Add name model ideal) did = add_text spec name model ideal.replicas ideal.parts ideal.mode (added_as did)
+step_text spec roll (steps.Drop r) did = line_of (codes "drop" ∷ numbered (name_of_resource spec roll.resources r) r ∷ [])
+step_text spec roll (steps.SetList p list) did = line_of (codes "list" ∷ part_in spec roll.resources p ∷ map (instance_name spec) list)
+step_text spec roll (steps.SetMap p entries) did = line_of (codes "map" ∷ part_in spec roll.resources p ∷ map (mapped_name spec) entries)
+step_text spec roll (steps.Reset i p) did = reset_text spec roll.resources i p (session_in roll.live i)
+step_text spec roll (steps.Lead k) did = lead_text k (leads_in did)
+step_text spec roll (steps.Stop k) did = line_of (codes "stop" ∷ controller_name k ∷ [])
+step_text spec roll (steps.Start k) did = line_of (codes "start" ∷ controller_name k ∷ [])
 
 -- what became of a proposal, with the proposal behind it
 abbrev pub placed_words : Spec → Placed → List (List ℕ)
@@ -198,33 +212,37 @@ placed_words spec placings.Illegal = codes "  illegal" ∷ []
 placed_words spec (placings.OverBound count bound) = codes "  bound" ∷ decimal count ∷ codes "of" ∷ decimal bound ∷ []
 placed_words spec (placings.OverThrottle rule load limit) = codes "  throttle" ∷ decimal rule ∷ decimal load ∷ codes "of" ∷ decimal limit ∷ []
 
-abbrev pub proposal_words : Spec → List Resource → Proposal → List (List ℕ)
-proposal_words spec resources q = session_name q.session ∷ part_name spec resources q.part ∷ move_text spec q.from q.to ∷ []
+abbrev pub proposal_words : Spec → List ℕ → Proposal → List (List ℕ)
+proposal_words spec names q = session_name q.session ∷ part_in spec names q.part ∷ move_text spec q.from q.to ∷ []
 
-abbrev pub placed_line : Spec → List Resource → Proposal → Placed → List ℕ
-placed_line spec resources q answer = line_of (placed_words spec answer ++ proposal_words spec resources q)
+abbrev pub placed_line : Spec → List ℕ → Proposal → Placed → List ℕ
+placed_line spec names q answer = line_of (placed_words spec answer ++ proposal_words spec names q)
 
-abbrev pub placed_lines : Spec → List Resource → List Proposal → List Placed → List ℕ
-placed_lines spec resources [] answers = []
-placed_lines spec resources (q ∷ qs) [] = []
-placed_lines spec resources (q ∷ qs) (answer ∷ answers) = placed_line spec resources q answer ++ placed_lines spec resources qs answers
+abbrev pub placed_lines : Spec → List ℕ → List Proposal → List Placed → List ℕ
+placed_lines spec names [] answers = []
+placed_lines spec names (q ∷ qs) [] = []
+placed_lines spec names (q ∷ qs) (answer ∷ answers) = placed_line spec names q answer ++ placed_lines spec names qs answers
 
--- what an event adds to the log. The cluster is the one before it
+-- what an event adds to the log
+abbrev pub event_text : Spec → Roll → Event → List ℕ
+event_text spec roll (events.Admin step did) = step_text spec roll step did
+event_text spec roll (events.Line n) = line_of (codes "line" ∷ decimal n ∷ [])
+event_text spec roll (events.Begin k begun) = line_of (codes "begin" ∷ controller_name k ∷ epoch_name begun.epoch ∷ pass_name begun.pass ∷ [])
+event_text spec roll (events.Live k pass) = line_of (codes "live" ∷ controller_name k ∷ pass_name pass ∷ [])
+event_text spec roll (events.Mail k pass s) = line_of (codes "mail" ∷ controller_name k ∷ pass_name pass ∷ session_name s ∷ [])
+event_text spec roll (events.States k pass s) = line_of (codes "states" ∷ controller_name k ∷ pass_name pass ∷ session_name s ∷ [])
+event_text spec roll (events.Ideals k pass) = line_of (codes "ideals" ∷ controller_name k ∷ pass_name pass ∷ [])
+event_text spec roll (events.Dispatch k epoch pass proposals answer) =
+    line_of (codes "send" ∷ controller_name k ∷ epoch_name epoch ∷ pass_name pass ∷ []) ++ placed_lines spec roll.resources proposals answer.placed
+event_text spec roll (events.Post k epoch rows) = line_of (codes "post" ∷ controller_name k ∷ epoch_name epoch ∷ decimal (length rows) ∷ [])
+event_text spec roll (events.Fetch i s n) = line_of (codes "fetch" ∷ instance_name spec i ∷ or_dash session_name s ∷ decimal n ∷ [])
+event_text spec roll (events.Take s m) = line_of (codes "take" ∷ session_name s ∷ message_name m ∷ [])
+event_text spec roll (events.Write s m outcome) = line_of (codes "write" ∷ session_name s ∷ message_name m ∷ outcome_name outcome ∷ [])
+event_text spec roll (events.Ack s m) = line_of (codes "ack" ∷ session_name s ∷ message_name m ∷ [])
+
+-- the same from the cluster before the event
 abbrev pub entry_text : Spec → Cluster → Event → List ℕ
-entry_text spec c (events.Admin step did) = step_text spec c step did
-entry_text spec c (events.Line n) = line_of (codes "line" ∷ decimal n ∷ [])
-entry_text spec c (events.Begin k begun) = line_of (codes "begin" ∷ controller_name k ∷ epoch_name begun.epoch ∷ pass_name begun.pass ∷ [])
-entry_text spec c (events.Live k pass) = line_of (codes "live" ∷ controller_name k ∷ pass_name pass ∷ [])
-entry_text spec c (events.Mail k pass s) = line_of (codes "mail" ∷ controller_name k ∷ pass_name pass ∷ session_name s ∷ [])
-entry_text spec c (events.States k pass s) = line_of (codes "states" ∷ controller_name k ∷ pass_name pass ∷ session_name s ∷ [])
-entry_text spec c (events.Ideals k pass) = line_of (codes "ideals" ∷ controller_name k ∷ pass_name pass ∷ [])
-entry_text spec c (events.Dispatch k epoch pass proposals answer) =
-    line_of (codes "send" ∷ controller_name k ∷ epoch_name epoch ∷ pass_name pass ∷ []) ++ placed_lines spec c.resources proposals answer.placed
-entry_text spec c (events.Post k epoch rows) = line_of (codes "post" ∷ controller_name k ∷ epoch_name epoch ∷ decimal (length rows) ∷ [])
-entry_text spec c (events.Fetch i s n) = line_of (codes "fetch" ∷ instance_name spec i ∷ or_dash session_name s ∷ decimal n ∷ [])
-entry_text spec c (events.Take s m) = line_of (codes "take" ∷ session_name s ∷ message_name m ∷ [])
-entry_text spec c (events.Write s m outcome) = line_of (codes "write" ∷ session_name s ∷ message_name m ∷ outcome_name outcome ∷ [])
-entry_text spec c (events.Ack s m) = line_of (codes "ack" ∷ session_name s ∷ message_name m ∷ [])
+entry_text spec c e = event_text spec (roll_of c) e
 
 -- the log of events in order, from a cluster on
 abbrev pub log_text : Spec → Cluster → List Event → List ℕ

@@ -1,8 +1,20 @@
 //! Every text that the program prints.
 #![tactic(auto)]
 
+mod lines;
+mod log;
+mod names;
+mod roll;
+
 use hx_cluster::StepFault;
 use hx_ids::{ControllerId, Epoch, MsgId, SessionId, StateId};
+pub use lines::{Rest, Token, print_line, print_long_line, print_word, print_words};
+pub use log::print_event;
+pub use names::{
+    instance_name, mode_name, model_name, name_at, name_of_resource, outcome_name, resource_name,
+    state_name, word_name,
+};
+pub use roll::{Roll, instance_in, session_in};
 
 /// The next step of a controller's turn.
 #[derive(Clone, Copy, Debug, PartialEq, Eq)]

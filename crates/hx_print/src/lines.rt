@@ -1,0 +1,171 @@
+//! Lines, printed word by word.
+ghost use Rattle.std.specs.Prelude.{◌≡◌, ◌∷◌, ◌++◌, map, codes};
+ghost use Rattle.hx_text.specs.Texts.{Prints};
+ghost use Rattle.hx_print.specs.Texts.{spaced, line_of, instance_name, pair_name, is_holder, holder_names};
+ghost use Rattle.hx_print.specs.Tokens.{token_word, words_of, rest_words};
+
+use crate::names::{instance_name, state_name};
+use hx_cluster::Spec;
+use hx_ids::{
+    ControllerId, Epoch, InstanceId, MsgId, PartId, PassNo, ResourceId, SessionId, StateId,
+};
+use hx_text::{Page, Piece};
+use std::alloc::AllocError;
+
+/// A word of a line.
+#[derive(Clone, Copy, Debug)]
+pub enum Token<'a> {
+    Text(&'a str),
+    Number(u64),
+    Controller(ControllerId),
+    Session(SessionId),
+    Message(MsgId),
+    Epoch(Epoch),
+    Pass(PassNo),
+    /// A resource by its name and number.
+    Resource(&'a str, ResourceId),
+    /// A part by its resource's name, and its numbers.
+    Part(&'a str, PartId),
+    /// Two names with a sign between.
+    Pair(&'a str, &'a str, &'a str),
+}
+
+/// The words at the end of a line, of which there may be any number.
+#[derive(Clone, Copy, Debug)]
+pub enum Rest<'a> {
+    Instances(&'a [InstanceId]),
+    /// Instances with states, and a sign between.
+    Pairs(&'a str, &'a [(InstanceId, StateId)]),
+    /// The instances of those of the shown sessions that are among the holders.
+    Holders(&'a [(SessionId, InstanceId)], &'a [SessionId]),
+}
+
+/// Prints a word, with a space before it.
+pub fn print_word(word: &Token, page: &mut Page) -> Result<(), AllocError>
+    ensures { Prints (codes " " ++ token_word word.now) page.old result page.new }
+{
+    let space = Piece::Text(" ");
+    match word {
+        Token::Text(text) => page.push_all(&[space, Piece::Text(text)]),
+        Token::Number(n) => page.push_all(&[space, Piece::Number(*n)]),
+        Token::Controller(k) => page.push_all(&[Piece::Text(" c"), Piece::Number(k.0 as u64 + 1)]),
+        Token::Session(s) => page.push_all(&[Piece::Text(" s"), Piece::Number(s.0)]),
+        Token::Message(m) => page.push_all(&[Piece::Text(" m"), Piece::Number(m.0)]),
+        Token::Epoch(e) => page.push_all(&[Piece::Text(" e"), Piece::Number(e.0)]),
+        Token::Pass(p) => page.push_all(&[Piece::Text(" p"), Piece::Number(p.0)]),
+        Token::Resource(name, r) => page.push_all(&[
+            space,
+            Piece::Text(name),
+            Piece::Text("#"),
+            Piece::Number(r.0 as u64),
+        ]),
+        Token::Part(name, p) => page.push_all(&[
+            space,
+            Piece::Text(name),
+            Piece::Text("#"),
+            Piece::Number(p.resource.0 as u64),
+            Piece::Text("/"),
+            Piece::Number(p.index as u64),
+        ]),
+        Token::Pair(a, sign, b) => {
+            page.push_all(&[space, Piece::Text(a), Piece::Text(sign), Piece::Text(b)])
+        }
+    }
+}
+
+/// Prints words, each with a space before it.
+pub fn print_words(words: &[Token], page: &mut Page) -> Result<(), AllocError>
+    ensures { Prints (spaced (words_of words.now)) page.old result page.new }
+{
+    for word in words {
+        print_word(word, page)?;
+    }
+    Ok(())
+}
+
+/// Prints a line: its first word, and the others.
+pub fn print_line(first: &str, others: &[Token], page: &mut Page) -> Result<(), AllocError>
+    ensures { Prints (line_of (first.now ∷ words_of others.now)) page.old result page.new }
+{
+    page.push_str(first)?;
+    print_words(others, page)?;
+    page.push_str("\n")
+}
+
+/// Prints the names of instances, each with a space before it.
+fn print_instances(list: &[InstanceId], spec: &Spec, page: &mut Page) -> Result<(), AllocError>
+    ensures { Prints (spaced (map (instance_name spec.now) list.now)) page.old result page.new }
+{
+    for instance in list {
+        print_word(&Token::Text(instance_name(spec, *instance)), page)?;
+    }
+    Ok(())
+}
+
+/// Prints instances with states, each with a space before it.
+fn print_pairs(
+    sign: &str,
+    entries: &[(InstanceId, StateId)],
+    spec: &Spec,
+    page: &mut Page,
+) -> Result<(), AllocError>
+    ensures { Prints (spaced (map (pair_name spec.now sign.now) entries.now)) page.old result page.new }
+{
+    for entry in entries {
+        let instance = instance_name(spec, entry.0);
+        let state = state_name(spec, entry.1);
+        print_word(&Token::Pair(instance, sign, state), page)?;
+    }
+    Ok(())
+}
+
+/// Whether a shown session is among the holders.
+fn is_holder(holders: &[SessionId], shown: (SessionId, InstanceId)) -> bool
+    ensures { result ≡ is_holder holders.now shown }
+{
+    holders.iter().any(|s| *s == shown.0)
+}
+
+/// Prints the instances of those of the shown sessions that are among the holders.
+fn print_holders(
+    shown: &[(SessionId, InstanceId)],
+    holders: &[SessionId],
+    spec: &Spec,
+    page: &mut Page,
+) -> Result<(), AllocError>
+    ensures { Prints (spaced (holder_names spec.now shown.now holders.now)) page.old result page.new }
+{
+    for entry in shown {
+        if is_holder(holders, *entry) {
+            print_word(&Token::Text(instance_name(spec, entry.1)), page)?;
+        }
+    }
+    Ok(())
+}
+
+/// Prints the words at the end of a line.
+fn print_rest(rest: &Rest, spec: &Spec, page: &mut Page) -> Result<(), AllocError>
+    ensures { Prints (spaced (rest_words spec.now rest.now)) page.old result page.new }
+{
+    match rest {
+        Rest::Instances(list) => print_instances(list, spec, page),
+        Rest::Pairs(sign, entries) => print_pairs(sign, entries, spec, page),
+        Rest::Holders(shown, holders) => print_holders(shown, holders, spec, page),
+    }
+}
+
+/// Prints a line that ends with any number of words.
+pub fn print_long_line(
+    first: &str,
+    words: &[Token],
+    rest: &Rest,
+    spec: &Spec,
+    page: &mut Page,
+) -> Result<(), AllocError>
+    ensures { Prints (line_of (first.now ∷ (words_of words.now ++ rest_words spec.now rest.now))) page.old result page.new }
+{
+    page.push_str(first)?;
+    print_words(words, page)?;
+    print_rest(rest, spec, page)?;
+    page.push_str("\n")
+}
