@@ -110,8 +110,11 @@ part_of_name name p = numbered name p.resource ++ codes "/" ++ decimal p.index
 abbrev pub part_in : Spec → List ℕ → PartId → List ℕ
 part_in spec names p = part_of_name (name_of_resource spec names p.resource) p
 
+abbrev pub resource_name : Spec → List Resource → ResourceId → List ℕ
+resource_name spec resources r = name_of_resource spec (names_of resources) r
+
 abbrev pub part_name : Spec → List Resource → PartId → List ℕ
-part_name spec resources p = part_in spec (names_of resources) p
+part_name spec resources p = part_of_name (resource_name spec resources p.resource) p
 
 abbrev pub move_text : Spec → StateId → StateId → List ℕ
 move_text spec from to = state_name spec from ++ codes ">" ++ state_name spec to
@@ -330,9 +333,12 @@ settle_text k n = line_of (codes "?" ∷ codes "settle" ∷ controller_name k �
 abbrev pub accept_text : Spec → InstanceId → MsgId → List ℕ
 accept_text spec i m = line_of (codes "?" ∷ instance_name spec i ∷ codes "accept" ∷ message_name m ∷ [])
 
--- a replica in ERROR that nobody asked to leave it
+-- a replica in ERROR that nobody asked to leave it; first with the name of the part's resource
+abbrev pub failed_line : Spec → List ℕ → InstanceId → PartId → List ℕ
+failed_line spec name i p = line_of (codes "?" ∷ codes "failed" ∷ instance_name spec i ∷ part_of_name name p ∷ [])
+
 abbrev pub failed_text : Spec → List Resource → InstanceId → PartId → List ℕ
-failed_text spec resources i p = line_of (codes "?" ∷ codes "failed" ∷ instance_name spec i ∷ part_name spec resources p ∷ [])
+failed_text spec resources i p = failed_line spec (resource_name spec resources p.resource) i p
 
 -- a replica that is kept from a state because others have it: they stand as they were shown, by instance
 abbrev pub is_holder : List SessionId → SessionId × InstanceId → Bool
@@ -341,11 +347,14 @@ is_holder holders e = list_any (λ s. s.0 == e.0.0) holders
 abbrev pub holder_names : Spec → List (SessionId × InstanceId) → List SessionId → List (List ℕ)
 holder_names spec shown holders = map (λ e. instance_name spec e.1) (filter (is_holder holders) shown)
 
-abbrev pub full_text : Spec → List Resource → List (SessionId × InstanceId) → Full → List ℕ
-full_text spec resources shown full =
-    line_of (codes "?" ∷ codes "full" ∷ instance_name spec full.candidate.instance ∷ part_name spec resources full.candidate.part
+abbrev pub full_line : Spec → List ℕ → List (SessionId × InstanceId) → Full → List ℕ
+full_line spec name shown full =
+    line_of (codes "?" ∷ codes "full" ∷ instance_name spec full.candidate.instance ∷ part_of_name name full.candidate.part
     ∷ move_text spec full.candidate.from full.candidate.to ∷ decimal full.count ∷ codes "of" ∷ decimal full.bound
     ∷ holder_names spec shown full.holders)
+
+abbrev pub full_text : Spec → List Resource → List (SessionId × InstanceId) → Full → List ℕ
+full_text spec resources shown full = full_line spec (resource_name spec resources full.candidate.part.resource) shown full
 
 -- words, or `-` where there are none
 abbrev pub words_or_dash : List (List ℕ) → List (List ℕ)
@@ -353,8 +362,11 @@ words_or_dash [] = codes "-" ∷ []
 words_or_dash (w ∷ ws) = w ∷ ws
 
 -- the view of one part: who has a row of it, by instance
+abbrev pub seen_line : Spec → List ℕ → PartId → List (InstanceId × StateId) → List ℕ
+seen_line spec name p holders = line_of (codes "=" ∷ part_of_name name p ∷ words_or_dash (map (seen_name spec) holders))
+
 abbrev pub view_line : Spec → List Resource → PartId → List (InstanceId × StateId) → List ℕ
-view_line spec resources p holders = line_of (codes "=" ∷ part_name spec resources p ∷ words_or_dash (map (seen_name spec) holders))
+view_line spec resources p holders = seen_line spec (resource_name spec resources p.resource) p holders
 
 abbrev pub row_seen : List Row → PartId → SessionId × InstanceId → Option (InstanceId × StateId)
 row_seen rows p e = option_map (λ t. (e.1, t)) (state_of rows e.0 p)
@@ -384,9 +396,12 @@ abbrev pub view_text : Spec → Cluster → List ℕ
 view_text spec c = concat (view_lines spec c)
 
 -- the instances in a state of a part
+abbrev pub route_line : Spec → List ℕ → PartId → StateId → List InstanceId → List ℕ
+route_line spec name p state instances =
+    line_of (codes "=" ∷ codes "route" ∷ part_of_name name p ∷ state_name spec state ∷ words_or_dash (map (instance_name spec) instances))
+
 abbrev pub route_text : Spec → List Resource → PartId → StateId → List InstanceId → List ℕ
-route_text spec resources p state instances =
-    line_of (codes "=" ∷ codes "route" ∷ part_name spec resources p ∷ state_name spec state ∷ words_or_dash (map (instance_name spec) instances))
+route_text spec resources p state instances = route_line spec (resource_name spec resources p.resource) p state instances
 
 -- messages sent, writes by outcome, joins, and sessions that ended
 abbrev pub summary_text : ℕ → ℕ → ℕ → ℕ → ℕ → List ℕ

@@ -4,6 +4,8 @@
 mod lines;
 mod log;
 mod names;
+mod notes;
+mod outcomes;
 mod roll;
 
 use hx_cluster::StepFault;
@@ -13,6 +15,11 @@ pub use log::print_event;
 pub use names::{
     instance_name, mode_name, model_name, name_at, name_of_resource, outcome_name, resource_name,
     state_name, word_name,
+};
+pub use notes::print_note;
+pub use outcomes::{
+    print_accept, print_failed, print_full, print_history_full, print_moved, print_route,
+    print_seen, print_sent, print_settle, print_settled, print_summary, print_waiting,
 };
 pub use roll::{Roll, instance_in, session_in};
 

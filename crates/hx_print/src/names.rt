@@ -1,6 +1,6 @@
 //! The names in texts. A number without a name has the empty one.
 ghost use Rattle.std.specs.Prelude.{◌≡◌, [], ◌∷◌, ℕ, codes};
-ghost use Rattle.hx_print.specs.Texts.{name_at, instance_name, state_name, model_name, mode_name, outcome_name, or_dash, session_name, controller_name, names_of, name_of_resource, word_name};
+ghost use Rattle.hx_print.specs.Texts.{name_at, instance_name, state_name, model_name, mode_name, outcome_name, or_dash, session_name, controller_name, name_of_resource, resource_name, word_name};
 ghost use Rattle.hx_print.specs.Tokens.{token_word};
 
 use crate::Word;
@@ -53,7 +53,7 @@ pub fn name_of_resource<'a>(spec: &'a Spec, names: &[u32], resource: ResourceId)
 
 /// The name of a resource, from the resources by number.
 pub fn resource_name<'a>(spec: &'a Spec, resources: &[Resource], resource: ResourceId) -> &'a str
-    ensures { result.now ≡ name_of_resource spec.now (names_of resources.now) resource }
+    ensures { result.now ≡ resource_name spec.now resources.now resource }
 {
     match resources.get(resource.0 as usize) {
         Some(found) => name_at(&spec.resource_names, found.name),
