@@ -1,2 +1,4 @@
 pub mod Newest
 pub mod Shown
+pub mod Inserting
+pub mod Placing

@@ -2,11 +2,15 @@
 #![tactic(auto)]
 
 mod description;
+mod dispatch;
 mod ends;
 mod happenings;
 mod opening;
 mod planning;
 mod readers;
+mod reads;
+mod runs;
+mod steps;
 mod state;
 
 pub use description::{Failure, Resource, Rule, Scope, Spec};
@@ -14,10 +18,12 @@ pub use happenings::{
     Admin, Begun, Did, Dispatched, Event, History, Mail, Outcome, Placed, Proposal, Seen, StepFault,
 };
 pub use hx_ids::Live;
+pub use dispatch::{dispatch_on, place_all_on, place_on};
 pub use ends::{count_on, has_end};
 pub use opening::{copied_models, copied_resources};
 pub use planning::{
     Candidate, Entry, Finding, Full, Held, Ideals, Plan, Report, Selection, Target, Throttled, View,
 };
 pub use readers::state_on;
+pub use runs::write_on;
 pub use state::{Cluster, Message, Row};
