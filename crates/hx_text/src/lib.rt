@@ -6,7 +6,7 @@ mod line_table;
 mod pages;
 mod spellings;
 
-pub use line_ends::{Input, cut, words};
+pub use line_ends::{Input, cut, split_line, words};
 pub use line_table::{Lines, TextFault, split_lines};
 pub use pages::{Page, Piece};
 pub use spellings::{is_name, read_u64};

@@ -37,7 +37,7 @@ fn find_line_feed(bytes: &[u8]) -> Option<usize>
 }
 
 /// The first line, and what stands behind its end.
-pub(crate) fn split_line(bytes: &[u8]) -> (&[u8], &[u8])
+pub fn split_line(bytes: &[u8]) -> (&[u8], &[u8])
     ensures line { result.0.now ≡ first_line bytes.now }
     ensures rest { result.1.now ≡ after_line bytes.now }
 {
