@@ -9,7 +9,7 @@ use Rattle.hx_ids.specs.declared.InstanceId.{InstanceId}
 use Rattle.hx_ids.specs.declared.PartId.{PartId}
 use Rattle.hx_cluster.specs.declared.happenings.Proposal.{Proposal}
 use Rattle.hx_cluster.specs.declared.planning.View.{View}
-use Rattle.hx_cluster.specs.Ends.{session_in, state_of, message_of, count_over}
+use Rattle.hx_cluster.specs.Ends.{session_in, state_of, message_of, has_end}
 use Rattle.hx_app.specs.Demo.{dropped, offline, online, instances_of}
 
 -- the preference list of a part, and how many replicas it has
@@ -60,8 +60,11 @@ abbrev pub proposals_to : View → StateId → ℕ → List Proposal
 proposals_to view goal index = filter_map (proposal_on view goal index) (preferences index)
 
 -- how many more may go online
+abbrev pub count_online : View → PartId → ℕ
+count_online view p = count (λ e. has_end view.rows view.mail p online e.0) view.live
+
 abbrev pub room_online : View → ℕ → ℕ
-room_online view index = replicas - count_over (map (λ e. e.0) view.live) view.rows view.mail (part_at index) online
+room_online view index = replicas - count_online view (part_at index)
 
 -- a part's proposals in rank order: as many online as there is room for, then offline, then out
 abbrev pub part_proposals : View → ℕ → List Proposal

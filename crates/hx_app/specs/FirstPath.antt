@@ -26,7 +26,7 @@ use Rattle.hx_cluster.specs.Ends.{part_before, part_eq, instance_in}
 use Rattle.hx_cluster.specs.Steps.{refusal_of, did_of, is_leader}
 use Rattle.hx_cluster.specs.Reads.{live_shown, mail_shown, states_shown, ideals_shown, fetched}
 use Rattle.hx_cluster.specs.Messages.{next_pass}
-use Rattle.hx_cluster.specs.Events.{next, begun_of, dispatched_of}
+use Rattle.hx_cluster.specs.Events.{next, begun_of, dispatched_of, can_take, can_write, can_ack}
 use Rattle.hx_print.specs.declared.Note.TheVariants as notes
 use Rattle.hx_print.specs.Texts.{entry_text, note_text, sent_text, waiting_text, settled_text, view_text}
 use Rattle.hx_script.specs.declared.What.{What}
@@ -113,14 +113,31 @@ pass_items spec c n k =
     if is_leader k c.leader then Happens (events.Begin k (begun_of c k)) ∷ turn_items (next_pass c k) k (begun_of c k)
     else Says (note_text spec n (notes.NotLeader c.leader)) ∷ []
 
--- work: each message fetched is taken, written and acknowledged
-abbrev pub run_items : Message → List Item
-run_items m =
-    Happens (events.Take m.session m.id) ∷ Happens (events.Write m.session m.id outcomes.Ok) ∷ Happens (events.Ack m.session m.id) ∷ []
+-- a message that may be taken is taken; its transition is written and acknowledged
+abbrev pub ack_items : Cluster → Message → List Item
+ack_items c m = if can_ack c m.session m.id then Happens (events.Ack m.session m.id) ∷ [] else []
+
+abbrev pub write_items : Cluster → Message → List Item
+write_items c m =
+    if can_write c m.session m.id
+    then Happens (events.Write m.session m.id outcomes.Ok) ∷ ack_items (next c (events.Write m.session m.id outcomes.Ok)) m
+    else []
+
+abbrev pub take_items : Cluster → Message → List Item
+take_items c m =
+    if can_take c m.session m.id
+    then Happens (events.Take m.session m.id) ∷ write_items (next c (events.Take m.session m.id)) m
+    else []
+
+-- work: all messages that are fetched
+abbrev pub run_items : Cluster → List Message → List Item
+run_items c [] = []
+run_items c (m ∷ ms) = take_items c m ++ run_items (cluster_after c (take_items c m)) ms
 
 abbrev pub work_items : Cluster → InstanceId → List Item
 work_items c i =
-    Happens (events.Fetch i (fetched c i).session (length (fetched c i).messages)) ∷ flat_map run_items (fetched c i).messages
+    Happens (events.Fetch i (fetched c i).session (length (fetched c i).messages))
+    ∷ run_items c (fetched c i).messages
 
 -- what a word does
 abbrev pub what_items : Spec → Cluster → ℕ → What → List Item

@@ -24,6 +24,6 @@ pub use opening::{copied_models, copied_resources};
 pub use planning::{
     Candidate, Entry, Finding, Full, Held, Ideals, Plan, Report, Selection, Target, Throttled, View,
 };
-pub use readers::state_on;
+pub use readers::{message_on, state_on};
 pub use runs::write_on;
 pub use state::{Cluster, Message, Row};
