@@ -1,3 +1,4 @@
 mod Empty
 mod OneInstance
 pub mod Asked
+pub mod Items

@@ -1,11 +1,13 @@
 -- What the lines of a script do to the demo cluster, and what they print.
 use Rattle.std.specs.Prelude.{ℕ, ◌+◌, Bool, true, false, ◌&&◌, ◌||◌, List, [], ◌∷◌, ◌++◌, map, length, Option, None, Some, if◌then◌else◌, nat_lt}
-use Rattle.std.specs.List.{flat_map}
-use Rattle.hx_lists.specs.Lists.{count, sort_by}
+use Rattle.std.specs.List.{flat_map, filter_map}
+use Rattle.std.specs.Option.{option_map}
+use Rattle.hx_lists.specs.Lists.{count}
 use Rattle.hx_ids.specs.declared.ControllerId.{ControllerId}
 use Rattle.hx_ids.specs.declared.InstanceId.{InstanceId}
 use Rattle.hx_ids.specs.declared.SessionId.{SessionId}
 use Rattle.hx_ids.specs.declared.PassNo.{PassNo}
+use Rattle.hx_ids.specs.declared.PartId.{PartId}
 use Rattle.hx_cluster.specs.declared.description.Spec.{Spec}
 use Rattle.hx_cluster.specs.declared.state.Message.{Message}
 use Rattle.hx_cluster.specs.declared.state.Row.{Row}
@@ -22,7 +24,7 @@ use Rattle.hx_cluster.specs.declared.happenings.Seen.{Seen}
 use Rattle.hx_cluster.specs.declared.happenings.StepFault.{StepFault}
 use Rattle.hx_cluster.specs.declared.happenings.Event.{Event}
 use Rattle.hx_cluster.specs.declared.happenings.Event.TheVariants as events
-use Rattle.hx_cluster.specs.Ends.{part_before, part_eq, instance_in}
+use Rattle.hx_cluster.specs.Ends.{state_of}
 use Rattle.hx_cluster.specs.Steps.{refusal_of, did_of, is_leader}
 use Rattle.hx_cluster.specs.Reads.{live_shown, mail_shown, states_shown, ideals_shown, fetched}
 use Rattle.hx_cluster.specs.Messages.{next_pass}
@@ -32,7 +34,7 @@ use Rattle.hx_print.specs.Texts.{entry_text, note_text, sent_text, waiting_text,
 use Rattle.hx_script.specs.declared.What.{What}
 use Rattle.hx_script.specs.declared.What.TheVariants as asks
 use Rattle.hx_script.specs.declared.Line.{Line}
-use Rattle.hx_app.specs.DemoPlan.{demo_proposals}
+use Rattle.hx_app.specs.DemoPlan.{demo_proposals, part_at}
 
 -- what a line brings, in order: events, and lines that are no log lines
 pub data Item : Type 0 where
@@ -73,14 +75,14 @@ reads k pass live =
     events.Live k pass ∷ map (λ e. events.Mail k pass e.0) live ++ map (λ e. events.States k pass e.0) live ++ events.Ideals k pass ∷ []
 
 -- the rows that it posts: by part, then instance
-abbrev pub seen_before : Seen → Seen → Bool
-seen_before a b = part_before a.part b.part || (part_eq a.part b.part && nat_lt a.instance.0 b.instance.0)
+abbrev pub seen_at : List Row → PartId → SessionId × InstanceId → Option Seen
+seen_at rows p e = option_map (λ t. record { instance = e.1; part = p; state = t }) (state_of rows e.0 p)
 
-abbrev pub seen_of : InstanceId → Row → Seen
-seen_of i r = record { instance = i; part = r.part; state = r.state }
+abbrev pub seen_of_part : Cluster → PartId → List Seen
+seen_of_part c p = filter_map (seen_at c.rows p) (live_shown c)
 
 abbrev pub seen_now : Cluster → List Seen
-seen_now c = sort_by seen_before (flat_map (λ e. map (seen_of e.1) (states_shown c e.0)) (live_shown c))
+seen_now c = seen_of_part c (part_at 0) ++ seen_of_part c (part_at 1)
 
 -- how its dispatch ended
 abbrev pub is_sent : Placed → Bool
@@ -93,20 +95,23 @@ is_sent placings.Illegal = false
 is_sent (placings.OverBound n bound) = false
 is_sent (placings.OverThrottle rule load limit) = false
 
-abbrev pub outcome_text : ControllerId → List Proposal → List Placed → List Message → List ℕ
-outcome_text k proposals placed mail =
-    if nat_lt 0 (length proposals) then sent_text k (count is_sent placed)
-    else if nat_lt 0 (length mail) then waiting_text k (length mail)
+abbrev pub outcome_text : ControllerId → ℕ → ℕ → ℕ → List ℕ
+outcome_text k proposals sent pending =
+    if nat_lt 0 proposals then sent_text k sent
+    else if nat_lt 0 pending then waiting_text k pending
     else settled_text k
 
 -- a whole turn: begin, the reads, the dispatch and its outcome, the post. The cluster is the one after begin
+abbrev pub dispatch_items : Cluster → ControllerId → Begun → List Proposal → ℕ → List Seen → List Item
+dispatch_items c k begun proposals pending rows =
+    Happens (events.Dispatch k begun.epoch begun.pass proposals (dispatched_of c k proposals))
+    ∷ Says (outcome_text k (length proposals) (count is_sent (dispatched_of c k proposals).placed) pending)
+    ∷ Happens (events.Post k begun.epoch rows)
+    ∷ []
+
 abbrev pub turn_items : Cluster → ControllerId → Begun → List Item
 turn_items c k begun =
-    map Happens (reads k begun.pass (live_shown c))
-    ++ Happens (events.Dispatch k begun.epoch begun.pass (demo_proposals (view_now c)) (dispatched_of c k (demo_proposals (view_now c))))
-    ∷ Says (outcome_text k (demo_proposals (view_now c)) (dispatched_of c k (demo_proposals (view_now c))).placed (view_now c).mail)
-    ∷ Happens (events.Post k begun.epoch (seen_now c))
-    ∷ []
+    map Happens (reads k begun.pass (live_shown c)) ++ dispatch_items c k begun (demo_proposals (view_now c)) (length (view_now c).mail) (seen_now c)
 
 abbrev pub pass_items : Spec → Cluster → ℕ → ControllerId → List Item
 pass_items spec c n k =

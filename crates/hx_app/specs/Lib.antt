@@ -6,3 +6,4 @@ pub mod Answers
 pub mod Runs
 pub mod Refusals
 pub mod Writes
+pub mod Brings

@@ -122,7 +122,8 @@ fn proposal_of(
     proposal_to(goal, session, part, from, step_from(from, wanted))
 }
 
-fn part_at(index: u32) -> PartId
+/// A part of the demo's resource.
+pub(crate) fn part_at(index: u32) -> PartId
     ensures { result ≡ part_at index }
 {
     PartId {

@@ -4,6 +4,7 @@
 mod demo_plan;
 mod input;
 mod program;
+mod script;
 mod world;
 
 pub use program::{RunMode, Status, Task, run, run_script};

@@ -5,7 +5,7 @@ ghost use Rattle.hx_app.specs.Runs.{Runs, RefusesWords};
 ghost use Rattle.hx_app.specs.Writes.{Writes, AnswersAs};
 
 use crate::input::{Refused, demo_script, script_lines};
-use crate::world::script_page;
+use crate::script::script_page;
 use hx_io::{ReadFault, Sink, Source, read_all, write_all};
 use hx_text::{Page, Piece};
 use std::alloc::{AllocError, Global};
