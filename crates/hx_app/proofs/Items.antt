@@ -1,6 +1,7 @@
 -- What lines bring, item by item.
 use Rattle.std.proofs.Common.{◌≡◌, ℕ, ◌+◌, Bool, true, false, ◌&&◌, List, [], ◌∷◌, ◌++◌, map, length, get_or, drop, Option, None, Some, refl, sym, ap, subst, ◌∙◌, append_assoc, add-one, drop-cons, arith}
 use Rattle.std.proofs.Common.{◌<◌}
+use Rattle.std.specs.Prelude.{Result, Ok, Err, OnOk}
 use Rattle.std.specs.List.{flat_map, list_all}
 use Rattle.hx_lists.specs.Lists.{count}
 use Rattle.std.proofs.lemmas.List.{append-nil}
@@ -16,12 +17,14 @@ use Rattle.hx_cluster.specs.declared.happenings.Proposal.{Proposal}
 use Rattle.hx_cluster.specs.declared.happenings.Seen.{Seen}
 use Rattle.hx_cluster.specs.declared.happenings.Event.{Event}
 use Rattle.hx_cluster.specs.declared.happenings.Event.TheVariants as events
+use Rattle.hx_cluster.specs.Steps.{is_leader}
+use Rattle.hx_cluster.specs.Messages.{next_pass}
 use Rattle.hx_cluster.specs.Reads.{live_shown}
-use Rattle.hx_cluster.specs.Events.{next, dispatched_of}
+use Rattle.hx_cluster.specs.Events.{next, begun_of, dispatched_of}
 use Rattle.hx_print.specs.Texts.{entry_text}
 use Rattle.hx_app.specs.DemoPlan.{demo_proposals}
 use Rattle.hx_app.specs.Brings.{Brings}
-use Rattle.hx_app.specs.FirstPath.{Item, Happens, Says, cluster_after, items_text, reads, view_now, seen_now, is_sent, outcome_text, dispatch_items, turn_items}
+use Rattle.hx_app.specs.FirstPath.{Item, Happens, Says, cluster_after, items_text, reads, view_now, seen_now, is_sent, outcome_text, dispatch_items, turn_items, pass_items}
 
 -- one list of items behind another
 pub items_text-append : (spec : Spec) (c : Cluster) (is js : List Item) → items_text spec c (is ++ js) ≡ items_text spec c is ++ items_text spec (cluster_after c is) js
@@ -101,18 +104,29 @@ brings_reads spec (e ∷ es) c p q all is =
           ∙ ap (λ (d : Cluster). p ++ (entry_text spec c e ++ items_text spec d (map Happens es))) (sym same);
     }
 
-mail_reads : (k : ControllerId) (pass : PassNo) (live : List (SessionId × InstanceId)) (rest : List Event) → list_all is_read rest ≡ true → list_all is_read (map (λ e. events.Mail k pass e.0) live ++ rest) ≡ true
-mail_reads k pass [] rest h = h
-mail_reads k pass (e ∷ live) rest h = mail_reads k pass live rest h
+and_true : (a b : Bool) → a ≡ true → b ≡ true → (a && b) ≡ true
+and_true true b h k = k
+and_true false b h k = h
 
-states_reads : (k : ControllerId) (pass : PassNo) (live : List (SessionId × InstanceId)) (rest : List Event) → list_all is_read rest ≡ true → list_all is_read (map (λ e. events.States k pass e.0) live ++ rest) ≡ true
-states_reads k pass [] rest h = h
-states_reads k pass (e ∷ live) rest h = states_reads k pass live rest h
+all_append : {X : Type 0} (p : X → Bool) (xs ys : List X) → list_all p xs ≡ true → list_all p ys ≡ true → list_all p (xs ++ ys) ≡ true
+all_append p [] ys h k = k
+all_append p (x ∷ xs) ys h k =
+    let both = both_true (p x) (list_all p xs) h in and_true (p x) (list_all p (xs ++ ys)) both.0 (all_append p xs ys both.1 k)
+
+mail_reads : (k : ControllerId) (pass : PassNo) (live : List (SessionId × InstanceId)) → list_all is_read (map (λ e. events.Mail k pass e.0) live) ≡ true
+mail_reads k pass [] = refl
+mail_reads k pass (e ∷ live) = mail_reads k pass live
+
+states_reads : (k : ControllerId) (pass : PassNo) (live : List (SessionId × InstanceId)) → list_all is_read (map (λ e. events.States k pass e.0) live) ≡ true
+states_reads k pass [] = refl
+states_reads k pass (e ∷ live) = states_reads k pass live
 
 -- those of a turn are reads
 pub turn_reads : (k : ControllerId) (pass : PassNo) (live : List (SessionId × InstanceId)) → list_all is_read (reads k pass live) ≡ true
 turn_reads k pass live =
-    rw append_assoc (mail_reads k pass live (map (λ e. events.States k pass e.0) live ++ events.Ideals k pass ∷ []) (states_reads k pass live (events.Ideals k pass ∷ []) refl))
+    let mails : List Event = map (λ e. events.Mail k pass e.0) live in
+    let states : List Event = map (λ e. events.States k pass e.0) live in
+    all_append is_read ((events.Live k pass ∷ mails) ++ states) (events.Ideals k pass ∷ []) (all_append is_read (events.Live k pass ∷ mails) states (mail_reads k pass live) (states_reads k pass live)) refl
 
 -- a whole turn, from what each of its steps brings
 pub record IsTurn (spec : Spec) (c c1 c2 : Cluster) (k : ControllerId) (begun : Begun) (page p1 p2 p3 p4 : List ℕ) (view : View) (evs : List Event) (proposals : List Proposal) (rows : List Seen) (sent : ℕ) : Type 0 where
@@ -147,3 +161,24 @@ turn_brings spec c c1 c2 k begun page p1 p2 p3 p4 view evs proposals rows sent t
     ∙ ap (λ (v : View). map Happens evs ++ dispatch_items c k begun (demo_proposals v) (length v.mail) (seen_now c)) t.view_is
     ∙ ap (λ es. map Happens es ++ dispatch_items c k begun (demo_proposals (view_now c)) (length (view_now c).mail) (seen_now c)) evs_are)
     whole
+
+-- what follows from an Ok
+pub ok_then : {T E P Q : Type 0} (r : Result T E) → (P → Q) → OnOk r P → OnOk r Q
+ok_then (Ok x) f h = f h
+ok_then (Err e) f h = h
+
+-- a pass that a leader makes
+pub pass_brings : (spec : Spec) (c c1 c2 : Cluster) (n : ℕ) (k : ControllerId) (begun : Begun) (page p1 p2 : List ℕ) → is_leader k c.leader ≡ true → begun ≡ begun_of c k → c1 ≡ next_pass c k
+    → p1 ≡ page ++ entry_text spec c (events.Begin k begun) → Brings spec (turn_items c1 k begun) c1 c2 p1 p2 → Brings spec (pass_items spec c n k) c c2 page p2
+pass_brings spec c c1 c2 n k begun page p1 p2 leads begun_is c1_is p1_is b =
+    let P : List Item → Type 0 = λ is. Brings spec is c c2 page p2 in
+    let whole : Brings spec (Happens (events.Begin k begun) ∷ turn_items c1 k begun) c c2 page p2 = record {
+      cluster = b.cluster ∙ ap (λ (d : Cluster). cluster_after d (turn_items c1 k begun)) c1_is;
+      text =
+          b.text
+          ∙ ap (λ t. t ++ items_text spec c1 (turn_items c1 k begun)) p1_is
+          ∙ append_assoc page (entry_text spec c (events.Begin k begun)) (items_text spec c1 (turn_items c1 k begun))
+          ∙ ap (λ (d : Cluster). page ++ (entry_text spec c (events.Begin k begun) ++ items_text spec d (turn_items c1 k begun))) c1_is;
+    } in
+    let turned = subst P (ap (λ (d : Cluster). Happens (events.Begin k begun) ∷ turn_items d k begun) c1_is ∙ ap (λ (b : Begun). Happens (events.Begin k b) ∷ turn_items (next_pass c k) k b) begun_is) whole in
+    rw leads turned

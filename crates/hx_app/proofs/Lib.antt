@@ -2,3 +2,4 @@ mod Empty
 mod OneInstance
 pub mod Asked
 pub mod Items
+pub mod Kept

@@ -1,6 +1,7 @@
 //! The program: from the bytes of a source to the bytes of a sink.
 #![tactic(auto)]
 
+mod demo;
 mod demo_plan;
 mod input;
 mod program;

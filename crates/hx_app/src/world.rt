@@ -69,7 +69,7 @@ fn roll_of(alloc: Global, cluster: &Cluster) -> Result<Roll, AllocError>
 }
 
 /// Prints an event, given the cluster before it.
-fn print(
+pub(crate) fn print(
     alloc: Global,
     spec: &Spec,
     cluster: &Cluster,
@@ -90,7 +90,7 @@ fn note(line: u32, note: &Note, spec: &Spec, page: &mut Page) -> Result<(), Allo
 }
 
 /// An instance joins.
-fn join(
+pub(crate) fn join(
     alloc: Global,
     spec: &Spec,
     cluster: &mut Cluster,
@@ -112,7 +112,7 @@ fn join(
 }
 
 /// A controller asks to lead.
-fn lead(
+pub(crate) fn lead(
     alloc: Global,
     spec: &Spec,
     cluster: &mut Cluster,
@@ -374,7 +374,7 @@ fn turn(
 }
 
 /// A pass of a controller: a whole turn.
-fn pass(
+pub(crate) fn pass(
     alloc: Global,
     spec: &Spec,
     cluster: &mut Cluster,
@@ -472,7 +472,7 @@ fn run_all(
 }
 
 /// The work of an instance: it runs all messages that it fetches.
-fn work(
+pub(crate) fn work(
     alloc: Global,
     spec: &Spec,
     cluster: &mut Cluster,
