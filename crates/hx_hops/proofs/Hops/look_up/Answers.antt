@@ -1,0 +1,22 @@
+use Rattle.std.proofs.Common.{None, ap, ◌∙◌}
+use Rattle.hx_model.specs.declared.ModelParts.{ModelParts}
+use Rattle.hx_hops.specs.declared.Way.{Way}
+use Rattle.hx_hops.specs.Hops.{is_from, is_goal}
+use Rattle.hx_hops.specs.Table.{way_of}
+use Rattle.hx_hops.proofs.Table.{looked_up_in}
+use Rattle.hx_hops.proofs.Hops.look_up.Goals as goal
+
+pub bounds-as_slice-row : goal.bounds-as_slice-row
+bounds-as_slice-row c =
+    let from = ap (λ (m : ModelParts). is_from m c.args.from) c.self.view_is ∙ c.requires.from in
+    let goal = ap (λ (m : ModelParts). is_goal m c.args.goal) c.self.view_is ∙ c.requires.goal in
+    let none : Way = record { dist = 0; hop = None } in
+    (looked_up_in c.self.inside.model c.self.inside.places c.self.inside.width c.self.inside.ways.items c.as_slice.result.now c.args.from c.args.goal c.place_in-row.result c.place_in-column.result none c.as_slice.ensures.value c.self.invariant c.place_in-row.ensures.bytes.0 c.place_in-column.ensures.bytes.0 c.place_in-row.ensures.place c.place_in-column.ensures.place from goal).0
+
+pub returns : goal.returns
+returns c =
+    let from = ap (λ (m : ModelParts). is_from m c.args.from) c.self.view_is ∙ c.requires.from in
+    let goal = ap (λ (m : ModelParts). is_goal m c.args.goal) c.self.view_is ∙ c.requires.goal in
+    let none : Way = record { dist = 0; hop = None } in
+    (looked_up_in c.self.inside.model c.self.inside.places c.self.inside.width c.self.inside.ways.items c.as_slice.result.now c.args.from c.args.goal c.place_in-row.result c.place_in-column.result none c.as_slice.ensures.value c.self.invariant c.place_in-row.ensures.bytes.0 c.place_in-column.ensures.bytes.0 c.place_in-row.ensures.place c.place_in-column.ensures.place from goal).1
+    ∙ ap (λ (m : ModelParts). way_of m c.args.from c.args.goal) c.self.view_is
