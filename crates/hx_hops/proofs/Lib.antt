@@ -1,2 +1,4 @@
 pub mod Steps
 pub mod Table
+pub mod Legal
+pub mod Short

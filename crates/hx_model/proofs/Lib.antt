@@ -6,3 +6,4 @@ pub mod Distances
 pub mod Found
 pub mod Sound
 pub mod Interned
+pub mod Facts
