@@ -2,3 +2,4 @@ pub mod Steps
 pub mod Table
 pub mod Legal
 pub mod Short
+pub mod Shortest

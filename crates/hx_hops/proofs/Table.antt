@@ -61,7 +61,7 @@ place_end s xs =
     let P : List StateId → Type 0 = λ v. length xs ≡ length xs + position_or_len (λ (t : StateId). t.0 == s) v in
     subst P (sym none) (omega arith)
 
-any_state : (n : ℕ) (xs : List (StateId × Bound)) → list_any (λ (t : StateId). t.0 == n) (map (λ p. p.0) xs) ≡ list_any (λ (p : StateId × Bound). p.0.0 == n) xs
+pub any_state : (n : ℕ) (xs : List (StateId × Bound)) → list_any (λ (t : StateId). t.0 == n) (map (λ p. p.0) xs) ≡ list_any (λ (p : StateId × Bound). p.0.0 == n) xs
 any_state n [] = refl
 any_state n (x ∷ xs) = grind (arith, any_state n xs)
 

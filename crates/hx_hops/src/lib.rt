@@ -1,10 +1,13 @@
 //! The shortest ways through a state model.
 #![tactic(auto)]
 
-ghost use Rattle.std.specs.Prelude.{◌≡◌, ℕ, ◌+◌, ◌*◌, ◌<◌, ◌≤◌, ◌==◌, ◌++◌, length, map, slice_index, IfOk, OnOk, IsTrue};
+pub mod laws;
+
+ghost use Rattle.std.specs.Prelude.{◌≡◌, ℕ, ◌+◌, ◌*◌, ◌<◌, ◌≤◌, ◌==◌, ◌++◌, length, map, slice_index, None, IfOk, OnOk, IsTrue};
 ghost use Rattle.std.specs.List.{position_or_len};
 ghost use Rattle.hx_hops.specs.Hops.{dist as dist_of, hop as hop_of, is_from, is_goal};
 ghost use Rattle.hx_hops.specs.Table.{way_of, ways_to};
+ghost use Rattle.hx_model.specs.Faults.{fault_of};
 
 use hx_ids::StateId;
 use hx_model::{DROPPED, ERROR, Model};
@@ -62,7 +65,8 @@ impl Hops {
     pub fn dist(&self, from: StateId, goal: StateId) -> u8
         requires from { IsTrue (is_from self.now from) }
         requires goal { IsTrue (is_goal self.now goal) }
-        ensures { result ≡ dist_of self.now from goal }
+        ensures dist { result ≡ dist_of self.now from goal }
+        ensures sound { fault_of self.now ≡ None }
     {
         self.look_up(from, goal).dist
     }
@@ -72,7 +76,8 @@ impl Hops {
     pub fn hop(&self, from: StateId, goal: StateId) -> Option<StateId>
         requires from { IsTrue (is_from self.now from) }
         requires goal { IsTrue (is_goal self.now goal) }
-        ensures { result ≡ hop_of self.now from goal }
+        ensures hop { result ≡ hop_of self.now from goal }
+        ensures sound { fault_of self.now ≡ None }
     {
         self.look_up(from, goal).hop
     }
@@ -80,7 +85,8 @@ impl Hops {
     fn look_up(&self, from: StateId, goal: StateId) -> Way
         requires from { IsTrue (is_from self.now from) }
         requires goal { IsTrue (is_goal self.now goal) }
-        ensures { result ≡ way_of self.now from goal }
+        ensures way { result ≡ way_of self.now from goal }
+        ensures sound { fault_of self.now ≡ None }
     {
         let row = place_in(&self.places, goal);
         let column = place_in(&self.places, from);

@@ -13,8 +13,8 @@ bounds-as_slice-row c =
     let none : Way = record { dist = 0; hop = None } in
     (looked_up_in c.self.inside.model c.self.inside.places c.self.inside.width c.self.inside.ways.items c.as_slice.result.now c.args.from c.args.goal c.place_in-row.result c.place_in-column.result none c.as_slice.ensures.value c.self.invariant c.place_in-row.ensures.bytes.0 c.place_in-column.ensures.bytes.0 c.place_in-row.ensures.place c.place_in-column.ensures.place from goal).0
 
-pub returns : goal.returns
-returns c =
+pub returns-clause-way : goal.returns-clause-way
+returns-clause-way c =
     let from = ap (λ (m : ModelParts). is_from m c.args.from) c.self.view_is ∙ c.requires.from in
     let goal = ap (λ (m : ModelParts). is_goal m c.args.goal) c.self.view_is ∙ c.requires.goal in
     let none : Way = record { dist = 0; hop = None } in
