@@ -27,9 +27,10 @@ flat_at f w same (g ∷ gs) (suc i) j d e li lj =
     let row = same g in
     let more = flat_at f w same gs i j d e (omega arith) lj in
     let next : suc i * w + j ≡ w + (i * w + j) = grind arith in
-    let rest : suc i * w + j - length (f g) ≡ i * w + j = omega (arith, next) in
-    (omega (arith, next, more.0, length-append (f g) (flat_map f gs)),
-    get_or-append_right (f g) (flat_map f gs) (suc i * w + j) e (omega (arith, next)) ∙ ap (λ k. get_or (flat_map f gs) k e) rest ∙ more.1)
+    let rest : suc i * w + j - length (f g) ≡ i * w + j = omega (arith, next) in (
+      omega (arith, next, more.0, length-append (f g) (flat_map f gs)),
+      get_or-append_right (f g) (flat_map f gs) (suc i * w + j) e (omega (arith, next)) ∙ ap (λ k. get_or (flat_map f gs) k e) rest ∙ more.1,
+    )
 
 any_number : (n : ℕ) (xs : List StateId) → list_any (λ (t : StateId). t.0 == n) xs ≡ nat_lt (position_or_len (λ (t : StateId). t.0 == n) xs) (length xs)
 any_number n [] = refl

@@ -162,3 +162,6 @@ fn places_of(states: &[StateId]) -> [u8; 256]
     }
     places
 }
+
+#[cfg(test)]
+mod tests;

@@ -122,12 +122,7 @@ pub fn map_fault(
     None
 }
 
-fn id_fault(
-    before: &[InstanceId],
-    id: InstanceId,
-    part: u32,
-    instances: u32,
-) -> Option<IdealFault>
+fn id_fault(before: &[InstanceId], id: InstanceId, part: u32, instances: u32) -> Option<IdealFault>
     requires { length before.now < 2 ^ 32 }
     ensures { result ≡ id_fault_of instances part before.now id }
 {
@@ -151,13 +146,12 @@ fn entry_fault(
     requires { length before.now < 2 ^ 32 }
     ensures { result ≡ entry_fault_of instances states.now part before.now entry }
 {
-    let (id, state) = entry;
     let place = before.len() as u32;
-    if id.0 >= instances {
+    if entry.0.0 >= instances {
         Some(IdealFault::UnknownInstance { part, place })
-    } else if !is_state(states, state) {
+    } else if !is_state(states, entry.1) {
         Some(IdealFault::UnknownState { part, place })
-    } else if is_placed(before, id) {
+    } else if is_placed(before, entry.0) {
         Some(IdealFault::TwiceInList { part, place })
     } else {
         None

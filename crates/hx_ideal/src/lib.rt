@@ -33,23 +33,11 @@ pub enum IdealFault {
     /// More than 1,024.
     TooManyParts,
     /// Another number of lists or maps than of partitions.
-    PartCount {
-        has: u32,
-        wants: u32,
-    },
-    UnknownInstance {
-        part: u32,
-        place: u32,
-    },
-    UnknownState {
-        part: u32,
-        place: u32,
-    },
+    PartCount { has: u32, wants: u32 },
+    UnknownInstance { part: u32, place: u32 },
+    UnknownState { part: u32, place: u32 },
     /// An instance that stands earlier in the same list or map.
-    TwiceInList {
-        part: u32,
-        place: u32,
-    },
+    TwiceInList { part: u32, place: u32 },
 }
 
 /// A checked ideal state. Contracts see its replicas, its partitions and its mode.
@@ -195,3 +183,6 @@ fn copies<T: Copy>(alloc: Global, lists: &[Seq<T>]) -> Result<Seq<Seq<T>>, Alloc
     }
     Ok(copies)
 }
+
+#[cfg(test)]
+mod tests;

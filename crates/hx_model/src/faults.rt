@@ -4,7 +4,9 @@ ghost use Rattle.std.specs.List.{list_any};
 ghost use Rattle.hx_model.specs.Model.{is_between};
 ghost use Rattle.hx_model.specs.Faults.{fault_of, found_by, state_tests, transition_tests, walk_tests, twice_place, no_initial, initial_bounded, is_reserved, is_known as is_known_in, is_free as is_free_of, is_zero as is_zero_of};
 
-use super::{Bound, DROPPED, MOST_STATES, ModelFault, ModelParts, bound_in, lists, walks};
+use super::{
+    Bound, DROPPED, MOST_STATES, ModelFault, ModelParts, bound_in, has_state, lists, walks,
+};
 use hx_ids::StateId;
 
 /// The first fault of all.
@@ -150,12 +152,6 @@ fn is_zero(bound: Bound) -> bool
     ensures { result ≡ is_zero_of bound }
 {
     bound == Bound::Count(0)
-}
-
-fn has_state(states: &[(StateId, Bound)], state: StateId) -> bool
-    ensures { result ≡ list_any (λ p. p.0.0 == state.0) states.now }
-{
-    states.iter().any(|p| p.0 == state)
 }
 
 fn unknown_state(parts: &ModelParts) -> Option<usize>

@@ -7,7 +7,7 @@ mod faults;
 mod walks;
 
 ghost use Rattle.std.specs.Prelude.{◌≡◌, ℕ, ◌+◌, ◌-◌, ◌^◌, ◌<◌, ◌≤◌, ◌==◌, length, map, take, slice_index, None, Some, IfOk, IfErr, IsTrue};
-ghost use Rattle.hx_model.specs.Model.{states_of, is_legal, bound_of, rank_of, limit_of, is_between};
+ghost use Rattle.hx_model.specs.Model.{states_of, has_state as has_state_of, is_legal, bound_of, rank_of, limit_of, is_between};
 ghost use Rattle.std.specs.List.{list_any, find, position};
 ghost use Rattle.std.specs.Option.{option_map_or};
 ghost use Rattle.hx_model.specs.Faults.{fault_of};
@@ -142,6 +142,13 @@ impl Model {
             || (from == ERROR && to == self.parts.initial)
     }
 
+    /// Whether a state is listed. ERROR and DROPPED never are. It takes no memory.
+    pub fn has_state(&self, state: StateId) -> bool
+        ensures { result ≡ has_state_of self.now state }
+    {
+        has_state(self.parts.states.as_slice(), state)
+    }
+
     /// A state's bound. ERROR and DROPPED have none. It takes no memory.
     pub fn bound(&self, state: StateId) -> Bound
         ensures { result ≡ bound_of self.now state }
@@ -204,6 +211,12 @@ impl Model {
             count: self.count,
         })
     }
+}
+
+fn has_state(states: &[(StateId, Bound)], state: StateId) -> bool
+    ensures { result ≡ list_any (λ p. p.0.0 == state.0) states.now }
+{
+    states.iter().any(|p| p.0 == state)
 }
 
 fn entry_of(states: &[(StateId, Bound)], state: StateId) -> Option<(StateId, Bound)>
@@ -269,3 +282,6 @@ impl Model {
         })
     }
 }
+
+#[cfg(test)]
+mod tests;

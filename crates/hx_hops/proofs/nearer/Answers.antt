@@ -16,7 +16,7 @@ returns-then-is_nearer c =
     let d : StateId × StateId = (error, error) in
     let p : StateId → Bool = λ t. dist m t goal + 1 == dist m from goal in
     let near : p (get_or items i d).1 ≡ true =
-        sym (λ k. c.requires (get_or items i d).1.0 c.is_nearer.ensures.bytes.1 k + 1 == c.requires from.0 c.is_nearer.ensures.bytes.0 k) ∙ sym c.is_nearer.ensures.nearer ∙ c.if-is_nearer.true in
+    sym (λ k. c.requires (get_or items i d).1.0 c.is_nearer.ensures.bytes.1 k + 1 == c.requires from.0 c.is_nearer.ensures.bytes.0 k) ∙ sym c.is_nearer.ensures.nearer ∙ c.if-is_nearer.true in
     let here : ((get_or items i d).0.0 == from.0) ≡ true = sym c.eq-in-loop-step.ensures ∙ c.if-eq-2.true in
     let apart : (from.0 == goal.0) ≡ false = sym c.eq.ensures ∙ c.if-eq.false in
     step_taken p from m.transitions items i d (if from.0 == 0 then m.initial ∷ [] else []) (find p (steps_from m from)) c.transitions-step-items.ensures c.loop-step-test.true ((λ k. here k && p (get_or items i d).1) ∙ near) c.loop-step.invariant
