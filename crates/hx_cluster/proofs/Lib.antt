@@ -2,3 +2,5 @@ pub mod Newest
 pub mod Shown
 pub mod Inserting
 pub mod Placing
+pub mod RowsApart
+pub mod Allowed

@@ -1,18 +1,22 @@
 //! The plain state of a cluster, the steps that change it, and what is said of it.
 #![tactic(auto)]
 
+mod admin;
 mod description;
 mod dispatch;
+mod edits;
 mod ends;
 mod happenings;
 mod opening;
 mod planning;
 mod readers;
 mod reads;
+mod refusals;
 mod runs;
 mod steps;
 mod state;
 
+pub use admin::admin_on;
 pub use description::{Failure, Resource, Rule, Scope, Spec};
 pub use happenings::{
     Admin, Begun, Did, Dispatched, Event, History, Mail, Outcome, Placed, Proposal, Seen, StepFault,
@@ -25,5 +29,6 @@ pub use planning::{
     Candidate, Entry, Finding, Full, Held, Ideals, Plan, Report, Selection, Target, Throttled, View,
 };
 pub use readers::{message_on, state_on};
+pub use refusals::{MOST_RESOURCES, refuses_on};
 pub use runs::write_on;
 pub use state::{Cluster, Message, Row};

@@ -15,7 +15,7 @@ use hx_lists::Seq;
 use std::alloc::{AllocError, Global};
 
 impl Cluster {
-    fn set_controller(&mut self, controller: ControllerId, entry: (bool, PassNo))
+    pub(crate) fn set_controller(&mut self, controller: ControllerId, entry: (bool, PassNo))
         ensures { self.new ≡ record self.old { controllers = slice_set self.old.controllers controller.0 entry } }
     {
         let place = controller.0 as usize;

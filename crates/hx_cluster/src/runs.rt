@@ -9,6 +9,7 @@ ghost use Rattle.hx_cluster.specs.Events.{can_take, can_write, can_ack, next};
 ghost use Rattle.hx_cluster.specs.Apart.{with_rows};
 
 use crate::happenings::{Event, Outcome};
+use crate::refusals::is_flag_of;
 use crate::state::{Cluster, Message, Row};
 use hx_ids::{MsgId, PartId, SessionId, StateId};
 use hx_lists::Seq;
@@ -161,12 +162,6 @@ fn put_row(rows: &mut Vec<Row>, session: SessionId, part: PartId, state: StateId
             },
         );
     }
-}
-
-fn is_flag_of(flag: &(SessionId, PartId), session: SessionId, part: PartId) -> bool
-    ensures { result ≡ is_flag session part flag.now }
-{
-    flag.0 == session && flag.1 == part
 }
 
 fn clear_flag(flags: &mut Seq<(SessionId, PartId)>, session: SessionId, part: PartId)

@@ -1,11 +1,22 @@
-//! The steps that an operator, a session or a controller asks for.
-ghost use Rattle.std.specs.Prelude.{◌≡◌, ℕ, ◌+◌, ◌^◌, ◌<◌, None, OnOk, OnErr, IfOk};
-ghost use Rattle.hx_cluster.specs.Steps.{refusal_of, after, did_of};
+//! The steps that an operator, a session or a controller asks for. The rows stand apart where a step changes them.
+ghost use Rattle.std.specs.Prelude.{◌≡◌, ℕ, ◌+◌, ◌^◌, ◌<◌, ◌≤◌, [], ◌∷◌, ◌++◌, ◌==◌, None, Some, not, true, false, length, filter, find, slice_set, slice_get, vec_len, vec_capacity, OnOk, OnErr, IfOk, IsErrOf};
+ghost use Rattle.std.specs.List.{position, position_or_len};
+ghost use Rattle.hx_ids.specs.Expiry.{expired, is_expired as is_expired_of};
+ghost use Rattle.hx_ideal.specs.Faults.{list_fault, map_fault};
+ghost use Rattle.hx_model.specs.Model.{states_of};
+ghost use Rattle.hx_lists.specs.Lists.{insert_by};
+ghost use Rattle.hx_cluster.specs.Ends.{is_session, model_of};
+ghost use Rattle.hx_cluster.specs.Steps.{refusal_of, after, did_of, without, live_of, with_flag, flag_before, with_down, is_in_range, without_all};
+ghost use Rattle.hx_cluster.specs.Apart.{with_rows};
+ghost use Rattle.hx_cluster.specs.Numbered.{IsNumbered, is_end};
 ghost use Rattle.hx_cluster.specs.Refusals.{RefusedBy};
 
+use crate::description::Resource;
 use crate::happenings::{Admin, Did, StepFault};
-use crate::state::Cluster;
-use hx_ids::{ControllerId, InstanceId, Live, SessionId};
+use crate::refusals::refuses_on;
+use crate::state::{Cluster, Message, Row};
+use hx_ideal::Ideal;
+use hx_ids::{ControllerId, Epoch, InstanceId, Live, ModelId, PartId, ResourceId, SessionId, StateId};
 use hx_lists::Seq;
 use std::alloc::{AllocError, Global};
 
@@ -30,37 +41,11 @@ impl Cluster {
         alloc
     }
 
-    /// Why an instance can't join.
-    fn join_fault(&self, instance: InstanceId) -> Option<StepFault>
-        ensures { result ≡ refusal_of self.now (Admin.Join instance) }
-    {
-        self.session_of(instance)
-            .map(|session| StepFault::AlreadyLive { session })
-    }
-
-    /// Why a controller can't lead.
-    fn lead_fault(&self, controller: ControllerId) -> Option<StepFault>
-        ensures { result ≡ refusal_of self.now (Admin.Lead controller) }
-    {
-        match self.leader {
-            Some(leader) => Some(StepFault::LedBy {
-                controller: leader,
-                epoch: self.epoch,
-            }),
-            None => {
-                if self.is_down(controller) {
-                    Some(StepFault::ControllerDown)
-                } else {
-                    None
-                }
-            }
-        }
-    }
-
     /// Opens the next session of an instance, at the clock.
-    fn open_session(&mut self, instance: InstanceId) -> Result<SessionId, AllocError>
+    pub(crate) fn open_session(&mut self, instance: InstanceId) -> Result<SessionId, AllocError>
         requires room { (self.old.next_session < 2 ^ 63) × (self.old.change < 2 ^ 63) }
-        ensures ok { IfOk result (λ session. (session.0 ≡ self.old.next_session) × (self.new ≡ after self.old (Admin.Join instance))) }
+        ensures session { IfOk result (λ session. session.0 ≡ self.old.next_session) }
+        ensures ok { OnOk result (self.new ≡ after self.old (Admin.Join instance)) }
         ensures err { OnErr result (self.new ≡ self.old) }
     {
         let session = SessionId(self.next_session);
@@ -75,32 +60,263 @@ impl Cluster {
         Ok(session)
     }
 
-    /// The step Join.
-    pub fn join(&mut self, instance: InstanceId) -> Result<Did, StepFault>
-        requires room { (self.old.next_session < 2 ^ 63) × (self.old.change < 2 ^ 63) }
-        ensures refused { RefusedBy StepFault.OutOfMemory (refusal_of self.old (Admin.Join instance)) result }
-        ensures did { IfOk result (λ did. did ≡ did_of self.old (Admin.Join instance)) }
-        ensures ok { OnOk result (self.new ≡ after self.old (Admin.Join instance)) }
+    /// Sets the last beat of an instance's session to the clock, and moves the session behind the others.
+    pub(crate) fn beat(&mut self, instance: InstanceId) -> Result<(), AllocError>
+        ensures ok { OnOk result (self.new ≡ after self.old (Admin.Beat instance)) }
         ensures err { OnErr result (self.new ≡ self.old) }
     {
-        if let Some(fault) = self.join_fault(instance) {
-            return Err(fault);
+        match self.live_at(instance) {
+            Some(live) => move_back(&mut self.live, live, self.clock),
+            None => Ok(()),
         }
-        let session = self.open_session(instance)?;
-        Ok(Did::Joined(session))
     }
 
-    /// The step Lead.
-    pub fn lead(&mut self, controller: ControllerId) -> Result<Did, StepFault>
-        ensures refused { RefusedBy StepFault.OutOfMemory (refusal_of self.old (Admin.Lead controller)) result }
-        ensures did { IfOk result (λ did. did ≡ did_of self.old (Admin.Lead controller)) }
-        ensures ok { OnOk result (self.new ≡ after self.old (Admin.Lead controller)) }
+    /// Marks an instance as drained or not.
+    pub(crate) fn set_drained(&mut self, instance: InstanceId, drained: bool)
+        requires range { instance.0 < length self.old.instances }
+        requires room { self.old.change < 2 ^ 63 }
+        ensures { self.new ≡ record self.old { instances = slice_set self.old.instances instance.0 drained; change = self.old.change + 1 } }
+    {
+        self.instances.set(instance.0 as usize, drained);
+        self.change += 1;
+    }
+
+    /// Adds a resource with the next number.
+    pub(crate) fn add(&mut self, alloc: Global, name: u32, model: ModelId, ideal: &Ideal) -> Result<(), AllocError>
+        requires room { self.old.change < 2 ^ 63 }
+        ensures ok { OnOk result (self.new ≡ after self.old (Admin.Add name model ideal.now)) }
         ensures err { OnErr result (self.new ≡ self.old) }
     {
-        if let Some(fault) = self.lead_fault(controller) {
-            return Err(fault);
+        let ideal = ideal.copied(alloc)?;
+        self.resources.push(Resource {
+            name,
+            model,
+            ideal,
+            dropped: false,
+        })?;
+        self.change += 1;
+        Ok(())
+    }
+
+    /// Marks a resource as dropped.
+    pub(crate) fn drop_resource(&mut self, resource: ResourceId)
+        requires { self.old.change < 2 ^ 63 }
+        ensures { self.new ≡ after self.old (Admin.Drop resource) }
+    {
+        let place = resource.0 as usize;
+        if place < self.resources.len() {
+            let mut resources = self.resources.take_all();
+            resources[place].dropped = true;
+            self.resources = Seq::from_vec(resources);
+            self.change += 1;
         }
-        self.leader = Some(controller);
-        Ok(Did::Leads(self.epoch))
+    }
+
+    /// Sets a reset flag, in its place among the others.
+    pub(crate) fn reset(&mut self, instance: InstanceId, part: PartId) -> Result<(), AllocError>
+        requires { self.old.change < 2 ^ 63 }
+        ensures ok { OnOk result (self.new ≡ after self.old (Admin.Reset instance part)) }
+        ensures err { OnErr result (self.new ≡ self.old) }
+    {
+        if let Some(live) = self.live_at(instance) {
+            add_flag(&mut self.resets, (live.session, part))?;
+            self.change += 1;
+        }
+        Ok(())
+    }
+
+    /// Marks a controller as down or not.
+    pub(crate) fn set_down(&mut self, controller: ControllerId, down: bool)
+        ensures { self.new ≡ with_down self.old controller down }
+    {
+        let place = controller.0 as usize;
+        if let Some(entry) = self.controllers.as_slice().get(place).copied() {
+            self.set_controller(controller, (down, entry.1));
+        }
+    }
+
+    /// Stops a controller. Where it led, nobody leads and a new epoch begins.
+    pub(crate) fn stop(&mut self, controller: ControllerId)
+        requires { self.old.epoch.0 < 2 ^ 63 }
+        ensures { self.new ≡ after self.old (Admin.Stop controller) }
+    {
+        self.set_down(controller, true);
+        if self.is_leader(controller) {
+            self.leader = None;
+            self.epoch = Epoch(self.epoch.0 + 1);
+        }
+    }
+
+    /// The sessions that have had no beat for the timeout at a time, in order of last beat.
+    fn expired(&self, alloc: Global, now: u64) -> Result<Vec<SessionId>, AllocError>
+        ensures { IfOk result (λ ended. ended.items ≡ expired self.now.live now self.now.timeout) }
+    {
+        let timeout = self.timeout;
+        self.live
+            .as_slice()
+            .iter()
+            .copied()
+            .filter(|l| is_expired(l, now, timeout))
+            .map(|l| l.session)
+            .collect(alloc)
+    }
+}
+
+fn is_expired(live: &Live, now: u64, timeout: u64) -> bool
+    ensures { result ≡ is_expired_of now timeout live.now }
+{
+    timeout <= now.saturating_sub(live.beat)
+}
+
+fn move_back(live: &mut Seq<Live>, session: Live, beat: u64) -> Result<(), AllocError>
+    ensures ok { OnOk result (live.new ≡ filter (λ x. not (is_session session.session x)) live.old ++ (record session { beat = beat }) ∷ []) }
+    ensures err { OnErr result (live.new ≡ live.old) }
+{
+    let mut sessions = live.take_all();
+    let room = sessions.reserve(1);
+    if room.is_ok() {
+        end_in(&mut sessions, session.session);
+        sessions.push_reserved(Live { beat, ..session });
+    }
+    *live = Seq::from_vec(sessions);
+    room
+}
+
+fn end_in(live: &mut Vec<Live>, session: SessionId)
+    ensures kept { live.new.items ≡ filter (λ x. not (is_session session x)) live.old.items }
+    ensures capacity { vec_capacity live.new ≡ vec_capacity live.old }
+    ensures fewer { vec_len live.new ≤ vec_len live.old }
+{
+    live.retain(|l| l.session != session);
+}
+
+fn end_live(live: &mut Seq<Live>, session: SessionId)
+    ensures { live.new ≡ filter (λ l. not (l.session.0 == session.0)) live.old }
+{
+    live.retain(|l| l.session != session);
+}
+
+fn end_rows(rows: &mut Vec<Row>, session: SessionId)
+    ensures kept { rows.new.items ≡ filter (λ r. not (r.session.0 == session.0)) rows.old.items }
+    ensures capacity { vec_capacity rows.new ≡ vec_capacity rows.old }
+    ensures fewer { vec_len rows.new ≤ vec_len rows.old }
+{
+    rows.retain(|r| r.session != session);
+}
+
+fn end_mail(mail: &mut Seq<Message>, session: SessionId)
+    ensures { mail.new ≡ filter (λ m. not (m.session.0 == session.0)) mail.old }
+{
+    mail.retain(|m| m.session != session);
+}
+
+fn end_resets(resets: &mut Seq<(SessionId, PartId)>, session: SessionId)
+    ensures { resets.new ≡ filter (λ f. not (f.0.0 == session.0)) resets.old }
+{
+    resets.retain(|f| f.0 != session);
+}
+
+fn is_flag_behind(flag: &(SessionId, PartId), other: (SessionId, PartId)) -> bool
+    ensures { result ≡ not (flag_before flag.now other) }
+{
+    !(*flag < other)
+}
+
+fn first_flag_behind(flags: &[(SessionId, PartId)], flag: (SessionId, PartId)) -> Option<usize>
+    ensures { result ≡ position (λ f. not (flag_before f flag)) flags.now }
+{
+    flags.iter().position(|f| is_flag_behind(f, flag))
+}
+
+#[tactic(auto, using(crate::proofs::Inserting::place_in, crate::proofs::Inserting::place_found, crate::proofs::Inserting::place_none))]
+fn place_of_flag(flags: &[(SessionId, PartId)], flag: (SessionId, PartId)) -> usize
+    ensures place { result ≡ position_or_len (λ f. not (flag_before f flag)) flags.now }
+    ensures bound { result ≤ length flags.now }
+{
+    match first_flag_behind(flags, flag) {
+        Some(place) => place,
+        None => flags.len(),
+    }
+}
+
+fn add_flag(
+    flags: &mut Seq<(SessionId, PartId)>,
+    flag: (SessionId, PartId),
+) -> Result<(), AllocError>
+    ensures ok { OnOk result (flags.new ≡ with_flag flags.old flag) }
+    ensures err { OnErr result (flags.new ≡ flags.old) }
+{
+    let mut items = flags.take_all();
+    let room = items.reserve(1);
+    if room.is_ok() {
+        insert_flag(&mut items, flag);
+    }
+    *flags = Seq::from_vec(items);
+    room
+}
+
+fn insert_flag(flags: &mut Vec<(SessionId, PartId)>, flag: (SessionId, PartId))
+    requires { vec_len flags.old < vec_capacity flags.old }
+    ensures { flags.new.items ≡ with_flag flags.old.items flag }
+{
+    let place = place_of_flag(flags, flag);
+    flags.insert(place, flag).unwrap();
+}
+
+/// Takes a session out, with its rows, its messages and its flags. It takes no memory.
+pub fn remove_session_on(rest: &mut Cluster, rows: &mut Vec<Row>, session: SessionId)
+    requires { rest.old.change + 1 < 2 ^ 64 }
+    ensures after { with_rows rest.new rows.new.items ≡ without (with_rows rest.old rows.old.items) session }
+    ensures rest { rest.new.rows ≡ rest.old.rows }
+    ensures capacity { vec_capacity rows.new ≡ vec_capacity rows.old }
+    ensures fewer { vec_len rows.new ≤ vec_len rows.old }
+{
+    end_live(&mut rest.live, session);
+    end_rows(rows, session);
+    end_mail(&mut rest.mail, session);
+    end_resets(&mut rest.resets, session);
+    rest.change += 1;
+}
+
+/// Ends the session of an instance. It takes no memory.
+pub(crate) fn end_on(rest: &mut Cluster, rows: &mut Vec<Row>, instance: InstanceId)
+    requires { rest.old.change < 2 ^ 63 }
+    ensures after { with_rows rest.new rows.new.items ≡ after (with_rows rest.old rows.old.items) (Admin.End instance) }
+    ensures rest { rest.new.rows ≡ rest.old.rows }
+    ensures capacity { vec_capacity rows.new ≡ vec_capacity rows.old }
+    ensures fewer { vec_len rows.new ≤ vec_len rows.old }
+{
+    if let Some(live) = rest.live_at(instance) {
+        remove_session_on(rest, rows, live.session);
+    }
+}
+
+/// Raises the clock, and ends the sessions that have had no beat for the timeout.
+pub(crate) fn tick_on(rest: &mut Cluster, rows: &mut Vec<Row>, n: u64) -> Result<Vec<SessionId>, AllocError>
+    requires clock { rest.old.clock + n < 2 ^ 64 }
+    requires room { rest.old.change < 2 ^ 63 }
+    ensures ended { IfOk result (λ ended. did_of (with_rows rest.old rows.old.items) (Admin.Tick n) ≡ Did.Ended ended.items) }
+    ensures after { OnOk result (with_rows rest.new rows.new.items ≡ after (with_rows rest.old rows.old.items) (Admin.Tick n)) }
+    ensures err { OnErr result ((rest.new ≡ rest.old) × (rows.new.items ≡ rows.old.items)) }
+    ensures rest { rest.new.rows ≡ rest.old.rows }
+    ensures capacity { vec_capacity rows.new ≡ vec_capacity rows.old }
+    ensures fewer { vec_len rows.new ≤ vec_len rows.old }
+{
+    let now = rest.clock + n;
+    let ended = rest.expired(*rows.allocator(), now)?;
+    rest.clock = now;
+    remove_sessions_on(rest, rows, &ended);
+    Ok(ended)
+}
+
+fn remove_sessions_on(rest: &mut Cluster, rows: &mut Vec<Row>, sessions: &[SessionId])
+    requires room { rest.old.change < 2 ^ 63 }
+    ensures after { with_rows rest.new rows.new.items ≡ without_all (with_rows rest.old rows.old.items) sessions.now }
+    ensures rest { rest.new.rows ≡ rest.old.rows }
+    ensures capacity { vec_capacity rows.new ≡ vec_capacity rows.old }
+    ensures fewer { vec_len rows.new ≤ vec_len rows.old }
+{
+    for session in sessions {
+        remove_session_on(rest, rows, *session);
     }
 }

@@ -3,10 +3,11 @@
 
 ghost use Rattle.std.specs.Prelude.{◌≡◌, ℕ, ◌<◌, ◌≤◌, ◌==◌, None, Some, IfOk, IfErr, OnOk, OnErr, IsSome};
 ghost use Rattle.hx_ideal.specs.IdealState.{lists_of, maps_of, with_list, with_map, count_of, HasCount};
-ghost use Rattle.hx_ideal.specs.Faults.{fault_of, list_fault, map_fault};
+ghost use Rattle.hx_ideal.specs.Faults.{fault_of, list_fault as list_fault_of, map_fault as map_fault_of};
 
 mod faults;
 
+pub use faults::{list_fault, map_fault};
 use hx_ids::{InstanceId, StateId};
 use hx_lists::Seq;
 use std::alloc::{AllocError, Global};
@@ -114,8 +115,8 @@ impl Ideal {
     ) -> Result<(), IdealFault>
         requires mode { IsSome (lists_of self.old.mode) }
         requires part { part < self.old.parts }
-        ensures ok { OnOk result ((list_fault instances part list.items ≡ None) × (self.new ≡ with_list self.old part list.items)) }
-        ensures err { IfErr result (λ fault. (list_fault instances part list.items ≡ Some fault) × (self.new ≡ self.old)) }
+        ensures ok { OnOk result ((list_fault_of instances part list.items ≡ None) × (self.new ≡ with_list self.old part list.items)) }
+        ensures err { IfErr result (λ fault. (list_fault_of instances part list.items ≡ Some fault) × (self.new ≡ self.old)) }
     {
         if let Some(fault) = faults::list_fault(list.as_slice(), part, instances) {
             return Err(fault);
@@ -137,8 +138,8 @@ impl Ideal {
     ) -> Result<(), IdealFault>
         requires mode { IsSome (maps_of self.old.mode) }
         requires part { part < self.old.parts }
-        ensures ok { OnOk result ((map_fault instances states.now part map.items ≡ None) × (self.new ≡ with_map self.old part map.items)) }
-        ensures err { IfErr result (λ fault. (map_fault instances states.now part map.items ≡ Some fault) × (self.new ≡ self.old)) }
+        ensures ok { OnOk result ((map_fault_of instances states.now part map.items ≡ None) × (self.new ≡ with_map self.old part map.items)) }
+        ensures err { IfErr result (λ fault. (map_fault_of instances states.now part map.items ≡ Some fault) × (self.new ≡ self.old)) }
     {
         if let Some(fault) = faults::map_fault(map.as_slice(), part, instances, states) {
             return Err(fault);
