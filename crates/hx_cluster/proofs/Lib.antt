@@ -4,3 +4,4 @@ pub mod Inserting
 pub mod Placing
 pub mod RowsApart
 pub mod Allowed
+pub mod Bare
