@@ -1,5 +1,5 @@
 -- What an edit that isn't refused may rely on.
-use Rattle.std.proofs.Common.{◌≡◌, ℕ, List, length, get_or, ◌≤◌, ◌<◌, Bool, true, false, not, refl, Option, Some, None, subst, arith, rules}
+use Rattle.std.proofs.Common.{◌≡◌, ℕ, List, length, get_or, ◌<◌, Bool, true, false, not, refl, Option, Some, None, subst, arith, rules}
 use Rattle.std.specs.Prelude.{nat_le, if◌then◌else◌, IsSome}
 use Rattle.std.proofs.lemmas.Bool.Decides.{nat_tests}
 use Rattle.std.proofs.lemmas.Option.{slice_get_read}

@@ -21,7 +21,7 @@ pub newest-step : (ys xs : List Resource) (n name : ℕ) (found : Option Resourc
     → later_or (newest_from (n + 1) (drop (n + 1) xs) name) (if x.name == name then Some (record { 0 = n }) else found) ≡ later_or (newest_from n (drop n xs) name) found
 newest-step ys xs n name found x same h is =
     rw (← same) (sym (at_drop_more (λ ys. later_or (newest_from n ys name) found) ys n x h
-      ∙ rw (← is) (one (x.name == name) n (newest_from (n + 1) (drop (n + 1) ys) name) found)))
+    ∙ rw (← is) (one (x.name == name) n (newest_from (n + 1) (drop (n + 1) ys) name) found)))
 
 pub newest-end : (ys xs : List Resource) (n name : ℕ) (found : Option ResourceId) → ys ≡ xs → length ys ≤ n → later_or (newest_from n (drop n xs) name) found ≡ found
 newest-end ys xs n name found same e = rw (← same, drop_all n ys e) refl

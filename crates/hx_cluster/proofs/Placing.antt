@@ -78,16 +78,16 @@ idle-passes : (c : Cluster) (ds : List (Bool × PassNo)) (q : Proposal) (pending
 idle-passes c ds q (Some m) = refl
 idle-passes c ds q None =
     ap (λ (next : Placed).
-        if not ((standing_of c q.session q.part).0 == q.from.0) then placings.WrongFrom (state_of c.rows q.session q.part)
-        else if not (is_legal (model_of c.models c.resources q.part.resource) q.from q.to) then placings.Illegal
-        else next) (bounded-passes c ds q (limit_at c q.part q.to))
+    if not ((standing_of c q.session q.part).0 == q.from.0) then placings.WrongFrom (state_of c.rows q.session q.part)
+    else if not (is_legal (model_of c.models c.resources q.part.resource) q.from q.to) then placings.Illegal
+    else next) (bounded-passes c ds q (limit_at c q.part q.to))
 
 placed-passes : (c : Cluster) (ds : List (Bool × PassNo)) (q : Proposal) → placed_of (with_controllers c ds) q ≡ placed_of c q
 placed-passes c ds q =
     ap (λ (next : Placed).
-        if not (is_live c.live q.session) then placings.Ended
-        else if is_dropped c.resources q.part.resource && is_none (state_of c.rows q.session q.part) then placings.ResourceDropped
-        else next) (idle-passes c ds q (message_of c.mail q.session q.part))
+    if not (is_live c.live q.session) then placings.Ended
+    else if is_dropped c.resources q.part.resource && is_none (state_of c.rows q.session q.part) then placings.ResourceDropped
+    else next) (idle-passes c ds q (message_of c.mail q.session q.part))
 
 answer-passes : (c : Cluster) (ds : List (Bool × PassNo)) (q : Proposal) (a : Placed) → after_placed (with_controllers c ds) q a ≡ with_controllers (after_placed c q a) ds
 answer-passes c ds q placings.Ended = refl

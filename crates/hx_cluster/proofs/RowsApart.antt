@@ -1,6 +1,6 @@
 -- Steps where the rows stand apart.
 use Rattle.std.proofs.Common.{◌≡◌, List, Bool, true, false, refl, ◌+◌, Option, None, Some, slice_get}
-use Rattle.std.specs.Prelude.{slice_set, if◌then◌else◌}
+use Rattle.std.specs.Prelude.{if◌then◌else◌}
 use Rattle.hx_ids.specs.declared.ControllerId.{ControllerId}
 use Rattle.hx_ids.specs.declared.PassNo.{PassNo}
 use Rattle.hx_ids.specs.declared.PartId.{PartId}
@@ -13,7 +13,7 @@ use Rattle.hx_cluster.specs.declared.state.Cluster.{Cluster}
 use Rattle.hx_cluster.specs.declared.happenings.Admin.{Admin}
 use Rattle.hx_cluster.specs.declared.happenings.Admin.TheVariants as steps
 use Rattle.hx_cluster.specs.Ends.{resource_at}
-use Rattle.hx_cluster.specs.Steps.{lead_fault, refusal_of, after, live_of, beaten_of, asked_of, changed_at, with_resource, with_mode, marked_down, with_down, without_leader, is_leader}
+use Rattle.hx_cluster.specs.Steps.{lead_fault, after, live_of, beaten_of, asked_of, changed_at, with_mode, marked_down, without_leader, is_leader}
 use Rattle.hx_cluster.specs.Apart.{with_rows}
 use Rattle.hx_cluster.specs.Numbered.{leaves_rows}
 

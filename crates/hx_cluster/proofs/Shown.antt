@@ -1,6 +1,6 @@
 -- What is shown of the live sessions, read off the sessions themselves.
 use Rattle.std.proofs.Common.{◌≡◌, List, [], ◌∷◌, find, refl, arith}
-use Rattle.std.specs.Prelude.{option_map, slice_get, unwrap_or}
+use Rattle.std.specs.Prelude.{option_map, unwrap_or}
 use Rattle.std.proofs.Common.{Option, None, Some}
 use Rattle.std.proofs.lemmas.Option.{unwrap_or-slice_get}
 use Rattle.hx_ids.specs.declared.SessionId.{SessionId}

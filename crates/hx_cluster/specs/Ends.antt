@@ -1,6 +1,6 @@
 -- The ends of a session's replica of a part, how many sessions have a state among them, and what a throttle counts.
 -- The lists may be a cluster's own, or those that a controller was shown.
-use Rattle.std.specs.Prelude.{ℕ, Bool, true, false, not, ◌==◌, ◌&&◌, ◌||◌, List, [], ◌∷◌, length, map, filter, find, Option, None, Some, unwrap_or, option_map, slice_get, slice_index_or, nat_lt}
+use Rattle.std.specs.Prelude.{ℕ, Bool, true, false, ◌==◌, ◌&&◌, ◌||◌, List, [], length, map, filter, find, Option, None, Some, option_map, slice_get, slice_index_or, nat_lt}
 use Rattle.std.specs.List.{list_any}
 use Rattle.std.specs.Option.{option_map_or}
 use Rattle.hx_lists.specs.Lists.{count}
@@ -9,11 +9,10 @@ use Rattle.hx_ids.specs.declared.StateId.{StateId}
 use Rattle.hx_ids.specs.declared.ResourceId.{ResourceId}
 use Rattle.hx_ids.specs.declared.ModelId.{ModelId}
 use Rattle.hx_ids.specs.declared.SessionId.{SessionId}
-use Rattle.hx_ids.specs.declared.MsgId.{MsgId}
 use Rattle.hx_ids.specs.declared.PartId.{PartId}
 use Rattle.hx_ids.specs.declared.Live.{Live}
 use Rattle.hx_model.specs.declared.ModelParts.{ModelParts}
-use Rattle.hx_model.specs.Model.{is_legal, limit_of, bound_of, dropped}
+use Rattle.hx_model.specs.Model.{limit_of, bound_of, dropped}
 use Rattle.hx_cluster.specs.declared.description.Resource.{Resource}
 use Rattle.hx_cluster.specs.declared.description.Rule.{Rule}
 use Rattle.hx_cluster.specs.declared.description.Scope.{Scope}

@@ -1,12 +1,11 @@
 -- What a controller is shown, and what a participant fetches.
-use Rattle.std.specs.Prelude.{ℕ, Bool, ◌==◌, List, map, filter, Option, None, Some, length, nat_lt, []}
+use Rattle.std.specs.Prelude.{Bool, ◌==◌, List, filter, Option, None, Some, nat_lt, []}
 use Rattle.std.specs.Option.{option_map_or}
 use Rattle.std.specs.Prelude.{slice_get}
 use Rattle.hx_lists.specs.Lists.{sort_by}
 use Rattle.hx_ids.specs.declared.InstanceId.{InstanceId}
 use Rattle.hx_ids.specs.declared.ControllerId.{ControllerId}
 use Rattle.hx_ids.specs.declared.PassNo.{PassNo}
-use Rattle.hx_ids.specs.declared.Epoch.{Epoch}
 use Rattle.hx_ids.specs.declared.SessionId.{SessionId}
 use Rattle.hx_cluster.specs.declared.planning.Ideals.{Ideals}
 use Rattle.hx_cluster.specs.declared.planning.View.{View}

@@ -1,6 +1,6 @@
 -- What holds of every cluster that can be reached.
-use Rattle.std.specs.Prelude.{◌≡◌, ℕ, ◌+◌, ◌<◌, ◌≤◌, Bool, true, false, not, ◌==◌, ◌&&◌, ◌||◌, List, [], ◌∷◌, Option, None, Some, is_some, is_none, slice_get, nat_lt, nat_le, unwrap_or, if◌then◌else◌}
-use Rattle.std.specs.List.{list_all, list_any}
+use Rattle.std.specs.Prelude.{◌≡◌, ℕ, ◌≤◌, Bool, true, not, ◌==◌, ◌&&◌, ◌||◌, List, [], ◌∷◌, Option, None, Some, slice_get, nat_lt, nat_le, if◌then◌else◌}
+use Rattle.std.specs.List.{list_all}
 use Rattle.hx_lists.specs.Lists.{count}
 use Rattle.hx_ids.specs.declared.StateId.{StateId}
 use Rattle.hx_ids.specs.declared.SessionId.{SessionId}
@@ -16,7 +16,7 @@ use Rattle.hx_cluster.specs.declared.state.Message.{Message}
 use Rattle.hx_cluster.specs.declared.state.Cluster.{Cluster}
 use Rattle.hx_cluster.specs.declared.happenings.Event.{Event}
 use Rattle.hx_cluster.specs.Ends.{is_row, is_message, is_session, is_live, state_of, model_of, count_of, limit_at, load_of}
-use Rattle.hx_cluster.specs.Steps.{is_of, is_down, is_flag, is_error}
+use Rattle.hx_cluster.specs.Steps.{is_of, is_down, is_error}
 use Rattle.hx_cluster.specs.Messages.{standing_of}
 use Rattle.hx_cluster.specs.Events.{has_part, next}
 

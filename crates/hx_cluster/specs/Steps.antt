@@ -1,5 +1,5 @@
 -- The steps of a cluster: what refuses each, what it answers, and the cluster after it.
-use Rattle.std.specs.Prelude.{◌≡◌, ℕ, ◌+◌, ◌-◌, ◌^◌, ◌<◌, Bool, true, false, not, ◌==◌, ◌&&◌, ◌||◌, List, [], ◌∷◌, ◌++◌, length, map, filter, find, Option, None, Some, Result, Ok, Err, if◌then◌else◌, is_some, unwrap_or, option_map, slice_get, slice_set, slice_index_or, nat_lt, nat_le, replicate}
+use Rattle.std.specs.Prelude.{ℕ, ◌+◌, ◌-◌, ◌^◌, Bool, true, false, not, ◌==◌, ◌&&◌, ◌||◌, List, [], ◌∷◌, ◌++◌, length, map, filter, find, Option, None, Some, if◌then◌else◌, option_map, slice_get, slice_set, slice_index_or, nat_lt, nat_le, replicate}
 use Rattle.std.specs.List.{list_any, list_all}
 use Rattle.std.specs.Option.{option_map_or}
 use Rattle.hx_lists.specs.Lists.{insert_by}
@@ -20,8 +20,6 @@ use Rattle.hx_ideal.specs.IdealState.{IdealState, put_list, put_map}
 use Rattle.hx_ideal.specs.Faults.{list_fault, map_fault}
 use Rattle.hx_cluster.specs.declared.description.Resource.{Resource}
 use Rattle.hx_cluster.specs.declared.description.Spec.{Spec}
-use Rattle.hx_cluster.specs.declared.state.Row.{Row}
-use Rattle.hx_cluster.specs.declared.state.Message.{Message}
 use Rattle.hx_cluster.specs.declared.state.Cluster.{Cluster}
 use Rattle.hx_cluster.specs.declared.happenings.Admin.{Admin}
 use Rattle.hx_cluster.specs.declared.happenings.Admin.TheVariants as steps
@@ -29,7 +27,7 @@ use Rattle.hx_cluster.specs.declared.happenings.Did.{Did}
 use Rattle.hx_cluster.specs.declared.happenings.Did.TheVariants as dids
 use Rattle.hx_cluster.specs.declared.happenings.StepFault.{StepFault}
 use Rattle.hx_cluster.specs.declared.happenings.StepFault.TheVariants as faults
-use Rattle.hx_cluster.specs.Ends.{part_eq, part_before, is_row, is_session, state_of, resource_at, model_of, model_at, parts_of, is_live}
+use Rattle.hx_cluster.specs.Ends.{part_eq, part_before, is_session, state_of, resource_at, model_of, parts_of, is_live}
 
 -- nobody is live, nobody leads, and nothing is posted
 abbrev pub opening : Spec → Cluster

@@ -31,8 +31,7 @@ pub fn has_end(
 ) -> bool
     ensures { result ≡ has_end_of rows.now mail.now part state session }
 {
-    state_on(rows, session, part) == Some(state)
-        || has_message_end(mail, part, state, session)
+    state_on(rows, session, part) == Some(state) || has_message_end(mail, part, state, session)
 }
 
 fn has_message_end(mail: &[Message], part: PartId, state: StateId, session: SessionId) -> bool

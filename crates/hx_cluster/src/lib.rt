@@ -15,17 +15,17 @@ mod reads;
 mod record;
 mod refusals;
 mod runs;
-mod steps;
 mod state;
+mod steps;
 
 pub use admin::admin_on;
 pub use description::{Failure, Resource, Rule, Scope, Spec};
+pub use dispatch::{dispatch_on, place_all_on, place_on};
+pub use ends::{count_on, has_end};
 pub use happenings::{
     Admin, Begun, Did, Dispatched, Event, History, Mail, Outcome, Placed, Proposal, Seen, StepFault,
 };
 pub use hx_ids::Live;
-pub use dispatch::{dispatch_on, place_all_on, place_on};
-pub use ends::{count_on, has_end};
 pub use opening::{copied_models, copied_resources};
 pub use planning::{
     Candidate, Entry, Finding, Full, Held, Ideals, Plan, Report, Selection, Target, Throttled, View,

@@ -24,10 +24,7 @@ impl Resource {
 }
 
 /// The same resources again.
-pub fn copied_resources(
-    alloc: Global,
-    resources: &[Resource],
-) -> Result<Seq<Resource>, AllocError>
+pub fn copied_resources(alloc: Global, resources: &[Resource]) -> Result<Seq<Resource>, AllocError>
     ensures { IfOk result (λ copies. copies ≡ resources.now) }
 {
     let mut copies = Seq::new(alloc);

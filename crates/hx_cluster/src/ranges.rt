@@ -97,9 +97,7 @@ impl Cluster {
     pub fn is_postable(&self, row: &Seen) -> bool
         ensures { result ≡ is_postable self.now row.now }
     {
-        self.has_instance(row.instance)
-            && self.has_part(row.part)
-            && self.has_state_name(row.state)
+        self.has_instance(row.instance) && self.has_part(row.part) && self.has_state_name(row.state)
     }
 }
 
@@ -121,12 +119,8 @@ fn is_bare_mode(parts: u32, mode: &Mode) -> bool
 {
     match mode {
         Mode::Full => true,
-        Mode::Semi(lists) => {
-            lists.len() == parts as usize && are_empty(lists.as_slice())
-        }
-        Mode::Custom(maps) => {
-            maps.len() == parts as usize && are_empty(maps.as_slice())
-        }
+        Mode::Semi(lists) => { lists.len() == parts as usize && are_empty(lists.as_slice()) }
+        Mode::Custom(maps) => { maps.len() == parts as usize && are_empty(maps.as_slice()) }
     }
 }
 

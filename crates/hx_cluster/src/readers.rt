@@ -9,7 +9,9 @@ ghost use Rattle.hx_cluster.specs.Messages.{has_id, pending_of};
 
 use crate::description::Resource;
 use crate::state::{Cluster, Message, Row};
-use hx_ids::{ControllerId, Epoch, InstanceId, Live, MsgId, PartId, PassNo, ResourceId, SessionId, StateId};
+use hx_ids::{
+    ControllerId, Epoch, InstanceId, Live, MsgId, PartId, PassNo, ResourceId, SessionId, StateId,
+};
 
 impl Row {
     /// Whether it is the row of a session's part.

@@ -16,7 +16,9 @@ use crate::happenings::{Admin, Did, StepFault};
 use crate::refusals::refuses_on;
 use crate::state::{Cluster, Message, Row};
 use hx_ideal::Ideal;
-use hx_ids::{ControllerId, Epoch, InstanceId, Live, ModelId, PartId, ResourceId, SessionId, StateId};
+use hx_ids::{
+    ControllerId, Epoch, InstanceId, Live, ModelId, PartId, ResourceId, SessionId, StateId,
+};
 use hx_lists::Seq;
 use std::alloc::{AllocError, Global};
 
@@ -82,7 +84,13 @@ impl Cluster {
     }
 
     /// Adds a resource with the next number.
-    pub(crate) fn add(&mut self, alloc: Global, name: u32, model: ModelId, ideal: &Ideal) -> Result<(), AllocError>
+    pub(crate) fn add(
+        &mut self,
+        alloc: Global,
+        name: u32,
+        model: ModelId,
+        ideal: &Ideal,
+    ) -> Result<(), AllocError>
         requires room { self.old.change < 2 ^ 63 }
         ensures ok { OnOk result (self.new ≡ after self.old (Admin.Add name model ideal.now)) }
         ensures err { OnErr result (self.new ≡ self.old) }
@@ -292,7 +300,11 @@ pub(crate) fn end_on(rest: &mut Cluster, rows: &mut Vec<Row>, instance: Instance
 }
 
 /// Raises the clock, and ends the sessions that have had no beat for the timeout.
-pub(crate) fn tick_on(rest: &mut Cluster, rows: &mut Vec<Row>, n: u64) -> Result<Vec<SessionId>, AllocError>
+pub(crate) fn tick_on(
+    rest: &mut Cluster,
+    rows: &mut Vec<Row>,
+    n: u64,
+) -> Result<Vec<SessionId>, AllocError>
     requires clock { rest.old.clock + n < 2 ^ 64 }
     requires room { rest.old.change < 2 ^ 63 }
     ensures ended { IfOk result (λ ended. did_of (with_rows rest.old rows.old.items) (Admin.Tick n) ≡ Did.Ended ended.items) }

@@ -1,4 +1,4 @@
-use Rattle.std.proofs.Common.{◌≡◌, List, ap, sym, ◌∙◌}
+use Rattle.std.proofs.Common.{List, ap, sym, ◌∙◌}
 use Rattle.hx_cluster.specs.declared.state.Cluster.{Cluster}
 use Rattle.hx_cluster.specs.declared.happenings.Placed.{Placed}
 use Rattle.hx_cluster.specs.declared.happenings.Dispatched.{Dispatched}
@@ -10,7 +10,7 @@ use Rattle.hx_cluster.proofs.dispatch.dispatch_on.Goals as goal
 pub returns-clause-answer : goal.returns-clause-answer
 returns-clause-answer c =
     ap (λ (placed : List Placed). let d : Dispatched = record { change = c.args.rest.now.change; placed = placed } in d)
-      (c.in_ok-placed.ensures.placed ∙ sym (placed_raised (with_rows c.args.rest.now c.args.rows.now) c.args.controller c.args.proposals.now))
+    (c.in_ok-placed.ensures.placed ∙ sym (placed_raised (with_rows c.args.rest.now c.args.rows.now) c.args.controller c.args.proposals.now))
 
 pub returns-clause-after : goal.returns-clause-after
 returns-clause-after c =

@@ -1,4 +1,4 @@
-use Rattle.std.proofs.Common.{◌≡◌, ◌+◌, ◌∙◌, sym, subst}
+use Rattle.std.proofs.Common.{◌+◌, ◌∙◌, sym, subst}
 use Rattle.hx_cluster.specs.declared.state.Cluster.{Cluster}
 use Rattle.hx_cluster.specs.Apart.{with_rows}
 use Rattle.hx_cluster.proofs.Placing.{IsGrown, grown_more, told_more, rest_more, on_ok}
