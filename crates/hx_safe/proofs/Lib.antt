@@ -1,0 +1,11 @@
+pub mod Counting
+pub mod Models
+pub mod Ends
+pub mod Kept
+pub mod Sending
+pub mod Writing
+pub mod Leaving
+pub mod Resources
+pub mod Throttles
+pub mod Sessions
+pub mod Whole
