@@ -1,1 +1,2 @@
 pub use Rattle.hx_print.specs.Texts
+pub mod Grammar

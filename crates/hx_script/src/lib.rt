@@ -1,6 +1,12 @@
 //! Scripts: what their lines ask for.
 #![tactic(auto)]
 
+mod faults;
+mod verbs;
+
+pub use faults::{ScriptFault, ScriptKind};
+pub use verbs::Verb;
+
 use hx_ids::{ControllerId, InstanceId, ModelId, MsgId, StateId};
 use hx_lists::Seq;
 pub use hx_print::{Note, Word};

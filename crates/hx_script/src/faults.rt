@@ -1,0 +1,30 @@
+//! Why something is no script.
+
+/// What is wrong with a line, in the order in which it is tested.
+#[derive(Clone, Copy, Debug, PartialEq, Eq)]
+pub enum ScriptKind {
+    NotUtf8,
+    LineTooLong,
+    /// The first word is none that begins a line.
+    UnknownWord,
+    WordCount,
+    UnknownInstance,
+    UnknownController,
+    UnknownResource,
+    UnknownModel,
+    UnknownState,
+    BadName,
+    BadNumber,
+    BadMessage,
+    BadMode,
+    BadPair,
+    /// The third word of `read` names none of the reads.
+    BadKind,
+}
+
+/// The first fault of a script. Lines are numbered from 1.
+#[derive(Clone, Copy, Debug, PartialEq, Eq)]
+pub struct ScriptFault {
+    pub line: u32,
+    pub kind: ScriptKind,
+}

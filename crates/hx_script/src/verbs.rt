@@ -1,0 +1,36 @@
+//! The words that begin a script line.
+
+/// The first word of a script line.
+#[derive(Clone, Copy, Debug, PartialEq, Eq)]
+pub enum Verb {
+    Join,
+    Beat,
+    Drain,
+    Undrain,
+    Tick,
+    Expire,
+    Die,
+    Add,
+    Drop,
+    List,
+    Map,
+    Reset,
+    Lead,
+    Stop,
+    Start,
+    Begin,
+    Read,
+    Send,
+    Post,
+    Pass,
+    Fetch,
+    Deliver,
+    Take,
+    Write,
+    Ack,
+    Work,
+    Settle,
+    View,
+    Route,
+    Summary,
+}
