@@ -1,1 +1,3 @@
+pub mod AllWords
 mod Examples
+pub mod Letters

@@ -1,6 +1,6 @@
 -- The grammar of scripts: what each line asks for, or the first fault.
-use Rattle.std.specs.Prelude.{ℕ, ◌+◌, ◌-◌, ◌^◌, Bool, true, false, not, ◌==◌, ◌&&◌, List, [], ◌∷◌, ◌++◌, Option, None, Some, Result, Ok, Err, if◌then◌else◌, nat_lt, nat_le, codes, decimal}
-use Rattle.std.specs.List.{list_any, position, before_first, after_first}
+use Rattle.std.specs.Prelude.{ℕ, ◌+◌, ◌-◌, ◌^◌, Bool, true, false, not, ◌==◌, ◌&&◌, List, [], ◌∷◌, length, Option, None, Some, Result, Ok, Err, if◌then◌else◌, find, nat_lt, nat_le, codes}
+use Rattle.std.specs.List.{position_or_len, before_first, after_first}
 use Rattle.std.specs.Option.{option_map, option_map_or}
 use Rattle.std.specs.Str.{bytes_eq}
 use Rattle.hx_ids.specs.declared.InstanceId.{InstanceId}
@@ -97,7 +97,7 @@ is_equals b = b == 61
 
 abbrev pub pair_word : Spec → List ℕ → Result (InstanceId × StateId) ScriptKind
 pair_word spec w =
-    if list_any is_equals w
+    if nat_lt (position_or_len is_equals w) (length w)
     then then_ok (instance_word spec (before_first is_equals w)) (λ i. map_ok (λ s. (i, s)) (state_word spec (after_first is_equals w)))
     else Err kinds.BadPair
 
@@ -106,61 +106,78 @@ abbrev pub all_words : {A : Type 0} → (List ℕ → Result A ScriptKind) → L
 all_words word [] = Ok []
 all_words word (w ∷ ws) = then_ok (word w) (λ x. map_ok (λ xs. x ∷ xs) (all_words word ws))
 
+-- so many words, and no more
+abbrev pub no_words : List (List ℕ) → Result (Unit {0}) ScriptKind
+no_words [] = Ok tt
+no_words _ = Err kinds.WordCount
+
+abbrev pub one_word : List (List ℕ) → Result (List ℕ) ScriptKind
+one_word (a ∷ []) = Ok a
+one_word _ = Err kinds.WordCount
+
+abbrev pub two_words : List (List ℕ) → Result (List ℕ × List ℕ) ScriptKind
+two_words (a ∷ b ∷ []) = Ok (a, b)
+two_words _ = Err kinds.WordCount
+
+abbrev pub three_words : List (List ℕ) → Result (List ℕ × List ℕ × List ℕ) ScriptKind
+three_words (a ∷ b ∷ c ∷ []) = Ok (a, b, c)
+three_words _ = Err kinds.WordCount
+
+abbrev pub five_words : List (List ℕ) → Result (List ℕ × List ℕ × List ℕ × List ℕ × List ℕ) ScriptKind
+five_words (a ∷ b ∷ c ∷ d ∷ e ∷ []) = Ok (a, b, c, d, e)
+five_words _ = Err kinds.WordCount
+
+-- two words, and any number of others
+abbrev pub two_and_more : List (List ℕ) → Result (List ℕ × List ℕ × List (List ℕ)) ScriptKind
+two_and_more (a ∷ b ∷ more) = Ok (a, b, more)
+two_and_more _ = Err kinds.WordCount
+
 -- the words behind the first: an instance; a controller; an instance and a message; none
 abbrev pub instance_alone : Spec → List (List ℕ) → Result InstanceId ScriptKind
-instance_alone spec (i ∷ []) = instance_word spec i
-instance_alone spec _ = Err kinds.WordCount
+instance_alone spec ws = then_ok (one_word ws) (instance_word spec)
 
 abbrev pub controller_alone : Spec → List (List ℕ) → Result ControllerId ScriptKind
-controller_alone spec (c ∷ []) = controller_word spec c
-controller_alone spec _ = Err kinds.WordCount
+controller_alone spec ws = then_ok (one_word ws) (controller_word spec)
 
 abbrev pub instance_and_message : Spec → List (List ℕ) → Result (InstanceId × MsgId) ScriptKind
-instance_and_message spec (i ∷ m ∷ []) = then_ok (instance_word spec i) (λ i. map_ok (λ m. (i, m)) (message_word m))
-instance_and_message spec _ = Err kinds.WordCount
-
-abbrev pub nothing_more : {A : Type 0} → A → List (List ℕ) → Result A ScriptKind
-nothing_more x [] = Ok x
-nothing_more x _ = Err kinds.WordCount
+instance_and_message spec ws = then_ok (two_words ws) (λ t. then_ok (instance_word spec t.0) (λ i. map_ok (λ m. (i, m)) (message_word t.1)))
 
 -- the other forms
 abbrev pub tick_line : List (List ℕ) → Result What ScriptKind
-tick_line (n ∷ []) = map_ok asks.Tick (number_word 0 (2 ^ 64 - 1) n)
-tick_line _ = Err kinds.WordCount
+tick_line ws = then_ok (one_word ws) (λ n. map_ok asks.Tick (number_word 0 (2 ^ 64 - 1) n))
 
 abbrev pub add_line : Spec → List (List ℕ) → Result What ScriptKind
-add_line spec (r ∷ model ∷ replicas ∷ parts ∷ mode ∷ []) =
-    then_ok (name_word spec r) (λ name. then_ok (model_word spec model) (λ m. then_ok (number_word 1 64 replicas) (λ replicas. then_ok (number_word 1 1024 parts) (λ parts.
-        map_ok (λ mode. asks.Add name m replicas parts mode) (mode_word mode)))))
-add_line spec _ = Err kinds.WordCount
+add_line spec ws =
+    then_ok (five_words ws) (λ t. then_ok (name_word spec t.0) (λ name. then_ok (model_word spec t.1) (λ model. then_ok (number_word 1 64 t.2) (λ replicas.
+        then_ok (number_word 1 1024 t.3) (λ parts. map_ok (asks.Add name model replicas parts) (mode_word t.4))))))
 
 abbrev pub drop_line : Spec → List (List ℕ) → Result What ScriptKind
-drop_line spec (r ∷ []) = map_ok asks.Drop (resource_word spec r)
-drop_line spec _ = Err kinds.WordCount
+drop_line spec ws = then_ok (one_word ws) (λ r. map_ok asks.Drop (resource_word spec r))
 
--- a partition's number
+-- a resource's name and a partition's number
 abbrev pub part_word : List ℕ → Result ℕ ScriptKind
 part_word w = number_word 0 (2 ^ 32 - 1) w
 
+abbrev pub part_words : Spec → List ℕ → List ℕ → Result (ℕ × ℕ) ScriptKind
+part_words spec r p = then_ok (resource_word spec r) (λ name. map_ok (λ part. (name, part)) (part_word p))
+
 abbrev pub list_line : Spec → List (List ℕ) → Result What ScriptKind
-list_line spec (r ∷ p ∷ list) = then_ok (resource_word spec r) (λ name. then_ok (part_word p) (λ part. map_ok (λ list. asks.List name part list) (all_words (instance_word spec) list)))
-list_line spec _ = Err kinds.WordCount
+list_line spec ws = then_ok (two_and_more ws) (λ t. then_ok (part_words spec t.0 t.1) (λ p. map_ok (asks.List p.0 p.1) (all_words (instance_word spec) t.2)))
 
 abbrev pub map_line : Spec → List (List ℕ) → Result What ScriptKind
-map_line spec (r ∷ p ∷ pairs) = then_ok (resource_word spec r) (λ name. then_ok (part_word p) (λ part. map_ok (λ map. asks.Map name part map) (all_words (pair_word spec) pairs)))
-map_line spec _ = Err kinds.WordCount
+map_line spec ws = then_ok (two_and_more ws) (λ t. then_ok (part_words spec t.0 t.1) (λ p. map_ok (asks.Map p.0 p.1) (all_words (pair_word spec) t.2)))
 
 abbrev pub reset_line : Spec → List (List ℕ) → Result What ScriptKind
-reset_line spec (i ∷ r ∷ p ∷ []) = then_ok (instance_word spec i) (λ i. then_ok (resource_word spec r) (λ name. map_ok (λ part. asks.Reset i name part) (part_word p)))
-reset_line spec _ = Err kinds.WordCount
+reset_line spec ws = then_ok (three_words ws) (λ t. then_ok (instance_word spec t.0) (λ i. map_ok (λ p. asks.Reset i p.0 p.1) (part_words spec t.1 t.2)))
 
 abbrev pub read_line : Spec → List (List ℕ) → Result What ScriptKind
-read_line spec (c ∷ kind ∷ []) = then_ok (controller_word spec c) (λ c. map_ok (λ kind. asks.Read c kind) (read_kind_word kind))
-read_line spec _ = Err kinds.WordCount
+read_line spec ws = then_ok (two_words ws) (λ t. then_ok (controller_word spec t.0) (λ c. map_ok (asks.Read c) (read_kind_word t.1)))
 
 abbrev pub route_line : Spec → List (List ℕ) → Result What ScriptKind
-route_line spec (r ∷ p ∷ s ∷ []) = then_ok (resource_word spec r) (λ name. then_ok (part_word p) (λ part. map_ok (λ state. asks.Route name part state) (state_word spec s)))
-route_line spec _ = Err kinds.WordCount
+route_line spec ws = then_ok (three_words ws) (λ t. then_ok (part_words spec t.0 t.1) (λ p. map_ok (asks.Route p.0 p.1) (state_word spec t.2)))
+
+abbrev pub bare_line : What → List (List ℕ) → Result What ScriptKind
+bare_line what ws = map_ok (λ _. what) (no_words ws)
 
 -- what the words behind a verb ask for
 abbrev pub what_of : Spec → Verb → List (List ℕ) → Result What ScriptKind
@@ -190,10 +207,10 @@ what_of spec verbs.Take ws = map_ok (λ e. asks.Take e.0 e.1) (instance_and_mess
 what_of spec verbs.Write ws = map_ok (λ e. asks.Write e.0 e.1) (instance_and_message spec ws)
 what_of spec verbs.Ack ws = map_ok (λ e. asks.Ack e.0 e.1) (instance_and_message spec ws)
 what_of spec verbs.Work ws = map_ok asks.Work (instance_alone spec ws)
-what_of spec verbs.Settle ws = nothing_more asks.Settle ws
-what_of spec verbs.View ws = nothing_more asks.View ws
+what_of spec verbs.Settle ws = bare_line asks.Settle ws
+what_of spec verbs.View ws = bare_line asks.View ws
 what_of spec verbs.Route ws = route_line spec ws
-what_of spec verbs.Summary ws = nothing_more asks.Summary ws
+what_of spec verbs.Summary ws = bare_line asks.Summary ws
 
 -- the words that begin a line
 abbrev pub verb_name : Verb → List ℕ
@@ -234,44 +251,41 @@ all_verbs =
     ∷ verbs.Lead ∷ verbs.Stop ∷ verbs.Start ∷ verbs.Begin ∷ verbs.Read ∷ verbs.Send ∷ verbs.Post ∷ verbs.Pass ∷ verbs.Fetch ∷ verbs.Deliver ∷ verbs.Take ∷ verbs.Write ∷ verbs.Ack
     ∷ verbs.Work ∷ verbs.Settle ∷ verbs.View ∷ verbs.Route ∷ verbs.Summary ∷ []
 
-abbrev pub verb_among : List Verb → List ℕ → Option Verb
-verb_among [] w = None
-verb_among (v ∷ vs) w = if bytes_eq (verb_name v) w then Some v else verb_among vs w
+abbrev pub is_verb : List ℕ → Verb → Bool
+is_verb w v = bytes_eq (verb_name v) w
 
 abbrev pub verb_of : List ℕ → Result Verb ScriptKind
-verb_of w = or_fault kinds.UnknownWord (verb_among all_verbs w)
+verb_of w = or_fault kinds.UnknownWord (find (is_verb w) all_verbs)
 
 -- a line without words, or whose first word begins with `#`, is a comment
-abbrev pub is_comment : List (List ℕ) → Bool
-is_comment [] = true
-is_comment ([] ∷ ws) = false
-is_comment ((b ∷ bs) ∷ ws) = b == 35
+abbrev pub is_comment : List ℕ → Bool
+is_comment [] = false
+is_comment (b ∷ bs) = b == 35
 
 -- what the words of a line ask for; of a comment, nothing
 abbrev pub asked_by_words : Spec → List (List ℕ) → Result (Option What) ScriptKind
 asked_by_words spec [] = Ok None
-asked_by_words spec (w ∷ ws) =
-    if is_comment (w ∷ ws) then Ok None
-    else then_ok (verb_of w) (λ verb. map_ok Some (what_of spec verb ws))
+asked_by_words spec (w ∷ ws) = if is_comment w then Ok None else then_ok (verb_of w) (λ verb. map_ok Some (what_of spec verb ws))
 
 abbrev pub asked_by : Spec → List ℕ → Result (Option What) ScriptKind
 asked_by spec line = asked_by_words spec (words_of line)
 
--- the description with the name that an `add` line brings
-abbrev pub with_name : Spec → List ℕ → Spec
-with_name spec name = record spec { resource_names = interned spec.resource_names name }
+-- the description with the name that an `add` line brings, which is its second word
+abbrev pub with_name : Spec → List (List ℕ) → Spec
+with_name spec [] = spec
+with_name spec (w ∷ []) = spec
+with_name spec (w ∷ name ∷ ws) = record spec { resource_names = interned spec.resource_names name }
 
-abbrev pub second_word : List (List ℕ) → List ℕ
-second_word [] = []
-second_word (w ∷ []) = []
-second_word (w ∷ name ∷ ws) = name
+abbrev pub is_add : Option What → Bool
+is_add (Some (asks.Add name model replicas parts mode)) = true
+is_add _ = false
 
-abbrev pub spec_after_ask : Spec → List (List ℕ) → Result (Option What) ScriptKind → Spec
-spec_after_ask spec words (Ok (Some (asks.Add name model replicas parts mode))) = with_name spec (second_word words)
-spec_after_ask spec words _ = spec
+abbrev pub spec_with : Spec → List (List ℕ) → Result (Option What) ScriptKind → Spec
+spec_with spec words (Err kind) = spec
+spec_with spec words (Ok what) = if is_add what then with_name spec words else spec
 
 abbrev pub spec_after : Spec → List ℕ → Spec
-spec_after spec line = spec_after_ask spec (words_of line) (asked_by spec line)
+spec_after spec line = spec_with spec (words_of line) (asked_by spec line)
 
 -- the lines that ask for something, each with its number, and the description with the names that they bring; or the first fault
 abbrev pub numbered : ℕ → Result (Option What) ScriptKind → Result (List Line × Spec) ScriptFault → Result (List Line × Spec) ScriptFault

@@ -2,7 +2,9 @@
 #![tactic(auto)]
 
 mod faults;
+mod forms;
 mod verbs;
+mod words;
 
 pub use faults::{ScriptFault, ScriptKind};
 pub use verbs::Verb;

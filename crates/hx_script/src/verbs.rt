@@ -1,4 +1,8 @@
 //! The words that begin a script line.
+ghost use Rattle.std.specs.Prelude.{◌≡◌, find};
+ghost use Rattle.hx_script.specs.Grammar.{verb_name, is_verb, verb_of};
+
+use crate::faults::ScriptKind;
 
 /// The first word of a script line.
 #[derive(Clone, Copy, Debug, PartialEq, Eq)]
@@ -33,4 +37,98 @@ pub enum Verb {
     View,
     Route,
     Summary,
+}
+
+const VERBS: [Verb; 30] = [
+    Verb::Join,
+    Verb::Beat,
+    Verb::Drain,
+    Verb::Undrain,
+    Verb::Tick,
+    Verb::Expire,
+    Verb::Die,
+    Verb::Add,
+    Verb::Drop,
+    Verb::List,
+    Verb::Map,
+    Verb::Reset,
+    Verb::Lead,
+    Verb::Stop,
+    Verb::Start,
+    Verb::Begin,
+    Verb::Read,
+    Verb::Send,
+    Verb::Post,
+    Verb::Pass,
+    Verb::Fetch,
+    Verb::Deliver,
+    Verb::Take,
+    Verb::Write,
+    Verb::Ack,
+    Verb::Work,
+    Verb::Settle,
+    Verb::View,
+    Verb::Route,
+    Verb::Summary,
+];
+
+impl Verb {
+    /// How a script writes it.
+    pub fn name(self) -> &'static str
+        ensures { result.now ≡ verb_name self }
+    {
+        match self {
+            Verb::Join => "join",
+            Verb::Beat => "beat",
+            Verb::Drain => "drain",
+            Verb::Undrain => "undrain",
+            Verb::Tick => "tick",
+            Verb::Expire => "expire",
+            Verb::Die => "die",
+            Verb::Add => "add",
+            Verb::Drop => "drop",
+            Verb::List => "list",
+            Verb::Map => "map",
+            Verb::Reset => "reset",
+            Verb::Lead => "lead",
+            Verb::Stop => "stop",
+            Verb::Start => "start",
+            Verb::Begin => "begin",
+            Verb::Read => "read",
+            Verb::Send => "send",
+            Verb::Post => "post",
+            Verb::Pass => "pass",
+            Verb::Fetch => "fetch",
+            Verb::Deliver => "deliver",
+            Verb::Take => "take",
+            Verb::Write => "write",
+            Verb::Ack => "ack",
+            Verb::Work => "work",
+            Verb::Settle => "settle",
+            Verb::View => "view",
+            Verb::Route => "route",
+            Verb::Summary => "summary",
+        }
+    }
+
+    /// Whether a script writes it so.
+    fn is(self, word: &str) -> bool
+        ensures { result ≡ is_verb word.now self }
+    {
+        self.name() == word
+    }
+
+    /// The verb that a script writes so.
+    pub fn of(word: &str) -> Result<Verb, ScriptKind>
+        ensures { result ≡ verb_of word.now }
+    {
+        verb_among(&VERBS, word).ok_or(ScriptKind::UnknownWord)
+    }
+}
+
+/// The first of some verbs that a script writes so.
+fn verb_among(verbs: &[Verb], word: &str) -> Option<Verb>
+    ensures { result ≡ find (is_verb word.now) verbs.now }
+{
+    verbs.iter().copied().find(|v| v.is(word))
 }

@@ -1,0 +1,239 @@
+//! The forms of script lines.
+ghost use Rattle.std.specs.Prelude.{◌≡◌, ℕ, ◌≤◌, map, length, IfOk};
+ghost use Rattle.hx_script.specs.Grammar.{instance_alone, controller_alone, instance_and_message, tick_line, add_line, drop_line, list_line, map_line, reset_line, read_line, route_line, bare_line, all_words, instance_word, pair_word, what_of};
+
+use crate::faults::ScriptKind;
+use crate::verbs::Verb;
+use crate::words::{
+    controller_word, five_words, instance_word, message_word, mode_word, model_word, name_word,
+    no_words, number_word, one_word, pair_word, part_words, read_kind_word, resource_word,
+    small_number_word, state_word, three_words, two_and_more, two_words,
+};
+use crate::What;
+use hx_cluster::Spec;
+use hx_ids::{ControllerId, InstanceId, MsgId, StateId};
+use hx_lists::Seq;
+use std::alloc::{AllocError, Global};
+
+/// An instance.
+fn instance_alone(spec: &Spec, words: &[&str]) -> Result<InstanceId, ScriptKind>
+    ensures { result ≡ instance_alone spec.now (map (λ w. w.now) words.now) }
+{
+    instance_word(spec, one_word(words)?)
+}
+
+/// A controller.
+fn controller_alone(spec: &Spec, words: &[&str]) -> Result<ControllerId, ScriptKind>
+    ensures { result ≡ controller_alone spec.now (map (λ w. w.now) words.now) }
+{
+    controller_word(spec, one_word(words)?)
+}
+
+/// An instance and a message.
+fn instance_and_message(spec: &Spec, words: &[&str]) -> Result<(InstanceId, MsgId), ScriptKind>
+    ensures { result ≡ instance_and_message spec.now (map (λ w. w.now) words.now) }
+{
+    let (instance, message) = two_words(words)?;
+    let instance = instance_word(spec, instance)?;
+    let message = message_word(message)?;
+    Ok((instance, message))
+}
+
+fn tick_line(words: &[&str]) -> Result<What, ScriptKind>
+    ensures { result ≡ tick_line (map (λ w. w.now) words.now) }
+{
+    let n = number_word(0, u64::MAX, one_word(words)?)?;
+    Ok(What::Tick(n))
+}
+
+fn add_line(spec: &Spec, words: &[&str]) -> Result<What, ScriptKind>
+    requires { length spec.now.model_names ≤ 256 }
+    ensures { result ≡ add_line spec.now (map (λ w. w.now) words.now) }
+{
+    let (name, model, replicas, parts, mode) = five_words(words)?;
+    let name = name_word(spec, name)?;
+    let model = model_word(spec, model)?;
+    let replicas = small_number_word(1, 64, replicas)?;
+    let parts = small_number_word(1, 1024, parts)?;
+    let mode = mode_word(mode)?;
+    Ok(What::Add {
+        name,
+        model,
+        replicas,
+        parts,
+        mode,
+    })
+}
+
+fn drop_line(spec: &Spec, words: &[&str]) -> Result<What, ScriptKind>
+    ensures { result ≡ drop_line spec.now (map (λ w. w.now) words.now) }
+{
+    let name = resource_word(spec, one_word(words)?)?;
+    Ok(What::Drop(name))
+}
+
+fn reset_line(spec: &Spec, words: &[&str]) -> Result<What, ScriptKind>
+    ensures { result ≡ reset_line spec.now (map (λ w. w.now) words.now) }
+{
+    let (instance, name, part) = three_words(words)?;
+    let instance = instance_word(spec, instance)?;
+    let (name, part) = part_words(spec, name, part)?;
+    Ok(What::Reset {
+        instance,
+        name,
+        part,
+    })
+}
+
+fn read_line(spec: &Spec, words: &[&str]) -> Result<What, ScriptKind>
+    ensures { result ≡ read_line spec.now (map (λ w. w.now) words.now) }
+{
+    let (controller, kind) = two_words(words)?;
+    let controller = controller_word(spec, controller)?;
+    let kind = read_kind_word(kind)?;
+    Ok(What::Read(controller, kind))
+}
+
+fn route_line(spec: &Spec, words: &[&str]) -> Result<What, ScriptKind>
+    requires { length spec.now.states ≤ 256 }
+    ensures { result ≡ route_line spec.now (map (λ w. w.now) words.now) }
+{
+    let (name, part, state) = three_words(words)?;
+    let (name, part) = part_words(spec, name, part)?;
+    let state = state_word(spec, state)?;
+    Ok(What::Route { name, part, state })
+}
+
+fn bare_line(what: What, words: &[&str]) -> Result<What, ScriptKind>
+    ensures { result ≡ bare_line what (map (λ w. w.now) words.now) }
+{
+    match no_words(words) {
+        Ok(()) => Ok(what),
+        Err(kind) => Err(kind),
+    }
+}
+
+/// The instances that words name.
+fn instance_words(
+    alloc: Global,
+    spec: &Spec,
+    words: &[&str],
+) -> Result<Result<Seq<InstanceId>, ScriptKind>, AllocError>
+    ensures { IfOk result (λ r. r ≡ all_words (instance_word spec.now) (map (λ w. w.now) words.now)) }
+{
+    let mut list = Seq::new(alloc);
+    for word in words {
+        match instance_word(spec, word) {
+            Ok(instance) => list.push(instance)?,
+            Err(kind) => return Ok(Err(kind)),
+        }
+    }
+    Ok(Ok(list))
+}
+
+/// The instances with their states that words name.
+fn pair_words(
+    alloc: Global,
+    spec: &Spec,
+    words: &[&str],
+) -> Result<Result<Seq<(InstanceId, StateId)>, ScriptKind>, AllocError>
+    requires { length spec.now.states ≤ 256 }
+    ensures { IfOk result (λ r. r ≡ all_words (pair_word spec.now) (map (λ w. w.now) words.now)) }
+{
+    let mut map = Seq::new(alloc);
+    for word in words {
+        match pair_word(spec, word) {
+            Ok(pair) => map.push(pair)?,
+            Err(kind) => return Ok(Err(kind)),
+        }
+    }
+    Ok(Ok(map))
+}
+
+fn list_line(
+    alloc: Global,
+    spec: &Spec,
+    words: &[&str],
+) -> Result<Result<What, ScriptKind>, AllocError>
+    ensures { IfOk result (λ r. r ≡ list_line spec.now (map (λ w. w.now) words.now)) }
+{
+    let (name, part, rest) = match two_and_more(words) {
+        Ok(found) => found,
+        Err(kind) => return Ok(Err(kind)),
+    };
+    let (name, part) = match part_words(spec, name, part) {
+        Ok(found) => found,
+        Err(kind) => return Ok(Err(kind)),
+    };
+    match instance_words(alloc, spec, rest)? {
+        Ok(list) => Ok(Ok(What::List { name, part, list })),
+        Err(kind) => Ok(Err(kind)),
+    }
+}
+
+fn map_line(
+    alloc: Global,
+    spec: &Spec,
+    words: &[&str],
+) -> Result<Result<What, ScriptKind>, AllocError>
+    requires { length spec.now.states ≤ 256 }
+    ensures { IfOk result (λ r. r ≡ map_line spec.now (map (λ w. w.now) words.now)) }
+{
+    let (name, part, rest) = match two_and_more(words) {
+        Ok(found) => found,
+        Err(kind) => return Ok(Err(kind)),
+    };
+    let (name, part) = match part_words(spec, name, part) {
+        Ok(found) => found,
+        Err(kind) => return Ok(Err(kind)),
+    };
+    match pair_words(alloc, spec, rest)? {
+        Ok(map) => Ok(Ok(What::Map { name, part, map })),
+        Err(kind) => Ok(Err(kind)),
+    }
+}
+
+/// What the words behind a verb ask for.
+pub fn what_of(
+    alloc: Global,
+    spec: &Spec,
+    verb: Verb,
+    words: &[&str],
+) -> Result<Result<What, ScriptKind>, AllocError>
+    requires models { length spec.now.model_names ≤ 256 }
+    requires states { length spec.now.states ≤ 256 }
+    ensures { IfOk result (λ r. r ≡ what_of spec.now verb (map (λ w. w.now) words.now)) }
+{
+    match verb {
+        Verb::Join => Ok(instance_alone(spec, words).map(What::Join)),
+        Verb::Beat => Ok(instance_alone(spec, words).map(What::Beat)),
+        Verb::Drain => Ok(instance_alone(spec, words).map(What::Drain)),
+        Verb::Undrain => Ok(instance_alone(spec, words).map(What::Undrain)),
+        Verb::Tick => Ok(tick_line(words)),
+        Verb::Expire => Ok(instance_alone(spec, words).map(What::Expire)),
+        Verb::Die => Ok(instance_alone(spec, words).map(What::Die)),
+        Verb::Add => Ok(add_line(spec, words)),
+        Verb::Drop => Ok(drop_line(spec, words)),
+        Verb::List => list_line(alloc, spec, words),
+        Verb::Map => map_line(alloc, spec, words),
+        Verb::Reset => Ok(reset_line(spec, words)),
+        Verb::Lead => Ok(controller_alone(spec, words).map(What::Lead)),
+        Verb::Stop => Ok(controller_alone(spec, words).map(What::Stop)),
+        Verb::Start => Ok(controller_alone(spec, words).map(What::Start)),
+        Verb::Begin => Ok(controller_alone(spec, words).map(What::Begin)),
+        Verb::Read => Ok(read_line(spec, words)),
+        Verb::Send => Ok(controller_alone(spec, words).map(What::Send)),
+        Verb::Post => Ok(controller_alone(spec, words).map(What::Post)),
+        Verb::Pass => Ok(controller_alone(spec, words).map(What::Pass)),
+        Verb::Fetch => Ok(instance_alone(spec, words).map(What::Fetch)),
+        Verb::Deliver => Ok(instance_and_message(spec, words).map(|e| What::Deliver(e.0, e.1))),
+        Verb::Take => Ok(instance_and_message(spec, words).map(|e| What::Take(e.0, e.1))),
+        Verb::Write => Ok(instance_and_message(spec, words).map(|e| What::Write(e.0, e.1))),
+        Verb::Ack => Ok(instance_and_message(spec, words).map(|e| What::Ack(e.0, e.1))),
+        Verb::Work => Ok(instance_alone(spec, words).map(What::Work)),
+        Verb::Settle => Ok(bare_line(What::Settle, words)),
+        Verb::View => Ok(bare_line(What::View, words)),
+        Verb::Route => Ok(route_line(spec, words)),
+        Verb::Summary => Ok(bare_line(What::Summary, words)),
+    }
+}
