@@ -1,3 +1,4 @@
 pub mod AllWords
 mod Examples
 pub mod Letters
+pub mod Scripts

@@ -1,7 +1,7 @@
 -- The grammar of scripts: what each line asks for, or the first fault.
-use Rattle.std.specs.Prelude.{ℕ, ◌+◌, ◌-◌, ◌^◌, Bool, true, false, not, ◌==◌, ◌&&◌, List, [], ◌∷◌, length, Option, None, Some, Result, Ok, Err, if◌then◌else◌, find, nat_lt, nat_le, codes}
+use Rattle.std.specs.Prelude.{ℕ, ◌+◌, ◌-◌, ◌^◌, Bool, true, false, ◌==◌, ◌&&◌, List, [], ◌∷◌, ◌++◌, length, Option, None, Some, Result, Ok, Err, if◌then◌else◌, find, nat_lt, nat_le, codes}
 use Rattle.std.specs.List.{position_or_len, before_first, after_first}
-use Rattle.std.specs.Option.{option_map, option_map_or}
+use Rattle.std.specs.Option.{option_map}
 use Rattle.std.specs.Str.{bytes_eq}
 use Rattle.hx_ids.specs.declared.InstanceId.{InstanceId}
 use Rattle.hx_ids.specs.declared.StateId.{StateId}
@@ -12,7 +12,6 @@ use Rattle.hx_ids.specs.Names.{place_of, place_after, interned}
 use Rattle.hx_text.specs.Spellings.{is_name, number_of}
 use Rattle.hx_text.specs.Lines.{words_of}
 use Rattle.hx_cluster.specs.declared.description.Spec.{Spec}
-use Rattle.hx_print.specs.Texts.{line_of}
 use Rattle.hx_script.specs.declared.ReadKind.{ReadKind}
 use Rattle.hx_script.specs.declared.ReadKind.TheVariants as reads
 use Rattle.hx_script.specs.declared.What.{What}
@@ -149,7 +148,7 @@ tick_line ws = then_ok (one_word ws) (λ n. map_ok asks.Tick (number_word 0 (2 ^
 abbrev pub add_line : Spec → List (List ℕ) → Result What ScriptKind
 add_line spec ws =
     then_ok (five_words ws) (λ t. then_ok (name_word spec t.0) (λ name. then_ok (model_word spec t.1) (λ model. then_ok (number_word 1 64 t.2) (λ replicas.
-        then_ok (number_word 1 1024 t.3) (λ parts. map_ok (asks.Add name model replicas parts) (mode_word t.4))))))
+    then_ok (number_word 1 1024 t.3) (λ parts. map_ok (asks.Add name model replicas parts) (mode_word t.4))))))
 
 abbrev pub drop_line : Spec → List (List ℕ) → Result What ScriptKind
 drop_line spec ws = then_ok (one_word ws) (λ r. map_ok asks.Drop (resource_word spec r))
@@ -271,10 +270,12 @@ abbrev pub asked_by : Spec → List ℕ → Result (Option What) ScriptKind
 asked_by spec line = asked_by_words spec (words_of line)
 
 -- the description with the name that an `add` line brings, which is its second word
+abbrev pub with_second : Spec → Result (List ℕ × List ℕ × List (List ℕ)) ScriptKind → Spec
+with_second spec (Err kind) = spec
+with_second spec (Ok words) = record spec { resource_names = interned spec.resource_names words.1 }
+
 abbrev pub with_name : Spec → List (List ℕ) → Spec
-with_name spec [] = spec
-with_name spec (w ∷ []) = spec
-with_name spec (w ∷ name ∷ ws) = record spec { resource_names = interned spec.resource_names name }
+with_name spec words = with_second spec (two_and_more words)
 
 abbrev pub is_add : Option What → Bool
 is_add (Some (asks.Add name model replicas parts mode)) = true
@@ -288,10 +289,13 @@ abbrev pub spec_after : Spec → List ℕ → Spec
 spec_after spec line = spec_with spec (words_of line) (asked_by spec line)
 
 -- the lines that ask for something, each with its number, and the description with the names that they bring; or the first fault
+abbrev pub line_asked : ℕ → Option What → List Line
+line_asked n None = []
+line_asked n (Some what) = (record { number = n; what = what }) ∷ []
+
 abbrev pub numbered : ℕ → Result (Option What) ScriptKind → Result (List Line × Spec) ScriptFault → Result (List Line × Spec) ScriptFault
 numbered n (Err kind) rest = Err (record { line = n; kind = kind })
-numbered n (Ok None) rest = rest
-numbered n (Ok (Some what)) rest = map_ok (λ r. ((record { number = n; what = what }) ∷ r.0, r.1)) rest
+numbered n (Ok what) rest = map_ok (λ r. (line_asked n what ++ r.0, r.1)) rest
 
 abbrev pub script_from : ℕ → List (List ℕ) → Spec → Result (List Line × Spec) ScriptFault
 script_from n [] spec = Ok ([], spec)

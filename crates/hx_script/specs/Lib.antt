@@ -1,2 +1,3 @@
 pub use Rattle.hx_print.specs.Texts
 pub mod Grammar
+pub mod Parsing

@@ -1,4 +1,7 @@
 //! Why something is no script.
+ghost use Rattle.std.specs.Prelude.{◌≡◌};
+
+use std::alloc::{AllocError, AllocFailed};
 
 /// What is wrong with a line, in the order in which it is tested.
 #[derive(Clone, Copy, Debug, PartialEq, Eq)]
@@ -27,4 +30,31 @@ pub enum ScriptKind {
 pub struct ScriptFault {
     pub line: u32,
     pub kind: ScriptKind,
+}
+
+/// Why no script is read.
+#[derive(Clone, Copy, Debug, PartialEq, Eq)]
+pub enum ScriptRefusal {
+    Fault(ScriptFault),
+    OutOfMemory,
+}
+
+impl From<AllocError> for ScriptRefusal {
+    ghost use Rattle.hx_script.specs.declared.faults.ScriptRefusal.TheVariants.{OutOfMemory};
+
+    ghost from_gives = { λ _ e. e ≡ OutOfMemory };
+
+    fn from(_e: AllocError) -> ScriptRefusal {
+        ScriptRefusal::OutOfMemory
+    }
+}
+
+impl<T: Drop> From<AllocFailed<T>> for ScriptRefusal {
+    ghost use Rattle.hx_script.specs.declared.faults.ScriptRefusal.TheVariants.{OutOfMemory};
+
+    ghost from_gives = { λ _ e. e ≡ OutOfMemory };
+
+    fn from(_e: AllocFailed<T>) -> ScriptRefusal {
+        ScriptRefusal::OutOfMemory
+    }
 }

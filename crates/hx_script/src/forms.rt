@@ -2,6 +2,7 @@
 ghost use Rattle.std.specs.Prelude.{◌≡◌, ℕ, ◌≤◌, map, length, IfOk};
 ghost use Rattle.hx_script.specs.Grammar.{instance_alone, controller_alone, instance_and_message, tick_line, add_line, drop_line, list_line, map_line, reset_line, read_line, route_line, bare_line, all_words, instance_word, pair_word, what_of};
 
+use crate::What;
 use crate::faults::ScriptKind;
 use crate::verbs::Verb;
 use crate::words::{
@@ -9,7 +10,6 @@ use crate::words::{
     no_words, number_word, one_word, pair_word, part_words, read_kind_word, resource_word,
     small_number_word, state_word, three_words, two_and_more, two_words,
 };
-use crate::What;
 use hx_cluster::Spec;
 use hx_ids::{ControllerId, InstanceId, MsgId, StateId};
 use hx_lists::Seq;

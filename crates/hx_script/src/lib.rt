@@ -3,15 +3,16 @@
 
 mod faults;
 mod forms;
+mod parsing;
 mod verbs;
 mod words;
 
-pub use faults::{ScriptFault, ScriptKind};
-pub use verbs::Verb;
-
+pub use faults::{ScriptFault, ScriptKind, ScriptRefusal};
 use hx_ids::{ControllerId, InstanceId, ModelId, MsgId, StateId};
 use hx_lists::Seq;
 pub use hx_print::{Note, Word};
+pub use parsing::parse;
+pub use verbs::Verb;
 
 /// Which of a turn's reads.
 #[derive(Clone, Copy, Debug, PartialEq, Eq)]

@@ -1,0 +1,26 @@
+use Rattle.std.proofs.Common.{inr, refl, sym, ◌∙◌}
+use Rattle.hx_script.specs.Grammar.{script_of}
+use Rattle.hx_script.proofs.Scripts.{after_line, at_fault, kept_after, few_after}
+use Rattle.hx_script.proofs.parsing.parse.Goals as goal
+
+pub returns-in_err-add_line-in-Ok-clause-kept : goal.returns-in_err-add_line-in-Ok-clause-kept
+returns-in_err-add_line-in-Ok-clause-kept c =
+    rw c.in_ok-what.ensures.ok.1 (kept_after c.args.spec.now c.loop-place.spec c.get.result.now c.loop-place.invariant.kept)
+
+pub returns-in-Err-clause-err : goal.returns-in-Err-clause-err
+returns-in-Err-clause-err c =
+    inr (
+      _,
+      refl,
+      at_fault c.args.lines.now c.loop-place.place c.get.result.now c.loop-place.spec c.loop-place.script.items c.in-Err.kind (script_of c.args.lines.now c.args.spec.now)
+          c.get.ensures (sym c.in_ok-what.ensures.ok.0 ∙ c.in-Err.is) c.loop-place.invariant.script,
+    )
+
+pub loop-place-preserved : goal.loop-place-preserved
+loop-place-preserved c =
+    rw (c.in_ok-what.ensures.ok.1, c.in_ok-add_line-in-Ok.ensures) (record {
+      script = after_line c.args.lines.now c.loop-place.place c.get.result.now c.loop-place.spec c.loop-place.script.items c.in-Ok.what (script_of c.args.lines.now c.args.spec.now)
+          c.get.ensures (sym c.in_ok-what.ensures.ok.0 ∙ c.in-Ok.is) c.loop-place.invariant.script;
+      kept = kept_after c.args.spec.now c.loop-place.spec c.get.result.now c.loop-place.invariant.kept;
+      few = few_after c.args.spec.now c.loop-place.spec c.get.result.now c.loop-place.place c.loop-place.invariant.few;
+    })
