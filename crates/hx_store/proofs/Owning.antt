@@ -1,17 +1,17 @@
 -- Owners of records and their pairs, through changes of the records.
-use Rattle.std.proofs.Common.{◌≡◌, ℕ, ◌<◌, ◌+◌, Bool, true, false, not, ◌&&◌, ◌||◌, cond, List, [], ◌∷◌, map, filter, length, Some, None, Option, refl, sym, ap, ◌∙◌, subst, arith}
-use Rattle.std.specs.Prelude.{◌==◌, nat_lt, if◌then◌else◌}
+use Rattle.std.proofs.Common.{◌≡◌, ℕ, ◌<◌, ◌+◌, Bool, true, false, not, ◌&&◌, ◌||◌, cond, List, [], ◌∷◌, length, Some, None, Option, refl, sym, ap, ◌∙◌, subst, arith}
+use Rattle.std.specs.Prelude.{◌==◌, if◌then◌else◌}
 use Rattle.std.specs.List.{IsDistinct}
 use Rattle.std.specs.Ordering.{nat_cmp, eq_by_cmp}
 use Rattle.std.specs.Cmp.{unsigned_tied}
-use Rattle.std.specs.Map.{lookup, keys_of, set_value}
+use Rattle.std.specs.Map.{keys_of, set_value}
 use Rattle.std.specs.BTreeMap.{is_at}
 use Rattle.std.proofs.lemmas.Bool.{eq-eqb}
 use Rattle.std.proofs.lemmas.Bool.Decides.{nat_tests}
 use Rattle.std.proofs.lemmas.Map.Keys.{IsDistinct-tail, IsDistinct-from_sorted}
 use Rattle.std.specs.Option.{MatchOption}
 use Rattle.std.specs.Bool.{IsTrue}
-use Rattle.hx_lists.specs.Lists.{insert_by, count}
+use Rattle.hx_lists.specs.Lists.{insert_by}
 use Rattle.hx_ids.specs.declared.SessionId.{SessionId}
 use Rattle.hx_store.specs.declared.Record.{Record}
 use Rattle.hx_store.specs.Records.{record_at, is_before, deleted, owns, is_owned_by, without_owner, owned_by}
@@ -85,6 +85,7 @@ without_owner-none owner (e ∷ es) distinct none =
     one : (b : Bool) → b ≡ true → owns (owner_of (cond b (Some e.1) (record_at es e.0))) owner ≡ false → owns e.1.owner owner ≡ false
     one true is h = h
     one false is h = cc
+
     two : (k : ℕ) (b : Bool) → (k == e.0) ≡ b → owns (owner_of (cond b (Some e.1) (record_at es k))) owner ≡ false → owns (owner_of (record_at es k)) owner ≡ false
     two k true is h = rw (absent-past_head k e es distinct is) refl
     two k false is h = h

@@ -1,14 +1,12 @@
 -- Pairs of a session and a key in a set, told apart by plain tests.
-use Rattle.std.proofs.Common.{Ordering, Option, Some, eqb, ◌≡◌, ℕ, ◌<◌, Bool, true, false, cond, not, List, [], ◌∷◌, refl, sym, ap, ◌∙◌, subst, arith, ◌&&◌, ◌||◌}
-use Rattle.std.specs.Prelude.{◌==◌, nat_lt}
+use Rattle.std.proofs.Common.{Ordering, Option, Some, eqb, ◌≡◌, ℕ, Bool, true, false, cond, not, List, [], ◌∷◌, refl, sym, ◌∙◌, subst, arith, ◌&&◌, ◌||◌}
+use Rattle.std.specs.Prelude.{◌==◌}
 use Rattle.std.specs.List.{list_any, slice_get}
 use Rattle.std.specs.Ordering.{nat_cmp, is_eq, is_gt, ordering_then}
 use Rattle.std.specs.BTreeMap.{is_at}
 use Rattle.std.specs.BTreeSet.{BTreeSet, IsKeyInRange, IsKeyRangeOf}
 use Rattle.std.specs.declared.ops.Bound.TheVariants.{Included, Unbounded}
 use Rattle.std.specs.Option.{IfSome}
-use Rattle.std.specs.Bool.{IsTrue}
-use Rattle.std.specs.Cmp.{unsigned_tied}
 use Rattle.std.proofs.lemmas.Bool.Decides.{nat_tests}
 use Rattle.hx_ids.specs.declared.SessionId.{SessionId}
 use Rattle.hx_store.specs.Records.{owns}
@@ -74,8 +72,10 @@ none_past_other s k pairs r rest now p h same is other = rw (← same, ← has-p
   where
     IsLeast : List (SessionId × ℕ) → Type 0
     IsLeast xs = IfSome (slice_get xs 0) (λ e. is_gt (pair_cmp e (s, k)) ≡ false)
+
     IsFirst : List (SessionId × ℕ) → Type 0
     IsFirst xs = IfSome (slice_get xs 0) (IsKeyInRange pair_cmp (Included (s, 0)) Unbounded pairs)
+
     one : (b : Bool) → list_any (is_at (pair_cmp (s, k))) pairs.keys ≡ b → b ≡ false
     one false e = refl
     one true e = absurd (past p s k (subst IsFirst is h.1).0.0 (subst IsLeast is (h.2 (s, k) (from_zero s k, tt) e)) other)

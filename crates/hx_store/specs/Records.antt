@@ -1,5 +1,5 @@
 -- A store as the list of its keys with their records, in order of key.
-use Rattle.std.specs.Prelude.{ℕ, ◌+◌, Bool, false, not, ◌==◌, ◌&&◌, List, map, filter, length, Option, None, Some, nat_le, nat_lt, if◌then◌else◌}
+use Rattle.std.specs.Prelude.{ℕ, ◌+◌, Bool, false, not, ◌==◌, ◌&&◌, List, map, filter, Option, None, Some, nat_le, nat_lt, if◌then◌else◌}
 use Rattle.std.specs.Map.{lookup, keys_of}
 use Rattle.hx_lists.specs.Lists.{count, insert_by}
 use Rattle.hx_ids.specs.declared.SessionId.{SessionId}

@@ -1,7 +1,8 @@
 //! A store of versioned records by key, some of which belong to a session.
 #![tactic(auto)]
 
-ghost use Rattle.std.specs.Prelude.{◌≡◌, ℕ, ◌<◌, List, [], length, IfOk, IfSome, OnOk, OnErr, MatchOption, Option, None, Some, option_map, option_copied, IsTrue, ◌↔◌};
+ghost use Rattle.std.specs.Prelude.{◌≡◌, ℕ, ◌==◌, [], IfOk, OnOk, OnErr, MatchOption, None, Some, option_map, IsTrue, IsSome, if◌then◌else◌};
+ghost use Rattle.std.specs.List.{list_any};
 ghost use Rattle.std.specs.Map.{keys_of};
 ghost use Rattle.std.specs.List.Sorted.{IsStrictlySortedBy};
 ghost use Rattle.std.specs.Ordering.{nat_cmp};
@@ -9,14 +10,20 @@ ghost use Rattle.hx_lists.specs.Lists.{insert_by};
 ghost use Rattle.hx_store.specs.Records.{record_at, is_before, created, set_to, deleted, owns, without_owner, owned_by, keys_within};
 ghost use Rattle.hx_store.specs.Refusals.{RefusedAs, RefusedBy, create_refusal, change_refusal, CanChange};
 ghost use Rattle.hx_store.specs.Owners.{owner_of};
+ghost use Rattle.hx_store.specs.Operations.{done_all, first_refusal, RefusedAt, CanDoAll};
+ghost use Rattle.hx_store.specs.Drafts.{change_at, over, drafted, IsDraft};
 
+mod changes;
+mod draft;
 mod owners;
 mod records;
 
+use changes::{claim_all, keys_in_order, settle};
+use draft::{Draft, draft_of};
 use hx_ids::SessionId;
 use owners::Owners;
 use records::first_record;
-use std::alloc::{AllocError, AllocFailed, Global};
+use std::alloc::{AllocError, Global};
 use std::collections::BTreeMap;
 use std::marker::Model;
 use std::mem;
@@ -49,6 +56,47 @@ impl From<AllocError> for StoreFault {
 
     fn from(_e: AllocError) -> StoreFault {
         StoreFault::OutOfMemory
+    }
+}
+
+/// One operation of several that are made together.
+#[derive(Debug, Drop)]
+pub enum Op<V> {
+    Create {
+        key: u64,
+        owner: Option<SessionId>,
+        value: V,
+    },
+    Set {
+        key: u64,
+        version: u64,
+        value: V,
+    },
+    Delete {
+        key: u64,
+        version: u64,
+    },
+}
+
+/// Why operations are refused together: the first that is refused after those before it, by its place from 0, and why.
+/// For want of memory the place says nothing.
+#[derive(Clone, Copy, Debug, PartialEq, Eq)]
+pub struct MultiFault {
+    pub at: u32,
+    pub fault: StoreFault,
+}
+
+impl From<AllocError> for MultiFault {
+    ghost use Rattle.std.specs.Prelude.{◌≡◌};
+    ghost use Rattle.hx_store.specs.declared.StoreFault.TheVariants.{OutOfMemory};
+
+    ghost from_gives = { λ _ e. e.fault ≡ OutOfMemory };
+
+    fn from(_e: AllocError) -> MultiFault {
+        MultiFault {
+            at: 0,
+            fault: StoreFault::OutOfMemory,
+        }
     }
 }
 
@@ -86,12 +134,7 @@ impl<V: Drop> Store<V> {
     }
 
     /// Makes a record of version 1.
-    pub fn create(
-        &mut self,
-        key: u64,
-        owner: Option<SessionId>,
-        value: V,
-    ) -> Result<(), StoreFault>
+    pub fn create(&mut self, key: u64, owner: Option<SessionId>, value: V) -> Result<(), StoreFault>
         ensures refused { RefusedBy StoreFault.OutOfMemory (create_refusal self.old key) result }
         ensures ok { OnOk result (self.new ≡ created self.old key owner value) }
         ensures err { OnErr result (self.new ≡ self.old) }
@@ -164,7 +207,10 @@ impl<V: Drop> Store<V> {
         if to <= from {
             return Ok(Vec::new(self.alloc));
         }
-        self.records.range(from..to).map(|(key, _)| *key).collect(self.alloc)
+        self.records
+            .range(from..to)
+            .map(|(key, _)| *key)
+            .collect(self.alloc)
     }
 
     /// Removes all records that a session owns, and gives their number. It takes no memory, and goes over no others.
@@ -179,6 +225,77 @@ impl<V: Drop> Store<V> {
         (before - self.records.len()) as u64
     }
 
+    /// Does operations in order, or none where one is refused after those before it. More than 2^32 - 1 operations are
+    /// answered as want of memory.
+    pub fn multi(&mut self, ops: Vec<Op<V>>) -> Result<(), MultiFault>
+        requires { CanDoAll self.old ops.items }
+        ensures refused { RefusedAt (first_refusal 0 self.old ops.items) result }
+        ensures ok { OnOk result (self.new ≡ done_all self.old ops.items) }
+        ensures err { OnErr result (self.new ≡ self.old) }
+    {
+        let draft = draft_of(self.alloc, &self.records, ops)?;
+        self.make(draft)?;
+        Ok(())
+    }
+
+    // Makes all that a draft says.
+    fn make(&mut self, draft: Draft<V>) -> Result<(), AllocError>
+        requires { IsDraft self.old draft.fresh.entries draft.changes.entries }
+        ensures ok { OnOk result ((q : ℕ) → record_at self.new q ≡ drafted self.old draft.fresh.entries draft.changes.entries q) }
+        ensures ordered { IsStrictlySortedBy nat_cmp (keys_of self.new) }
+        ensures err { OnErr result (self.new ≡ self.old) }
+    {
+        let Draft { fresh, changes } = draft;
+        let added = self.add_all(fresh)?;
+        if let Err(refused) = self.change_all(changes) {
+            self.take_all(&added);
+            return Err(refused);
+        }
+        Ok(())
+    }
+
+    // Puts records where there are none, all or none of them, and gives their keys.
+    fn add_all(&mut self, fresh: BTreeMap<u64, Record<V>>) -> Result<Vec<u64>, AllocError>
+        requires { (k : ℕ) → IsSome (record_at fresh.entries k) → record_at self.old k ≡ None }
+        ensures ok { OnOk result ((q : ℕ) → record_at self.new q ≡ over (record_at self.old q) None (record_at fresh.entries q)) }
+        ensures keys { IfOk result (λ keys. keys.items ≡ keys_of fresh.entries) }
+        ensures ordered { IsStrictlySortedBy nat_cmp (keys_of self.new) }
+        ensures was_ordered { IsStrictlySortedBy nat_cmp (keys_of self.old) }
+        ensures err { OnErr result (self.new ≡ self.old) }
+    {
+        let keys = keys_in_order(self.alloc, &fresh)?;
+        for (key, record) in fresh {
+            if let Err(refused) = self.add(key, record) {
+                self.take_all(&keys);
+                return Err(refused);
+            }
+        }
+        Ok(keys)
+    }
+
+    // Changes records that are there, all or none of them.
+    fn change_all(&mut self, changes: BTreeMap<u64, Option<Record<V>>>) -> Result<(), AllocError>
+        requires { (k : ℕ) → IsSome (change_at changes.entries k) → IsSome (record_at self.old k) }
+        ensures ok { OnOk result ((k : ℕ) → record_at self.new k ≡ over (record_at self.old k) (change_at changes.entries k) None) }
+        ensures ordered { IsStrictlySortedBy nat_cmp (keys_of self.new) }
+        ensures err { OnErr result (self.new ≡ self.old) }
+    {
+        claim_all(&mut self.owners, &self.records, &changes)?;
+        settle(&mut self.records, &mut self.owners, changes);
+        Ok(())
+    }
+
+    // Takes the records of some keys out.
+    fn take_all(&mut self, keys: &[u64])
+        requires { IsStrictlySortedBy nat_cmp (keys_of self.old) }
+        ensures rest { (q : ℕ) → record_at self.new q ≡ (if list_any (λ k. q == k) keys.now then None else record_at self.old q) }
+        ensures ordered { IsStrictlySortedBy nat_cmp (keys_of self.new) }
+    {
+        for key in keys {
+            self.take(*key);
+        }
+    }
+
     // A key whose record a session owns.
     fn owned_key(&self, owner: SessionId) -> Option<u64>
         ensures ordered { IsStrictlySortedBy nat_cmp (keys_of self.now) }
@@ -191,6 +308,7 @@ impl<V: Drop> Store<V> {
     fn add(&mut self, key: u64, added: Record<V>) -> Result<(), AllocError>
         requires { record_at self.old key ≡ None }
         ensures ok { OnOk result (self.new ≡ insert_by is_before (key, added) self.old) }
+        ensures ordered { IsStrictlySortedBy nat_cmp (keys_of self.new) }
         ensures err { OnErr result (self.new ≡ self.old) }
     {
         let owner = added.owner;
@@ -208,9 +326,13 @@ impl<V: Drop> Store<V> {
     fn take(&mut self, key: u64) -> Option<Record<V>>
         ensures value { result ≡ record_at self.old key }
         ensures rest { self.new ≡ deleted self.old key }
+        ensures ordered { IsStrictlySortedBy nat_cmp (keys_of self.new) }
     {
         let record = self.records.remove(&key)?;
         self.owners.release(record.owner, key);
         Some(record)
     }
 }
+
+#[cfg(test)]
+mod tests;

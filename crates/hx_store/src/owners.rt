@@ -54,6 +54,20 @@ impl Owners {
         }
     }
 
+    /// Forgets that a session owns a key, unless another one that does is the same. It takes no memory.
+    pub(crate) fn release_unless(
+        &mut self,
+        owner: Option<SessionId>,
+        kept: Option<SessionId>,
+        key: u64,
+    )
+        ensures { (s : SessionId) (k : ℕ) → has self.new s k ≡ (has self.old s k && not ((owns owner s && not (owns kept s)) && (key == k))) }
+    {
+        if owner != kept {
+            self.release(owner, key);
+        }
+    }
+
     /// The first key that a session owns. It takes no memory.
     pub(crate) fn first(&self, owner: SessionId) -> Option<u64>
         ensures { MatchOption result ((k : ℕ) → has self.now owner k ≡ false) (λ k. has self.now owner k ≡ true) }

@@ -1,4 +1,4 @@
-use Rattle.std.proofs.Common.{◌≡◌, ℕ, Bool, false, true, None, Option, sym, ◌∙◌, subst}
+use Rattle.std.proofs.Common.{◌≡◌, ℕ, false, true, Option, sym, ◌∙◌, subst}
 use Rattle.std.specs.Option.{MatchOption}
 use Rattle.hx_store.specs.Owners.{has}
 use Rattle.hx_store.proofs.Pairs.{none_past_end, none_past_other}
