@@ -1,5 +1,5 @@
 -- What becomes of the links of all lists when a node leaves its list, and when one comes last.
-use Rattle.std.proofs.Common.{◌≡◌, ◌≢◌, inl, inr, ℕ, zero, suc, ◌+◌, ◌≤◌, ◌<◌, ◌==◌, Bool, true, false, List, [], ◌∷◌, ◌++◌, map, length, get_or, set, Option, Some, None, is_some, refl, sym, ap, ◌∙◌, subst, arith}
+use Rattle.std.proofs.Common.{◌≡◌, ◌≢◌, inl, inr, ℕ, zero, suc, ◌+◌, ◌≤◌, ◌<◌, ◌==◌, Bool, true, false, List, [], ◌∷◌, ◌++◌, map, length, get_or, set, Option, Some, None, is_some, option_map, refl, sym, ap, ◌∙◌, subst, arith}
 use Rattle.std.specs.Prelude.{if◌then◌else◌}
 use Rattle.std.proofs.lemmas.Bool.{cases_eq, eq-eqb, ne_eqb, eqb-true, eqb-false}
 use Rattle.std.proofs.lemmas.Bool.Decides.{nat_tests}
@@ -7,8 +7,8 @@ use Rattle.std.proofs.lemmas.List.{length-append, length-map, get_or-set_same, s
 use Rattle.hx_links.specs.declared.Node.{Node}
 use Rattle.hx_links.specs.declared.slots.Link.{Link}
 use Rattle.hx_links.specs.declared.chains.Ends.{Ends}
-use Rattle.hx_links.specs.Pool.{is_at, is_in, without, occurrences, node_count, first_node, pushed}
-use Rattle.hx_links.specs.Slots.{link_at, held}
+use Rattle.hx_links.specs.Pool.{is_at, is_in, without, occurrences, node_count, first_node, pushed, replaced}
+use Rattle.hx_links.specs.Slots.{link_at, held, with_value}
 use Rattle.hx_links.specs.Chains.{is_node, make_link, link_in, own, ends_of, list_at, last_after, connected, ends_connected, no_ends, AreLinks, AreLinksBut}
 use Rattle.hx_links.proofs.Vacancy.{same_node, get_or-set_test}
 use Rattle.hx_links.proofs.Entries.{AreDistinct, times, is_in-none, times-absent, times-present, link_in-absent, link_in-some, without-absent, prev_in-list, next_in-list, last_in-list, connected-other, link_in-without, front-without, back-without, link_in-last, link_in-push, last_after-push, first_node-push}
@@ -321,3 +321,79 @@ module _ {T : Type 0} where
                 (sym (ap (link_in l None m) (list_at-pushed lists l (n, k.value) within) ∙ link_in-push l None m (n, k.value) xs distinct off))
             | inr ne ↦ other_list lists j l last (Some n) m ne (but.once m) (last_in m) (λ h. absurd (cc)) ∙ ap (link_in j None m) (sym (list_at-pushed_other lists l j (n, k.value) ne))
           ])
+
+  -- a node with another value
+  first_node-replaced : (n : Node) (v : T) (xs : List (Node × T)) → first_node (map (replaced n v) xs) ≡ first_node xs
+  first_node-replaced n v [] = refl
+  first_node-replaced n v (x ∷ xs) = refl
+
+  last_after-replaced : (p : Option Node) (n : Node) (v : T) (xs : List (Node × T)) → last_after p (map (replaced n v) xs) ≡ last_after p xs
+  last_after-replaced p n v [] = refl
+  last_after-replaced p n v (x ∷ xs) = last_after-replaced (Some x.0) n v xs
+
+  times-replaced : (n m : Node) (v : T) (xs : List (Node × T)) → times m (map (replaced n v) xs) ≡ times m xs
+  times-replaced n m v [] = refl
+  times-replaced n m v (x ∷ xs) = grind (arith, times-replaced n m v xs)
+
+  link_in-replaced : (l : ℕ) (p : Option Node) (n m : Node) (v : T) (xs : List (Node × T)) → link_in l p m (map (replaced n v) xs) ≡ (if m.0 == n.0 then option_map (with_value v) (link_in l p m xs) else link_in l p m xs)
+  link_in-replaced l p n m v [] = by_test (m.0 == n.0)
+    where
+      by_test : (b : Bool) → None ≡ (if b then option_map (with_value v) None else None)
+      by_test true = refl
+      by_test false = refl
+  link_in-replaced l p n m v (x ∷ xs) = by_test (is_at m x) refl (m.0 == n.0) refl (link_in-replaced l (Some x.0) n m v xs)
+    where
+      by_test : (b : Bool) → is_at m x ≡ b → (d : Bool) → (m.0 == n.0) ≡ d
+          → link_in l (Some x.0) m (map (replaced n v) xs) ≡ (if d then option_map (with_value v) (link_in l (Some x.0) m xs) else link_in l (Some x.0) m xs)
+          → link_in l p m (map (replaced n v) (x ∷ xs)) ≡ (if d then option_map (with_value v) (link_in l p m (x ∷ xs)) else link_in l p m (x ∷ xs))
+      by_test true at true same rest = let here : is_at n x ≡ true = grind (arith, nat_tests) in rw (at, here, first_node-replaced n v xs) refl
+      by_test true at false other rest = let there : is_at n x ≡ false = grind (arith, nat_tests) in rw (at, there, first_node-replaced n v xs) refl
+      by_test false at true same rest = rw at rest
+      by_test false at false other rest = rw at rest
+
+  list_at-replaced : (n : Node) (v : T) (lists : List (List (Node × T))) (l : ℕ) → list_at (map (map (replaced n v)) lists) l ≡ map (replaced n v) (list_at lists l)
+  list_at-replaced n v [] l = refl
+  list_at-replaced n v (xs ∷ lists) zero = refl
+  list_at-replaced n v (xs ∷ lists) (suc l) = list_at-replaced n v lists l
+
+  ends-replaced : (n : Node) (v : T) (lists : List (List (Node × T))) → map ends_of (map (map (replaced n v)) lists) ≡ map ends_of lists
+  ends-replaced n v [] = refl
+  ends-replaced n v (xs ∷ lists) = rw (first_node-replaced n v xs, last_after-replaced None n v xs, ends-replaced n v lists) refl
+
+  occurrences-replaced : (n m : Node) (v : T) (lists : List (List (Node × T))) → occurrences m (map (map (replaced n v)) lists) ≡ occurrences m lists
+  occurrences-replaced n m v [] = refl
+  occurrences-replaced n m v (xs ∷ lists) = omega (arith, occurrences-replaced n m v lists, times-replaced n m v xs)
+
+  count-replaced : (n : Node) (v : T) (lists : List (List (Node × T))) → node_count (map (map (replaced n v)) lists) ≡ node_count lists
+  count-replaced n v [] = refl
+  count-replaced n v (xs ∷ lists) = omega (arith, count-replaced n v lists, length-map xs (replaced n v))
+
+  own-value : (l : ℕ) (v : T) (k : Option (Link T)) → own l (option_map (with_value v) k) ≡ option_map (with_value v) (own l k)
+  own-value l v None = refl
+  own-value l v (Some k) = by_test (k.list.0 == l)
+    where
+      by_test : (b : Bool) → (if b then Some (with_value v k) else None) ≡ option_map (with_value v) (if b then Some k else None)
+      by_test true = refl
+      by_test false = refl
+
+  pub with_replaced : (links links' : List (Option (Link T))) (ends : List Ends) (lists : List (List (Node × T))) (n : Node) (v : T)
+      → AreLinks links ends lists → n.0 < length links → links' ≡ set links n.0 (option_map (with_value v) (link_at links n)) → held links' ≡ held links
+      → AreLinks links' ends (map (map (replaced n v)) lists)
+  with_replaced links links' ends lists n v are within is held_is =
+      record {
+        ends_are = are.ends_are ∙ sym (ends-replaced n v lists);
+        links_are = λ l m. (
+            ap (λ (ls : List (Option (Link T))). own l (link_at ls m)) is ∙ by_test l m (m.0 == n.0) refl
+            ∙ sym (ap (link_in l None m) (list_at-replaced n v lists l) ∙ link_in-replaced l None n m v (list_at lists l))
+            );
+        once = λ m. omega (arith, are.once m, occurrences-replaced n m v lists);
+        all = omega (arith, are.all, held_is, count-replaced n v lists);
+      }
+    where
+      by_test : (l : ℕ) (m : Node) (b : Bool) → (m.0 == n.0) ≡ b
+          → own l (link_at (set links n.0 (option_map (with_value v) (link_at links n))) m) ≡ (if b then option_map (with_value v) (link_in l None m (list_at lists l)) else link_in l None m (list_at lists l))
+      by_test l m true same =
+          let one : n ≡ m = sym (same_node m n (eqb-true m.0 n.0 same)) in
+          rw (get_or-set_test links n.0 m.0 (option_map (with_value v) (link_at links n)) None within, same)
+          (own-value l v (link_at links n) ∙ ap (option_map (with_value v)) (are.links_are l n ∙ ap (λ (i : Node). link_in l None i (list_at lists l)) one))
+      by_test l m false other = rw (get_or-set_test links n.0 m.0 (option_map (with_value v) (link_at links n)) None within, other) (are.links_are l m)

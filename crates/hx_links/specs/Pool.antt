@@ -87,3 +87,7 @@ module _ {T : Type 0} where
   -- a list in which the node, if it has it, comes last
   abbrev pub moved_back : Node → List (Node × T) → List (Node × T)
   moved_back n xs = without n xs ++ filter (is_at n) xs
+
+  -- an entry with another value, if it is the node's
+  abbrev pub replaced : Node → T → Node × T → Node × T
+  replaced n v e = (e.0, if is_at n e then v else e.1)

@@ -46,3 +46,6 @@ module _ {T : Type 0} where
 
   abbrev pub with_prev : Option Node → Link T → Link T
   with_prev n k = record k { prev = n }
+
+  abbrev pub with_value : T → Link T → Link T
+  with_value v k = record k { value = v }

@@ -4,7 +4,7 @@
 #![tactic(auto)]
 
 ghost use Rattle.std.specs.Prelude.{◌≡◌, ℕ, ◌+◌, ◌-◌, ◌^◌, ◌<◌, ◌≤◌, [], ◌∷◌, ◌++◌, map, length, Some, IsOk, OnOk, IfOk, OnErr, IfErr, false, IsTrue, slice_index_or};
-ghost use Rattle.hx_links.specs.Pool.{holds, occurrences, node_count, value_of, next_of, first_node, pushed, without, moved_back};
+ghost use Rattle.hx_links.specs.Pool.{holds, occurrences, node_count, value_of, next_of, first_node, pushed, without, moved_back, replaced};
 
 mod chains;
 mod slots;
@@ -147,6 +147,16 @@ impl<T> Pool<T> {
     {
         self.chains.detach(node);
         self.chains.append(node);
+    }
+
+    /// Puts another value at a node, and gives the old one. It takes no memory.
+    pub fn replace(&mut self, node: Node, value: T) -> T
+        requires { IsTrue (holds self.old.lists node) }
+        ensures value { value_of self.old.lists node ≡ Some result }
+        ensures lists { self.new.lists ≡ map (map (replaced node value)) self.old.lists }
+        ensures spare { self.new.spare ≡ self.old.spare }
+    {
+        self.chains.slots.set_value(node, value)
     }
 
     /// A node's value.

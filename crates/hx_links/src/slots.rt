@@ -1,6 +1,6 @@
 //! Links that keep their places in one vector, whose vacant places are chained.
 ghost use Rattle.std.specs.Prelude.{◌≡◌, ℕ, ◌+◌, ◌-◌, ◌*◌, ◌^◌, ◌<◌, ◌≤◌, ◌==◌, [], IsSome, Some, None, is_some, option_map, slice_set, IsOk, OnOk, OnErr, if◌then◌else◌};
-ghost use Rattle.hx_links.specs.Slots.{link_at, held, with_next, with_prev};
+ghost use Rattle.hx_links.specs.Slots.{link_at, held, with_next, with_prev, with_value};
 
 use crate::{ListId, Node};
 use std::alloc::{AllocError, Global};
@@ -168,6 +168,20 @@ impl<T> Slots<T> {
     {
         match &mut self.slots[node.0 as usize] {
             Slot::Held(link) => link.prev = prev,
+            Slot::Vacant(_) => unreachable!(),
+        }
+    }
+
+    /// Writes a node's value, and gives the old one.
+    pub fn set_value(&mut self, node: Node, value: T) -> T
+        requires { IsSome (link_at self.old.links node) }
+        ensures value { option_map (λ k. k.value) (link_at self.old.links node) ≡ Some result }
+        ensures links { self.new.links ≡ slice_set self.old.links node.0 (option_map (with_value value) (link_at self.old.links node)) }
+        ensures held { held self.new.links ≡ held self.old.links }
+        ensures spare { self.new.spare ≡ self.old.spare }
+    {
+        match &mut self.slots[node.0 as usize] {
+            Slot::Held(link) => mem::replace(&mut link.value, value),
             Slot::Vacant(_) => unreachable!(),
         }
     }

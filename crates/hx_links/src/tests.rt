@@ -35,7 +35,10 @@ fn a_node_leaves_and_another_comes_last(rt: HostRuntime) -> Result<(), Fail> {
     pool.move_back(one);
     expect_values(&rt, &pool, list, &[3, 1]);
     assert!(rt; !pool.holds(two));
+
     assert!(rt; pool.holds(three));
+    assert_eq!(rt; pool.replace(three, 7), 3);
+    expect_values(&rt, &pool, list, &[7, 1]);
     Ok(())
 }
 
