@@ -110,11 +110,11 @@ module _ {T : Type 0} where
       let there : map (moved_back n) lists ≡ lists = all_moved_back-absent n lists (omega arith) in
       rw (here, there) refl
 
-  value_some : (n : Node) (xs : List (Node × T)) → is_some (value_in n xs) ≡ is_in n xs
+  pub value_some : (n : Node) (xs : List (Node × T)) → is_some (value_in n xs) ≡ is_in n xs
   value_some n [] = refl
   value_some n (x ∷ xs) = grind (arith, value_some n xs)
 
-  only_entry : (n : Node) (xs : List (Node × T)) (v : T) → times n xs ≤ 1 → value_in n xs ≡ Some v → filter (is_at n) xs ≡ (n, v) ∷ []
+  pub only_entry : (n : Node) (xs : List (Node × T)) (v : T) → times n xs ≤ 1 → value_in n xs ≡ Some v → filter (is_at n) xs ≡ (n, v) ∷ []
   only_entry n [] v once e = absurd (cc)
   only_entry n (x ∷ xs) v once e = by_test (is_at n x) refl (only_entry n xs v (let o = once in grind arith))
     where

@@ -1,0 +1,4 @@
+pub mod Placing
+pub mod Living
+pub mod Keeping
+pub mod Passing
