@@ -100,7 +100,8 @@ marks n l (x ∷ es) once alone e v = by_test (is_session l.session x.1) refl e 
         let value : x.1 ≡ l = cc in
         let off : is_in n es ≡ false = subst (λ i. is_in i es ≡ false) node (node_alone x es once) in
         let gone : is_live (live_of es) l.session ≡ false = subst (λ k. is_live (live_of es) k.session ≡ false) value (session_alone x.1 (live_of es) alone) in
-        (here ∙ sym at, (λ _. ap (λ i. (i, x.1)) node ∙ ap (λ k. (n, k)) value), marks_none n l es off gone)
+        let test : is_at n x ≡ is_session l.session x.1 = cc in
+        (test, (λ _. ap (λ i. (i, x.1)) node ∙ ap (λ k. (n, k)) value), marks_none n l es off gone)
     by_test false at e rest =
         let there : is_at n x ≡ false = other_node x es n once (node_of-in l.session.0 n es e) in
         let found : value_in n es ≡ Some l = rw there at v in

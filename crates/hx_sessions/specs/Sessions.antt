@@ -1,5 +1,5 @@
 -- What contracts see of the live sessions, and the words on them.
-use Rattle.std.specs.Prelude.{◌≡◌, ℕ, ◌+◌, ◌≤◌, ◌==◌, ◌&&◌, Bool, true, not, List, [], ◌∷◌, ◌++◌, map, filter, find, Option, nat_le, nat_lt, refl}
+use Rattle.std.specs.Prelude.{◌≡◌, ℕ, ◌+◌, ◌≤◌, ◌==◌, ◌&&◌, Bool, true, not, List, [], ◌∷◌, ◌++◌, map, filter, find, Option, None, Some, if◌then◌else◌, nat_le, nat_lt, refl}
 use Rattle.std.specs.List.{list_any, list_all}
 use Rattle.std.specs.Coded.{Coded, code_by, coded×, coded_ℕ, coded_list}
 use Rattle.hx_lists.specs.Lists.{count}
@@ -44,6 +44,16 @@ is_live live s = list_any (is_session s) live
 -- the session, if it is live
 abbrev pub session_at : List Live → SessionId → Option Live
 session_at live s = find (is_session s) live
+
+-- the first session
+abbrev pub first_live : List Live → Option Live
+first_live [] = None
+first_live (l ∷ live) = Some l
+
+-- the session after a session
+abbrev pub live_after : SessionId → List Live → Option Live
+live_after s [] = None
+live_after s (l ∷ live) = if is_session s l then first_live live else live_after s live
 
 -- no beat is later than now
 abbrev pub no_later : ℕ → List Live → Bool

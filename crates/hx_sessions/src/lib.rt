@@ -6,7 +6,7 @@
 ghost use Rattle.std.specs.Prelude.{◌≡◌, ℕ, ◌+◌, ◌-◌, ◌^◌, ◌<◌, ◌≤◌, [], length, true, Some, is_ok, OnOk, IfOk, OnErr};
 ghost use Rattle.hx_ids.specs.Expiry.{expired};
 ghost use Rattle.hx_sessions.specs.Places.{entries_of, IsOnlyList};
-ghost use Rattle.hx_sessions.specs.Sessions.{AreSessions, is_live, session_at, no_later, opened, beaten, without, remaining};
+ghost use Rattle.hx_sessions.specs.Sessions.{AreSessions, is_live, session_at, first_live, live_after, no_later, opened, beaten, without, remaining};
 
 use hx_ids::{InstanceId, Live, SessionId};
 use hx_links::{ListId, Node, Pool};
@@ -81,6 +81,23 @@ impl Sessions {
     {
         let node = self.nodes.get(&session.0)?;
         Some(*self.pool.get(*node))
+    }
+
+    /// The live session whose last beat is the longest ago. It takes no memory.
+    pub fn first(&self) -> Option<Live>
+        ensures { result ≡ first_live self.now.live }
+    {
+        let node = self.pool.front(self.order?)?;
+        Some(*self.pool.get(node))
+    }
+
+    /// The session after a live session, in order of last beat. It takes no memory.
+    pub fn after(&self, session: SessionId) -> Option<Live>
+        ensures { result ≡ live_after session self.now.live }
+    {
+        let node = self.nodes.get(&session.0)?;
+        let next = self.pool.next(*node)?;
+        Some(*self.pool.get(next))
     }
 
     /// Opens a session of an instance.

@@ -8,6 +8,12 @@ fn sessions_expire_in_order_of_last_beat(rt: HostRuntime) -> Result<(), Fail> {
     let second = sessions.open(InstanceId(1), 0)?;
     assert_eq!(rt; (first, second), (SessionId(1), SessionId(2)));
     assert_eq!(rt; sessions.beat(first, 5), Ok(()));
+    assert_eq!(rt; sessions.first().map(|live| live.session), Some(second));
+    assert_eq!(rt;
+        sessions.after(second).map(|live| live.session),
+        Some(first)
+    );
+    assert_eq!(rt; sessions.after(first), None);
     assert_eq!(rt; sessions.expire(30, 30)?.as_slice(), [second].as_slice());
     assert_eq!(rt; sessions.find(second), None);
     assert_eq!(rt; sessions.find(first).map(|live| live.beat), Some(5));
