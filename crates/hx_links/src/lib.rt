@@ -167,6 +167,15 @@ impl<T> Pool<T> {
         &self.chains.slots.link(node).value
     }
 
+    /// Gives the memory of a pool back whose lists are empty. It serves values that may not be dropped.
+    pub fn destroy_empty(self)
+        requires { node_count self.lists ≡ 0 }
+    {
+        let Pool { chains } = self;
+        let Chains { slots, ends: _ } = chains;
+        slots.destroy_empty();
+    }
+
     /// The node after a node in its list.
     pub fn next(&self, node: Node) -> Option<Node>
         requires { IsTrue (holds self.now.lists node) }

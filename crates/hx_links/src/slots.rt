@@ -185,4 +185,22 @@ impl<T> Slots<T> {
             Slot::Vacant(_) => unreachable!(),
         }
     }
+
+    /// Gives the memory back. No node has a link.
+    pub fn destroy_empty(self)
+        requires { held self.links ≡ 0 }
+    {
+        let Slots {
+            mut slots,
+            vacant: _,
+            idle: _,
+        } = self;
+        while let Some(slot) = slots.pop() {
+            match slot {
+                Slot::Vacant(_) => {}
+                Slot::Held(_) => unreachable!(),
+            }
+        }
+        slots.destroy_empty();
+    }
 }

@@ -60,3 +60,18 @@ fn lists_share_the_reserved_nodes(rt: HostRuntime) -> Result<(), Fail> {
     expect_values(&rt, &pool, even, &[2, 4]);
     Ok(())
 }
+
+// A value that may not be dropped.
+struct Receipt(u32);
+
+#[test]
+fn a_value_that_may_not_be_dropped_comes_back(rt: HostRuntime) {
+    let mut pool = Pool::new(rt.alloc());
+    let list = pool.new_list().expect(&rt, "a list");
+    pool.reserve(1).expect(&rt, "room for a node");
+    let node = pool.push_reserved(list, Receipt(7));
+    assert!(rt; pool.holds(node));
+    let Receipt(number) = pool.unlink(node);
+    assert_eq!(rt; number, 7);
+    pool.destroy_empty();
+}
