@@ -1,0 +1,7 @@
+pub mod Found
+pub mod ModelForm
+pub mod RuleForm
+pub mod ResourceForm
+pub mod FailureForm
+pub mod Demo
+pub mod Description
