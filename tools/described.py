@@ -1,9 +1,10 @@
 #!/usr/bin/env python3
-"""described.py CASE NAME: writes a theorem, to standard output, of what the definitions make of a case's description.
+"""described.py FOLDER=NAME.. or described.py TABLE: writes theorems, to standard output, of what the definitions make of
+descriptions.
 
-A case is a folder with input and output. Its description is read here with Python's json, so the theorem speaks of the JSON
-value. Where the output is a fault of the description, the theorem names that fault; else it names the description as row.py
-reads it.
+A folder has input and output. Its description is read here with Python's json, so the theorem speaks of the JSON value. Where
+the output is a fault of the description, the theorem names that fault; else it names the description as row.py reads it. A
+table has a line for each description: the kind of its first fault, the fault's path, and its JSON.
 """
 import json
 import os
@@ -46,11 +47,25 @@ def wanted(output, description):
     return 'Ok (' + Reader(description).spec() + ')'
 
 
-def theorem(case, name):
-    with open(os.path.join(case, 'input'), encoding='utf-8') as f:
-        description = f.read().split('\n---\n')[0]
-    with open(os.path.join(case, 'output'), encoding='utf-8') as f:
-        output = f.read()
+def read(folder, name):
+    with open(os.path.join(folder, name), encoding='utf-8') as f:
+        return f.read().replace('\r\n', '\n')
+
+
+def of_folder(argument):
+    folder, name = argument.rsplit('=', 1)
+    return theorem(read(folder, 'input').split('\n---')[0], read(folder, 'output'), name)
+
+
+def of_table(path):
+    count = {}
+    for line in read('.', path).splitlines():
+        word, where, description = line.split(' ', 2)
+        count[word] = count.get(word, 0) + 1
+        yield theorem(description, f'description {word} {where}', f'{word.replace("-", "_")}_{count[word]}')
+
+
+def theorem(description, output, name):
     return (f'pub {name} : within (codes "$") (described {value(json.loads(description))})\n'
             f'    ≡ {wanted(output, description)}\nunfolding digits\n{name} = refl\n')
 
@@ -76,7 +91,7 @@ members_from (m ∷ ms) = member m.0 m.1 (members_from ms)
 
 def main():
     print(HEAD)
-    print('\n'.join(theorem(*pair.rsplit('=', 1)) for pair in sys.argv[1:]))
+    print('\n'.join(map(of_folder, sys.argv[1:]) if '=' in sys.argv[1] else of_table(sys.argv[1])))
 
 
 if __name__ == '__main__':
