@@ -3,3 +3,4 @@ mod OneInstance
 pub mod Asked
 pub mod Items
 pub mod Kept
+pub mod Statuses

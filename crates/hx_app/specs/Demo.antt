@@ -1,19 +1,13 @@
--- The demo cluster, and what a controller's pass plans for it.
-use Rattle.std.specs.Prelude.{ℕ, ◌-◌, Bool, true, false, not, ◌==◌, ◌&&◌, List, [], ◌∷◌, ◌++◌, map, length, take, Option, None, Some, is_some, is_none, if◌then◌else◌, nat_lt, slice_index_or, codes}
-use Rattle.std.specs.List.{before_first, filter_map, flat_map}
-use Rattle.hx_lists.specs.Lists.{count, numbers_below}
-use Rattle.hx_ids.specs.Names.{interned}
+-- The demo cluster.
+use Rattle.std.specs.Prelude.{ℕ, false, List, [], ◌∷◌, map, codes}
 use Rattle.hx_ids.specs.declared.StateId.{StateId}
-use Rattle.hx_ids.specs.declared.SessionId.{SessionId}
 use Rattle.hx_ids.specs.declared.InstanceId.{InstanceId}
-use Rattle.hx_ids.specs.declared.PartId.{PartId}
 use Rattle.hx_model.specs.declared.Bound.TheVariants.{Count, Replicas, Free}
 use Rattle.hx_model.specs.declared.ModelParts.{ModelParts}
 use Rattle.hx_ideal.specs.declared.Mode.TheVariants.{Semi}
+use Rattle.hx_ideal.specs.IdealState.{IdealState}
+use Rattle.hx_cluster.specs.declared.description.Resource.{Resource}
 use Rattle.hx_cluster.specs.declared.description.Spec.{Spec}
-use Rattle.hx_cluster.specs.declared.happenings.Proposal.{Proposal}
-use Rattle.hx_cluster.specs.declared.planning.View.{View}
-use Rattle.hx_cluster.specs.Ends.{session_in, state_of, message_of, count_over}
 
 -- the states, by their places among the names
 abbrev pub dropped : StateId
@@ -53,22 +47,34 @@ built_in = with_one_above (state 2) (state 3) ∷ online_offline ∷ with_one_ab
 abbrev pub instances_of : List ℕ → List InstanceId
 instances_of numbers = map (λ n. record { 0 = n }) numbers
 
--- three instances, two controllers, and a resource of two partitions, each with two replicas
+-- the names of instances, resources and models
+abbrev pub instance_names : List (List ℕ)
+instance_names = codes "n1" ∷ codes "n2" ∷ codes "n3" ∷ []
+
+abbrev pub resource_names : List (List ℕ)
+resource_names = codes "db" ∷ []
+
+abbrev pub model_names : List (List ℕ)
+model_names = codes "MasterSlave" ∷ codes "OnlineOffline" ∷ codes "LeaderStandby" ∷ []
+
+-- a resource of two partitions, each with two replicas
+abbrev pub ideal : IdealState
+ideal = record { replicas = 2; parts = 2; mode = Semi (instances_of (0 ∷ 1 ∷ 2 ∷ []) ∷ instances_of (1 ∷ 2 ∷ 0 ∷ []) ∷ []) }
+
+abbrev pub resource : Resource
+resource = record { name = 0; model = record { 0 = 1 }; ideal = ideal; dropped = false }
+
+-- three instances, two controllers, and that resource
 abbrev pub demo : Spec
 demo = record {
-  instances = codes "n1" ∷ codes "n2" ∷ codes "n3" ∷ [];
+  instances = instance_names;
   states = state_names;
-  resource_names = codes "db" ∷ [];
-  model_names = codes "MasterSlave" ∷ codes "OnlineOffline" ∷ codes "LeaderStandby" ∷ [];
+  resource_names = resource_names;
+  model_names = model_names;
   models = built_in;
   controllers = 2;
   timeout = 30;
   rules = [];
-  resources = (record {
-    name = 0;
-    model = record { 0 = 1 };
-    ideal = record { replicas = 2; parts = 2; mode = Semi (instances_of (0 ∷ 1 ∷ 2 ∷ []) ∷ instances_of (1 ∷ 2 ∷ 0 ∷ []) ∷ []) };
-    dropped = false;
-  }) ∷ [];
+  resources = resource ∷ [];
   failures = [];
 }

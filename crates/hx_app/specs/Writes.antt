@@ -1,14 +1,13 @@
 -- A text that is written for a status, and a status with its text.
-use Rattle.std.specs.Prelude.{◌≡◌, ℕ, ◌≤◌, List, length, take, Option, codes, decimal}
+use Rattle.std.specs.Prelude.{◌≡◌, ◌⊎◌, ℕ, ◌≤◌, List, take, Option}
 use Rattle.std.specs.Io.KnownBytes.{Appends}
 use Rattle.hx_io.specs.Faults.{Rose}
 use Rattle.hx_app.specs.declared.program.Reply.{Reply}
 use Rattle.hx_app.specs.Answers.{Answer}
 
--- the text was written whole; or the sink failed, and has a front of it
+-- the text was written whole, and the status is its own; or the sink failed, has a front of the text, and the status is 6
 pub record Writes (status : ℕ) (text : List ℕ) (old new : Option (List ℕ)) (before now : ℕ) (result : ℕ) : Type 0 where
-  pub known : (result ≡ status → Appends old new text)
-  pub front : (result ≡ 6 → Rose before now × ((n : ℕ) × Appends old new (take n text)))
+  pub ended : ((result ≡ status) × Appends old new text) ⊎ ((result ≡ 6) × Rose before now × ((n : ℕ) × Appends old new (take n text)))
   pub later : before ≤ now
 
 -- an answer as it is defined

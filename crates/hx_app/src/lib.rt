@@ -10,5 +10,5 @@ mod world;
 
 pub use program::{RunMode, Status, Task, run, run_script};
 
-
-
+#[cfg(test)]
+mod tests;

@@ -1,5 +1,5 @@
 //! The run of the program: it reads a description and a script, and writes what comes of them.
-ghost use Rattle.std.specs.Prelude.{◌≡◌, ◌≢◌, ◌<◌, ◌≤◌, length, Some, IfOk};
+ghost use Rattle.std.specs.Prelude.{◌≡◌, ◌<◌, ◌≤◌, length, Some, IfOk};
 ghost use Rattle.hx_app.specs.Answers.{answer_of, script_answer as script_answer_of};
 ghost use Rattle.hx_app.specs.Runs.{Runs, RefusesWords};
 ghost use Rattle.hx_app.specs.Writes.{Writes, AnswersAs};
@@ -90,7 +90,6 @@ fn answer(alloc: Global, bytes: &[u8]) -> Result<Reply, AllocError>
 
 /// Writes a text for a status. A sink that refuses gives 6 in its place.
 fn write<K: Sink>(status: u8, text: &[u8], out: &mut K) -> Status
-    requires { status ≢ 6 }
     ensures { Writes status text.now (K.got out.old) (K.got out.new) (K.faults out.old) (K.faults out.new) result.0 }
 {
     match write_all(out, text) {

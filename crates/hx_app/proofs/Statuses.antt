@@ -1,0 +1,161 @@
+-- When each status comes, from what was read and what was written.
+use Rattle.std.proofs.Common.{◌≡◌, ℕ, ◌+◌, ◌<◌, ◌≤◌, Bool, true, false, List, ◌++◌, length, length-append, take, Option, None, Some, refl, sym, ap, subst, ◌∙◌, inl, inr, arith}
+use Rattle.std.specs.Prelude.{◌⊎◌, IfSome}
+use Rattle.std.specs.Io.KnownBytes.{Appends, Consumes, IsAtEnd}
+use Rattle.std.proofs.lemmas.List.{append-nil}
+use Rattle.hx_io.specs.Faults.{Rose}
+use Rattle.hx_io.specs.Whole.{Gave}
+use Rattle.hx_text.specs.Lines.{lines_of}
+use Rattle.hx_app.specs.Answers.{Answer, answer_of, script_answer, refused_or, words_refused, read_fault, too_long}
+use Rattle.hx_app.specs.Input.{demo_script, refused_from}
+use Rattle.hx_app.specs.Runs.{Ends, IsAnswered, IsDefined, WroteFront, Runs, RefusesWords, is_of_input, most_bytes}
+use Rattle.hx_app.specs.Writes.{Writes}
+
+if_some : {X : Type 0} {P Q : X → Type 0} (o : Option X) → ((x : X) → P x → Q x) → IfSome o P → IfSome o Q
+if_some None f h = h
+if_some (Some x) f h = f x h
+
+-- what was read is all that was left
+all_read : (old new : Option (List ℕ)) (bytes : List ℕ) → Consumes old new bytes → IsAtEnd new → IfSome old (λ b. b ≡ bytes)
+all_read None new bytes h end = tt
+all_read (Some xs) None bytes h end = absurd h
+all_read (Some xs) (Some ys) bytes h end = h ∙ ap (λ zs. bytes ++ zs) end ∙ append-nil bytes
+
+more_left : (old new : Option (List ℕ)) (bytes : List ℕ) (limit : ℕ) → Consumes old new bytes → limit < length bytes → IfSome old (λ b. limit < length b)
+more_left None new bytes limit h lt = tt
+more_left (Some xs) None bytes limit h lt = absurd h
+more_left (Some xs) (Some ys) bytes limit h lt = omega (arith, ap length h, length-append bytes ys)
+
+-- an input is answered by one of three statuses
+refused_status : (o : Option ℕ) (lines : List (List ℕ)) → is_of_input (refused_or o lines).status ≡ true
+refused_status None lines = refl
+refused_status (Some n) lines = refl
+
+script_status : (o : Option (List ℕ)) → is_of_input (script_answer o).status ≡ true
+script_status None = refl
+script_status (Some script) = refused_status (refused_from 1 (lines_of script)) (lines_of script)
+
+answer_status : (bytes : List ℕ) → is_of_input (answer_of bytes).status ≡ true
+answer_status bytes = script_status (demo_script bytes)
+
+-- each status by itself
+runs_six : (old new : Ends) (text : List ℕ) → IsDefined old new text → Rose old.sink_faults new.sink_faults → WroteFront old new text → old.source_faults ≤ new.source_faults → old.sink_faults ≤ new.sink_faults → Runs old new 6
+runs_six old new text defined rose front source sink = record {
+  known = refl;
+  answered = λ (h : false ≡ true). cc;
+  read_fault = λ (e : 6 ≡ 5). absurd (omega arith);
+  write_fault = λ e. (rose, (text, defined, front));
+  no_memory = λ (e : 6 ≡ 7). absurd (omega arith);
+  too_long = λ (e : 6 ≡ 10). absurd (omega arith);
+  source_later = source;
+  sink_later = sink;
+}
+
+runs_five : (old new : Ends) → Rose old.source_faults new.source_faults → Appends old.got new.got read_fault.text → old.source_faults ≤ new.source_faults → old.sink_faults ≤ new.sink_faults → Runs old new 5
+runs_five old new rose text source sink = record {
+  known = refl;
+  answered = λ (h : false ≡ true). cc;
+  read_fault = λ e. (rose, text);
+  write_fault = λ (e : 5 ≡ 6). absurd (omega arith);
+  no_memory = λ (e : 5 ≡ 7). absurd (omega arith);
+  too_long = λ (e : 5 ≡ 10). absurd (omega arith);
+  source_later = source;
+  sink_later = sink;
+}
+
+runs_ten : (old new : Ends) → IfSome old.left (λ bytes. most_bytes < length bytes) → Appends old.got new.got too_long.text → old.source_faults ≤ new.source_faults → old.sink_faults ≤ new.sink_faults → Runs old new 10
+runs_ten old new long text source sink = record {
+  known = refl;
+  answered = λ (h : false ≡ true). cc;
+  read_fault = λ (e : 10 ≡ 5). absurd (omega arith);
+  write_fault = λ (e : 10 ≡ 6). absurd (omega arith);
+  no_memory = λ (e : 10 ≡ 7). absurd (omega arith);
+  too_long = λ e. (long, text);
+  source_later = source;
+  sink_later = sink;
+}
+
+other_status : (status n : ℕ) → is_of_input status ≡ true → is_of_input n ≡ false → status ≡ n → ⊥
+other_status status n is not_is e = let P : ℕ → Type 0 = λ k. is_of_input k ≡ true in let bad : is_of_input n ≡ true = subst P e is in cc
+
+runs_input : (old new : Ends) (status : ℕ) → is_of_input status ≡ true → IfSome old.left (IsAnswered old new status) → old.source_faults ≤ new.source_faults → old.sink_faults ≤ new.sink_faults → Runs old new status
+runs_input old new status is answered source sink = record {
+  known = rw is refl;
+  answered = λ h. answered;
+  read_fault = λ e. absurd (other_status status 5 is refl e);
+  write_fault = λ e. absurd (other_status status 6 is refl e);
+  no_memory = λ e. absurd (other_status status 7 is refl e);
+  too_long = λ e. absurd (other_status status 10 is refl e);
+  source_later = source;
+  sink_later = sink;
+}
+
+-- a status and its text are written
+abbrev pub Written : Ends → Ends → ℕ → List ℕ → ℕ → Type 0
+Written old new status text result = Writes status text old.got new.got old.sink_faults new.sink_faults result
+
+pub runs_read_fault : (old new : Ends) (result : ℕ) → Rose old.source_faults new.source_faults → old.source_faults ≤ new.source_faults → Written old new 5 read_fault.text result → Runs old new result
+runs_read_fault old new result rose source w =
+    let P : ℕ → Type 0 = λ n. Runs old new n in
+    elim w.ended [
+      inl a ↦ subst P (sym a.0) (runs_five old new rose a.1 source w.later)
+    | inr b ↦ subst P (sym b.0) (runs_six old new read_fault.text (inr (inl (refl, rose))) b.1 b.2 source w.later)
+    ]
+
+pub runs_too_long : (old new : Ends) (result : ℕ) → Gave old.left new.left (λ bytes. most_bytes < length bytes) → old.source_faults ≤ new.source_faults → Written old new 10 too_long.text result → Runs old new result
+runs_too_long old new result gave source w =
+    let P : ℕ → Type 0 = λ n. Runs old new n in
+    let long = more_left old.left new.left gave.0 most_bytes gave.1 gave.2 in
+    elim w.ended [
+      inl a ↦ subst P (sym a.0) (runs_ten old new long a.1 source w.later)
+    | inr b ↦ subst P (sym b.0) (runs_six old new too_long.text (inr (inr (refl, long))) b.1 b.2 source w.later)
+    ]
+
+pub runs_answer : (old new : Ends) (bytes text : List ℕ) (status result : ℕ) → Consumes old.left new.left bytes → IsAtEnd new.left → length bytes ≤ most_bytes
+    → status ≡ (answer_of bytes).status → text ≡ (answer_of bytes).text → old.source_faults ≤ new.source_faults → Written old new status text result → Runs old new result
+runs_answer old new bytes text status result read end short status_is text_is source w =
+    let P : ℕ → Type 0 = λ n. Runs old new n in
+    let all = all_read old.left new.left bytes read end in
+    let Is : ℕ → Type 0 = λ n. is_of_input n ≡ true in
+    let is = subst Is (sym status_is) (answer_status bytes) in
+    let Short : List ℕ → Type 0 = λ b. length b ≤ most_bytes in
+    elim w.ended [
+      inl a ↦
+        subst P (sym a.0) (runs_input old new status is
+          (if_some old.left
+            (λ b (b_is : b ≡ bytes). record {
+              short = subst Short (sym b_is) short;
+              answers = ap (λ (x : List ℕ). (answer_of x).status) b_is ∙ sym status_is;
+              text = (let T : List ℕ → Type 0 = λ t. Appends old.got new.got t in subst T (text_is ∙ ap (λ (x : List ℕ). (answer_of x).text) (sym b_is)) a.1);
+              end = end;
+            })
+            all)
+          source w.later)
+    | inr b ↦
+        subst P (sym b.0) (runs_six old new text
+          (inl (if_some old.left (λ x (x_is : x ≡ bytes). (subst Short (sym x_is) short, text_is ∙ ap (λ (y : List ℕ). (answer_of y).text) (sym x_is))) all))
+          b.1 b.2 source w.later)
+    ]
+
+-- words that are refused
+pub refuses_words : (old new : Ends) (result : ℕ) → new.left ≡ old.left → new.source_faults ≡ old.source_faults → Written old new 2 words_refused.text result → RefusesWords old new result
+refuses_words old new result left source w =
+    let P : ℕ → Type 0 = λ n. RefusesWords old new n in
+    elim w.ended [
+      inl a ↦ subst P (sym a.0) (record {
+        known = refl;
+        refused = λ e. a.1;
+        write_fault = λ (e : 2 ≡ 6). absurd (omega arith);
+        left = left;
+        source = source;
+        sink_later = w.later;
+      })
+    | inr b ↦ subst P (sym b.0) (record {
+        known = refl;
+        refused = λ (e : 6 ≡ 2). absurd (omega arith);
+        write_fault = λ e. (b.1, b.2);
+        left = left;
+        source = source;
+        sink_later = w.later;
+      })
+    ]
