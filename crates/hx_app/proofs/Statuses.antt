@@ -98,8 +98,8 @@ pub runs_read_fault : (old new : Ends) (result : ℕ) → Rose old.source_faults
 runs_read_fault old new result rose source w =
     let P : ℕ → Type 0 = λ n. Runs old new n in
     elim w.ended [
-      inl a ↦ subst P (sym a.0) (runs_five old new rose a.1 source w.later)
-    | inr b ↦ subst P (sym b.0) (runs_six old new read_fault.text (inr (inl (refl, rose))) b.1 b.2 source w.later)
+      | inl a ↦ subst P (sym a.0) (runs_five old new rose a.1 source w.later)
+      | inr b ↦ subst P (sym b.0) (runs_six old new read_fault.text (inr (inl (refl, rose))) b.1 b.2 source w.later)
     ]
 
 pub runs_too_long : (old new : Ends) (result : ℕ) → Gave old.left new.left (λ bytes. most_bytes < length bytes) → old.source_faults ≤ new.source_faults → Written old new 10 too_long.text result → Runs old new result
@@ -107,8 +107,8 @@ runs_too_long old new result gave source w =
     let P : ℕ → Type 0 = λ n. Runs old new n in
     let long = more_left old.left new.left gave.0 most_bytes gave.1 gave.2 in
     elim w.ended [
-      inl a ↦ subst P (sym a.0) (runs_ten old new long a.1 source w.later)
-    | inr b ↦ subst P (sym b.0) (runs_six old new too_long.text (inr (inr (refl, long))) b.1 b.2 source w.later)
+      | inl a ↦ subst P (sym a.0) (runs_ten old new long a.1 source w.later)
+      | inr b ↦ subst P (sym b.0) (runs_six old new too_long.text (inr (inr (refl, long))) b.1 b.2 source w.later)
     ]
 
 pub runs_answer : (old new : Ends) (bytes text : List ℕ) (status result : ℕ) → Consumes old.left new.left bytes → IsAtEnd new.left → length bytes ≤ most_bytes
@@ -120,19 +120,19 @@ runs_answer old new bytes text status result read end short status_is text_is so
     let is = subst Is (sym status_is) (answer_status bytes) in
     let Short : List ℕ → Type 0 = λ b. length b ≤ most_bytes in
     elim w.ended [
-      inl a ↦
-        subst P (sym a.0) (runs_input old new status is
+      | inl a ↦
+          subst P (sym a.0) (runs_input old new status is
           (if_some old.left
-            (λ b (b_is : b ≡ bytes). record {
-              short = subst Short (sym b_is) short;
-              answers = ap (λ (x : List ℕ). (answer_of x).status) b_is ∙ sym status_is;
-              text = (let T : List ℕ → Type 0 = λ t. Appends old.got new.got t in subst T (text_is ∙ ap (λ (x : List ℕ). (answer_of x).text) (sym b_is)) a.1);
-              end = end;
-            })
-            all)
+          (λ b (b_is : b ≡ bytes). record {
+            short = subst Short (sym b_is) short;
+            answers = ap (λ (x : List ℕ). (answer_of x).status) b_is ∙ sym status_is;
+            text = (let T : List ℕ → Type 0 = λ t. Appends old.got new.got t in subst T (text_is ∙ ap (λ (x : List ℕ). (answer_of x).text) (sym b_is)) a.1);
+            end = end;
+          })
+          all)
           source w.later)
-    | inr b ↦
-        subst P (sym b.0) (runs_six old new text
+      | inr b ↦
+          subst P (sym b.0) (runs_six old new text
           (inl (if_some old.left (λ x (x_is : x ≡ bytes). (subst Short (sym x_is) short, text_is ∙ ap (λ (y : List ℕ). (answer_of y).text) (sym x_is))) all))
           b.1 b.2 source w.later)
     ]
@@ -142,7 +142,7 @@ pub refuses_words : (old new : Ends) (result : ℕ) → new.left ≡ old.left �
 refuses_words old new result left source w =
     let P : ℕ → Type 0 = λ n. RefusesWords old new n in
     elim w.ended [
-      inl a ↦ subst P (sym a.0) (record {
+      | inl a ↦ subst P (sym a.0) (record {
         known = refl;
         refused = λ e. a.1;
         write_fault = λ (e : 2 ≡ 6). absurd (omega arith);
@@ -150,7 +150,7 @@ refuses_words old new result left source w =
         source = source;
         sink_later = w.later;
       })
-    | inr b ↦ subst P (sym b.0) (record {
+      | inr b ↦ subst P (sym b.0) (record {
         known = refl;
         refused = λ (e : 6 ≡ 2). absurd (omega arith);
         write_fault = λ e. (b.1, b.2);

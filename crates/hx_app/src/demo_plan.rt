@@ -13,6 +13,7 @@ const REPLICAS: usize = 2;
 
 /// The states of the demo's model, by their places among the names.
 const OFFLINE: StateId = StateId(4);
+
 const ONLINE: StateId = StateId(5);
 
 /// The preference list of a part.
@@ -52,13 +53,7 @@ fn standing(state: Option<StateId>, wanted: bool) -> Option<StateId>
 {
     match state {
         Some(state) => Some(state),
-        None => {
-            if wanted {
-                Some(OFFLINE)
-            } else {
-                None
-            }
-        }
+        None => { if wanted { Some(OFFLINE) } else { None } }
     }
 }
 

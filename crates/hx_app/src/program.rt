@@ -101,12 +101,7 @@ fn write<K: Sink>(status: u8, text: &[u8], out: &mut K) -> Status
 /// Does a script.
 ///
 /// It needs a mode that is built: so far that is `Sim`.
-pub fn run_script<S: Source, K: Sink>(
-    alloc: Global,
-    task: Task,
-    src: &mut S,
-    out: &mut K,
-) -> Status
+pub fn run_script<S: Source, K: Sink>(alloc: Global, task: Task, src: &mut S, out: &mut K) -> Status
     requires mode { task.mode ≡ RunMode.Sim }
     requires lanes { (1 ≤ task.lanes) × (task.lanes ≤ 16) }
     requires rounds { task.rounds ≤ 1000 }

@@ -60,12 +60,7 @@ fn print_part(
 }
 
 /// Prints the view of the demo.
-fn view(
-    alloc: Global,
-    spec: &Spec,
-    cluster: &Cluster,
-    page: &mut Page,
-) -> Result<(), AllocError>
+fn view(alloc: Global, spec: &Spec, cluster: &Cluster, page: &mut Page) -> Result<(), AllocError>
     requires { cluster.now.resources ≡ demo.resources }
     ensures { OnOk result (page.new ≡ page.old ++ view_text spec.now cluster.now) }
 {

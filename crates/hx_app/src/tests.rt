@@ -30,7 +30,8 @@ fn ran(alloc: Global, input: &str, fails: &[u64], most: u64) -> Result<Ran, Allo
 
 const ONE_INSTANCE: &str = "builtin demo\n---\njoin n1\nlead c1\npass c1\nwork n1\nview\n";
 
-const ITS_OUTPUT: &str = "line 1\njoin n1 s1\nline 2\nlead c1 e1\nline 3\nbegin c1 e1 p1\nlive c1 p1\nmail c1 p1 s1\nstates c1 p1 s1\nideals c1 p1\nsend c1 e1 p1\n  sent m1 s1 db#0/0 OFFLINE>ONLINE\n  sent m2 s1 db#0/1 OFFLINE>ONLINE\n? c1 sent 2\npost c1 e1 0\nline 4\nfetch n1 s1 2\ntake s1 m1\nwrite s1 m1 ok\nack s1 m1\ntake s1 m2\nwrite s1 m2 ok\nack s1 m2\nline 5\n= db#0/0 n1:ONLINE\n= db#0/1 n1:ONLINE\n= db#0/0 n1:ONLINE\n= db#0/1 n1:ONLINE\n";
+const ITS_OUTPUT: &str =
+    "line 1\njoin n1 s1\nline 2\nlead c1 e1\nline 3\nbegin c1 e1 p1\nlive c1 p1\nmail c1 p1 s1\nstates c1 p1 s1\nideals c1 p1\nsend c1 e1 p1\n  sent m1 s1 db#0/0 OFFLINE>ONLINE\n  sent m2 s1 db#0/1 OFFLINE>ONLINE\n? c1 sent 2\npost c1 e1 0\nline 4\nfetch n1 s1 2\ntake s1 m1\nwrite s1 m1 ok\nack s1 m1\ntake s1 m2\nwrite s1 m2 ok\nack s1 m2\nline 5\n= db#0/0 n1:ONLINE\n= db#0/1 n1:ONLINE\n= db#0/0 n1:ONLINE\n= db#0/1 n1:ONLINE\n";
 
 #[test]
 fn answers_as_defined(rt: HostRuntime) -> Result<(), Fail> {

@@ -12,14 +12,12 @@ ghost use Rattle.hx_app.specs.FirstPath.{Happens, step_items, reads, view_now, s
 
 use crate::demo_plan::{demo_proposals, part_at};
 use hx_cluster::{
-    Admin, Begun, Cluster, Event, Live, Message, Outcome, Placed, Proposal, Resource, Row, Seen, Spec,
-    StepFault, View,
+    Admin, Begun, Cluster, Event, Live, Message, Outcome, Placed, Proposal, Resource, Row, Seen,
+    Spec, StepFault, View,
 };
 use hx_ids::{ControllerId, Epoch, InstanceId, PartId, PassNo, SessionId};
 use hx_lists::Seq;
-use hx_print::{
-    Note, Roll, print_event, print_note, print_sent, print_settled, print_waiting,
-};
+use hx_print::{Note, Roll, print_event, print_note, print_sent, print_settled, print_waiting};
 use hx_text::Page;
 use std::alloc::{AllocError, Global};
 
@@ -105,7 +103,12 @@ pub(crate) fn join(
     check_room(cluster, ControllerId(0))?;
     let roll = roll_of(alloc, cluster)?;
     match cluster.join(instance) {
-        Ok(did) => print_event(&Event::Admin(Admin::Join { instance }, did), &roll, spec, page),
+        Ok(did) => print_event(
+            &Event::Admin(Admin::Join { instance }, did),
+            &roll,
+            spec,
+            page,
+        ),
         Err(StepFault::OutOfMemory) => Err(AllocError),
         Err(fault) => print_note(line, &Note::Step(fault), spec, page),
     }
@@ -126,7 +129,12 @@ pub(crate) fn lead(
 {
     let roll = roll_of(alloc, cluster)?;
     match cluster.lead(controller) {
-        Ok(did) => print_event(&Event::Admin(Admin::Lead { controller }, did), &roll, spec, page),
+        Ok(did) => print_event(
+            &Event::Admin(Admin::Lead { controller }, did),
+            &roll,
+            spec,
+            page,
+        ),
         Err(StepFault::OutOfMemory) => Err(AllocError),
         Err(fault) => print_note(line, &Note::Step(fault), spec, page),
     }
