@@ -1,12 +1,10 @@
 -- Walks of a model without a fault: the shortest ones, and the first step of one.
-use Rattle.std.proofs.Common.{◌≡◌, ℕ, suc, zero, ◌+◌, ◌≤◌, ◌<◌, ◌==◌, ◌&&◌, ◌||◌, not, Bool, true, false, List, [], ◌∷◌, ◌++◌, length, map, filter, find, get_or, Option, Some, None, refl, sym, ap, ◌∙◌, subst, add-one, ◌⊎◌, inl, inr, true≢false, arith}
-use Rattle.std.specs.Prelude.{if◌then◌else◌, nat_lt, ◌↔◌}
-use Rattle.std.specs.Bool.{IsTrue}
+use Rattle.std.proofs.Common.{◌≡◌, ℕ, suc, zero, ◌+◌, ◌≤◌, ◌<◌, ◌==◌, ◌&&◌, ◌||◌, Bool, true, false, List, [], ◌∷◌, ◌++◌, length, map, filter, find, get_or, Some, None, refl, sym, ap, ◌∙◌, true≢false, arith}
+use Rattle.std.specs.Prelude.{if◌then◌else◌, nat_lt}
 use Rattle.std.specs.List.{list_any, list_all, position_or_len}
 use Rattle.std.proofs.lemmas.Bool.Decides.{nat_tests}
 use Rattle.std.proofs.lemmas.List.Folds.{list_any-append}
 use Rattle.hx_ids.specs.declared.StateId.{StateId}
-use Rattle.hx_model.specs.declared.Bound.{Bound}
 use Rattle.hx_model.specs.declared.ModelParts.{ModelParts}
 use Rattle.hx_model.specs.Faults.{fault_of, is_known}
 use Rattle.hx_model.specs.Model.{states_of, has_state, error, dropped, is_between, is_legal, rank_of}
@@ -14,8 +12,8 @@ use Rattle.hx_model.specs.Walks.{steps_from, has_walk, dist, reaches}
 use Rattle.hx_model.proofs.Facts.{IsSound, sound_facts}
 use Rattle.hx_model.proofs.Found.{eqb-same}
 use Rattle.hx_hops.specs.Hops.{hop, is_from, is_goal, leads}
-use Rattle.hx_hops.proofs.Legal.{state_same, and_left, and_right, any_exists, step_exists, step_any, walk_path, path-shortest, dist_walk, dist-shortest}
-use Rattle.hx_hops.proofs.Short.{IsClosed, nodes, is_node, walk_short}
+use Rattle.hx_hops.proofs.Legal.{state_same, and_left, and_right, any_exists, step_exists, step_any, walk_path, dist_walk, dist-shortest}
+use Rattle.hx_hops.proofs.Short.{IsClosed, is_node, walk_short}
 use Rattle.hx_hops.proofs.Steps.{steps_in}
 use Rattle.hx_hops.proofs.Table.{any_state}
 

@@ -1,5 +1,5 @@
 -- Places in the table.
-use Rattle.std.proofs.Common.{◌≡◌, ℕ, suc, zero, ◌+◌, ◌-◌, ◌*◌, ◌^◌, ◌≤◌, ◌<◌, ◌==◌, ◌||◌, not, Bool, true, false, List, [], ◌∷◌, ◌++◌, length, map, get_or, slice_get, Some, refl, sym, ap, ◌∙◌, subst, add-one, drop, length-append, arith}
+use Rattle.std.proofs.Common.{◌≡◌, ℕ, suc, zero, ◌+◌, ◌-◌, ◌*◌, ◌^◌, ◌≤◌, ◌<◌, ◌==◌, ◌||◌, Bool, true, false, List, [], ◌∷◌, ◌++◌, length, map, get_or, refl, sym, ap, ◌∙◌, subst, drop, length-append, arith}
 use Rattle.std.specs.Prelude.{nat_lt}
 use Rattle.std.specs.List.{list_any, flat_map, position_or_len}
 use Rattle.std.proofs.Math.ListN.{get_or-append}
@@ -10,9 +10,9 @@ use Rattle.std.proofs.lemmas.List.Sums.{passes_at_first, prefix_len-le-length}
 use Rattle.hx_ids.specs.declared.StateId.{StateId}
 use Rattle.hx_model.specs.declared.Bound.{Bound}
 use Rattle.hx_model.specs.declared.ModelParts.{ModelParts}
-use Rattle.hx_model.specs.Model.{states_of, has_state, error, dropped}
+use Rattle.hx_model.specs.Model.{states_of, error, dropped}
 use Rattle.hx_hops.specs.declared.Way.{Way}
-use Rattle.hx_hops.specs.Hops.{dist, hop, is_from, is_goal}
+use Rattle.hx_hops.specs.Hops.{is_from, is_goal}
 use Rattle.hx_hops.specs.Table.{way_of, froms_of, goals_of, ways_to, IsTable}
 
 -- the item in a column of a row, where all rows are as long

@@ -1,5 +1,5 @@
 //! Laws of distances and hops. Each function says one, and does nothing.
-ghost use Rattle.std.specs.Prelude.{◌≡◌, ℕ, ◌+◌, ◌<◌, ◌≤◌, ◌↔◌, List, length, None, Some, IsTrue};
+ghost use Rattle.std.specs.Prelude.{◌≡◌, ◌+◌, ◌<◌, ◌≤◌, ◌↔◌, List, length, None, Some, IsTrue};
 ghost use Rattle.hx_ids.specs.declared.StateId.{StateId};
 ghost use Rattle.hx_model.specs.declared.ModelParts.{ModelParts};
 ghost use Rattle.hx_model.specs.Faults.{fault_of};

@@ -1,12 +1,11 @@
 -- Entries without a fault are known ones.
-use Rattle.std.proofs.Common.{◌≡◌, ℕ, ◌+◌, ◌<◌, eqb, not, Bool, true, false, List, [], ◌∷◌, ◌++◌, length, map, take, get_or, Option, Some, None, refl, sym, subst, add-one, arith}
+use Rattle.std.proofs.Common.{◌≡◌, ℕ, ◌+◌, ◌<◌, eqb, not, Bool, true, false, List, [], ◌∷◌, ◌++◌, length, map, take, get_or, Some, None, refl, sym, subst, add-one, arith}
 use Rattle.std.specs.Prelude.{nat_lt, if◌then◌else◌}
 use Rattle.std.specs.List.{list_any}
 use Rattle.std.proofs.lemmas.Bool.Decides.{nat_tests}
 use Rattle.std.proofs.Math.Seq.{take-suc}
 use Rattle.hx_ids.specs.declared.InstanceId.{InstanceId}
 use Rattle.hx_ids.specs.declared.StateId.{StateId}
-use Rattle.hx_ideal.specs.declared.IdealFault.{IdealFault}
 use Rattle.hx_ideal.specs.declared.IdealFault.TheVariants.{UnknownInstance, UnknownState, TwiceInList}
 use Rattle.hx_ideal.specs.Faults.{id_fault, entry_fault}
 use Rattle.hx_lists.proofs.Known.{AreKnown, known_item}

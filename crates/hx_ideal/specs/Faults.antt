@@ -1,5 +1,5 @@
 -- What is wrong with an ideal state: the first fault, in one order.
-use Rattle.std.specs.Prelude.{ℕ, ◌^◌, ◌-◌, Bool, not, ◌==◌, List, length, min, nat_lt, Option, None, Some, if◌then◌else◌}
+use Rattle.std.specs.Prelude.{ℕ, ◌^◌, ◌-◌, not, ◌==◌, List, length, min, nat_lt, Option, None, Some, if◌then◌else◌}
 use Rattle.std.specs.List.{list_any}
 use Rattle.std.specs.Option.{option_or}
 use Rattle.hx_ids.specs.declared.InstanceId.{InstanceId}

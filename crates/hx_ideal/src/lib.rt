@@ -1,7 +1,7 @@
 //! Ideal states: how many replicas and partitions a resource has, and where they are wanted.
 #![tactic(auto)]
 
-ghost use Rattle.std.specs.Prelude.{◌≡◌, ℕ, ◌<◌, ◌≤◌, ◌==◌, None, Some, IfOk, IfErr, OnOk, OnErr, IsSome};
+ghost use Rattle.std.specs.Prelude.{◌≡◌, ◌<◌, ◌≤◌, None, Some, IfOk, IfErr, OnOk, IsSome};
 ghost use Rattle.hx_ideal.specs.IdealState.{lists_of, maps_of, with_list, with_map, count_of, HasCount};
 ghost use Rattle.hx_ideal.specs.Faults.{fault_of, list_fault as list_fault_of, map_fault as map_fault_of};
 

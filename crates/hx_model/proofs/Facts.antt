@@ -1,5 +1,5 @@
 -- What a model without a fault has.
-use Rattle.std.proofs.Common.{◌≡◌, ℕ, suc, ◌+◌, ◌≤◌, ◌<◌, ◌==◌, ◌&&◌, ◌||◌, not, min, Bool, true, false, List, [], ◌∷◌, ◌++◌, length, map, find, position, Option, Some, None, option_map, refl, sym, ap, ◌∙◌, true≢false, arith}
+use Rattle.std.proofs.Common.{◌≡◌, ℕ, ◌+◌, ◌≤◌, ◌==◌, ◌&&◌, ◌||◌, not, Bool, true, false, List, [], ◌∷◌, ◌++◌, length, map, find, position, Option, Some, None, option_map, refl, sym, ap, ◌∙◌, arith}
 use Rattle.std.specs.Prelude.{if◌then◌else◌, nat_lt}
 use Rattle.std.specs.List.{list_any, list_all, prefix_len, position_or_len}
 use Rattle.std.specs.Option.{option_or}
@@ -11,7 +11,7 @@ use Rattle.hx_model.specs.declared.ModelFault.{ModelFault}
 use Rattle.hx_model.specs.declared.ModelFault.TheVariants.{UnknownState, NoInitial, InitialBounded, NoDrop, CantReach, CantLeave}
 use Rattle.hx_model.specs.declared.ModelParts.{ModelParts}
 use Rattle.hx_model.specs.Faults.{fault_of, fault_at, found_by, state_tests, transition_tests, walk_tests, is_known, is_free}
-use Rattle.hx_model.specs.Model.{dropped, states_of, has_state, is_between, bound_of}
+use Rattle.hx_model.specs.Model.{dropped, has_state, is_between, bound_of}
 use Rattle.hx_model.specs.Walks.{reaches}
 use Rattle.hx_model.proofs.Found.{FindNone}
 

@@ -1,7 +1,7 @@
 //! The models that every description has. They stand at the places of their states' names.
-ghost use Rattle.std.specs.Prelude.{◌≡◌, ℕ, ◌+◌, ◌<◌, ◌≤◌, length, take, codes, IfOk, OnOk, OnErr};
+ghost use Rattle.std.specs.Prelude.{◌≡◌, ◌+◌, ◌<◌, ◌≤◌, length, take, codes, IfOk, OnOk, OnErr};
 ghost use Rattle.hx_ids.specs.Names.{interned};
-ghost use Rattle.hx_model.specs.Builtin.{AreStates, AreNew, state_named, one_leads as one_leads_of, on_and_off};
+ghost use Rattle.hx_model.specs.Builtin.{AreStates, AreNew, state_named, one_leads as one_leads_of};
 ghost use Rattle.hx_model.specs.Builtin.{master_slave_names, master_slave_parts, online_offline_names, online_offline_parts, leader_standby_names, leader_standby_parts};
 
 use super::{Bound, DROPPED, Model};

@@ -1,6 +1,5 @@
 //! The tests of a model, in their order.
-ghost use Rattle.std.specs.Prelude.{◌≡◌, ℕ, ◌+◌, ◌-◌, ◌^◌, ◌<◌, ◌≤◌, ◌==◌, ◌&&◌, ◌||◌, [], ◌∷◌, length, min, not, nat_lt, position, None, IsNone};
-ghost use Rattle.std.specs.List.{list_any};
+ghost use Rattle.std.specs.Prelude.{◌≡◌, ◌-◌, ◌^◌, ◌<◌, ◌≤◌, ◌==◌, ◌&&◌, ◌||◌, [], ◌∷◌, length, min, not, nat_lt, position, None, IsNone};
 ghost use Rattle.hx_model.specs.Model.{is_between};
 ghost use Rattle.hx_model.specs.Faults.{fault_of, found_by, state_tests, transition_tests, walk_tests, twice_place, no_initial, initial_bounded, is_reserved, is_known as is_known_in, is_free as is_free_of, is_zero as is_zero_of};
 

@@ -6,7 +6,7 @@ mod builtin;
 mod faults;
 mod walks;
 
-ghost use Rattle.std.specs.Prelude.{◌≡◌, ℕ, ◌+◌, ◌-◌, ◌^◌, ◌<◌, ◌≤◌, ◌==◌, length, map, take, slice_index, None, Some, IfOk, IfErr, IsTrue};
+ghost use Rattle.std.specs.Prelude.{◌≡◌, ℕ, ◌-◌, ◌^◌, ◌<◌, ◌≤◌, ◌==◌, length, map, take, slice_index, None, Some, IfOk, IfErr, IsTrue};
 ghost use Rattle.hx_model.specs.Model.{states_of, has_state as has_state_of, is_legal, bound_of, rank_of, limit_of, is_between};
 ghost use Rattle.std.specs.List.{list_any, find, position};
 ghost use Rattle.std.specs.Option.{option_map_or};

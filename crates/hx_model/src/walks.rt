@@ -1,5 +1,5 @@
 //! Distances between the states of a model.
-ghost use Rattle.std.specs.Prelude.{◌≡◌, ℕ, ◌+◌, ◌^◌, ◌<◌, ◌≤◌, ◌==◌, ◌≢◌, length, min, not, slice_index, slice_set};
+ghost use Rattle.std.specs.Prelude.{◌≡◌, ℕ, ◌+◌, ◌<◌, ◌≤◌, ◌==◌, ◌≢◌, length, min, not, slice_index, slice_set};
 ghost use Rattle.std.specs.List.{find};
 ghost use Rattle.hx_model.specs.Model.{states_of};
 ghost use Rattle.hx_model.specs.Walks.{dist, reaches};

@@ -1,4 +1,4 @@
-use Rattle.std.proofs.Common.{◌≡◌, ◌∙◌, refl, sym, arith}
+use Rattle.std.proofs.Common.{◌∙◌, refl, sym, arith}
 use Rattle.hx_lists.proofs.Known.{known_none, place-known}
 use Rattle.hx_ideal.proofs.Entries.{known_entries}
 use Rattle.hx_lists.proofs.First.{answer_behind-more}
