@@ -276,4 +276,3 @@ pub run_or_make_2 : within (codes "$") (described (object (members_from (((codes
     ≡ Err (record { kind = kinds.RunOrMake; path = codes "$.failures[0]" })
 unfolding digits
 run_or_make_2 = refl
-
