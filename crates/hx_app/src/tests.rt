@@ -4,13 +4,14 @@ use std::alloc::{AllocError, Global};
 use std::test::Fail;
 
 /// How a run on an input ended, and what it wrote.
+#[derive(Drop)]
 struct Ran {
     status: u8,
     got: Vec<u8>,
 }
 
 /// Runs an input through a source whose given calls fail, and a sink that takes so many bytes.
-fn ran(alloc: Global, input: &str, fails: &[u64], most: u64) -> Result<Ran, AllocError> {
+fn run_on(alloc: Global, input: &str, fails: &[u64], most: u64) -> Result<Ran, AllocError> {
     let bytes = Vec::from_slice(alloc, input.as_bytes())?;
     let mut source = MemSource::new(bytes, Vec::from_slice(alloc, fails)?);
     let mut sink = MemSink::new(alloc, Vec::new(alloc), most);
@@ -43,7 +44,7 @@ fn answers_as_defined(rt: HostRuntime) -> Result<(), Fail> {
         ("{}\n---\n", 3, "description not-built $\n"),
         ("builtin demo\n", 3, "description not-built $\n"),
     ] {
-        let ran = ran(rt.alloc(), input, &[], 1 << 20)?;
+        let ran = run_on(rt.alloc(), input, &[], 1 << 20)?;
         assert_eq!(rt; ran.status, status, "of {input}");
         assert!(rt; ran.got.as_slice() == output.as_bytes(), "of {input}");
     }
@@ -52,10 +53,10 @@ fn answers_as_defined(rt: HostRuntime) -> Result<(), Fail> {
 
 #[test]
 fn sources_and_sinks_fail(rt: HostRuntime) -> Result<(), Fail> {
-    let unread = ran(rt.alloc(), ONE_INSTANCE, &[2], 1 << 20)?;
+    let unread = run_on(rt.alloc(), ONE_INSTANCE, &[2], 1 << 20)?;
     assert_eq!(rt; unread.status, 5);
     assert!(rt; unread.got.as_slice() == b"read fault\n".as_slice());
-    let unwritten = ran(rt.alloc(), ONE_INSTANCE, &[], 10)?;
+    let unwritten = run_on(rt.alloc(), ONE_INSTANCE, &[], 10)?;
     assert_eq!(rt; unwritten.status, 6);
     assert!(rt; unwritten.got.as_slice() == b"line 1\njoi".as_slice());
     Ok(())
