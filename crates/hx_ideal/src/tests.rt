@@ -1,3 +1,6 @@
+ghost use Rattle.std.specs.Prelude.{◌≡◌, IfOk, IsSome};
+ghost use Rattle.hx_ideal.specs.IdealState.{lists_of, maps_of};
+
 use super::*;
 use std::test::Fail;
 
@@ -13,7 +16,9 @@ const OFFLINE: StateId = StateId(4);
 
 const OTHER: StateId = StateId(9);
 
-fn semi(alloc: Global, lists: &[&[InstanceId]]) -> Result<Mode, AllocError> {
+fn semi(alloc: Global, lists: &[&[InstanceId]]) -> Result<Mode, AllocError>
+    ensures { IfOk result (λ mode. IsSome (lists_of mode)) }
+{
     let mut all = Seq::new(alloc);
     for list in lists {
         all.push(Seq::from_vec(Vec::from_slice(alloc, list)?))?;
@@ -21,7 +26,9 @@ fn semi(alloc: Global, lists: &[&[InstanceId]]) -> Result<Mode, AllocError> {
     Ok(Mode::Semi(all))
 }
 
-fn custom(alloc: Global, maps: &[&[(InstanceId, StateId)]]) -> Result<Mode, AllocError> {
+fn custom(alloc: Global, maps: &[&[(InstanceId, StateId)]]) -> Result<Mode, AllocError>
+    ensures { IfOk result (λ mode. IsSome (maps_of mode)) }
+{
     let mut all = Seq::new(alloc);
     for map in maps {
         all.push(Seq::from_vec(Vec::from_slice(alloc, map)?))?;
@@ -94,38 +101,74 @@ fn each_fault_of_an_ideal_state_is_named(rt: HostRuntime) -> Result<(), Fail> {
     Ok(())
 }
 
+/// Two partitions with a list each.
+fn two_lists(alloc: Global) -> Result<Ideal, AllocError>
+    ensures lists { IfOk result (λ ideal. IsSome (lists_of ideal.mode)) }
+    ensures parts { IfOk result (λ ideal. ideal.parts ≡ 2) }
+{
+    let mode = semi(alloc, &[&[N1], &[N2]])?;
+    match Ideal::check(1, 2, mode, 3, &[ONLINE]) {
+        Ok(ideal) => Ok(ideal),
+        Err(_) => Err(AllocError),
+    }
+}
+
 #[test]
-fn one_list_is_replaced_and_a_faulty_one_changes_nothing(rt: HostRuntime) -> Result<(), Fail> {
-    let mode = semi(rt.alloc(), &[&[N1], &[N2]])?;
-    let mut ideal = Ideal::check(1, 2, mode, 3, &[ONLINE])
-        .ok()
-        .ok_or("a fault")?;
+fn one_list_is_replaced(rt: HostRuntime) -> Result<(), Fail> {
+    let mut ideal = two_lists(rt.alloc())?;
     let list = Vec::from_slice(rt.alloc(), &[N3, N1])?;
     assert_eq!(rt; ideal.set_list(1, list, 3), Ok(()));
-    let list = Vec::from_slice(rt.alloc(), &[N3, N3])?;
-    assert_eq!(rt;
-        ideal.set_list(0, list, 3),
-        Err(IdealFault::TwiceInList { part: 0, place: 1 })
-    );
     assert_eq!(rt; *ideal.mode(), semi(rt.alloc(), &[&[N1], &[N3, N1]])?);
     Ok(())
 }
 
 #[test]
-fn one_map_is_replaced_and_a_faulty_one_changes_nothing(rt: HostRuntime) -> Result<(), Fail> {
-    let mode = custom(rt.alloc(), &[&[], &[(N2, OFFLINE)]])?;
-    let states = [ONLINE, OFFLINE];
-    let mut ideal = Ideal::check(1, 2, mode, 3, &states).ok().ok_or("a fault")?;
+fn a_faulty_list_changes_nothing(rt: HostRuntime) -> Result<(), Fail> {
+    let mut ideal = two_lists(rt.alloc())?;
+    let list = Vec::from_slice(rt.alloc(), &[N3, N3])?;
+    assert_eq!(rt;
+        ideal.set_list(0, list, 3),
+        Err(IdealFault::TwiceInList { part: 0, place: 1 })
+    );
+    assert_eq!(rt; *ideal.mode(), semi(rt.alloc(), &[&[N1], &[N2]])?);
+    Ok(())
+}
+
+/// Two partitions with a map each.
+fn two_maps(alloc: Global) -> Result<Ideal, AllocError>
+    ensures maps { IfOk result (λ ideal. IsSome (maps_of ideal.mode)) }
+    ensures parts { IfOk result (λ ideal. ideal.parts ≡ 2) }
+{
+    let mode = custom(alloc, &[&[], &[(N2, OFFLINE)]])?;
+    match Ideal::check(1, 2, mode, 3, &[ONLINE, OFFLINE]) {
+        Ok(ideal) => Ok(ideal),
+        Err(_) => Err(AllocError),
+    }
+}
+
+#[test]
+fn one_map_is_replaced(rt: HostRuntime) -> Result<(), Fail> {
+    let mut ideal = two_maps(rt.alloc())?;
     let map = Vec::from_slice(rt.alloc(), &[(N3, ONLINE)])?;
-    assert_eq!(rt; ideal.set_map(0, map, 3, &states), Ok(()));
+    assert_eq!(rt; ideal.set_map(0, map, 3, &[ONLINE, OFFLINE]), Ok(()));
+    assert_eq!(rt;
+        *ideal.mode(),
+        custom(rt.alloc(), &[&[(N3, ONLINE)], &[(N2, OFFLINE)]])?
+    );
+    Ok(())
+}
+
+#[test]
+fn a_faulty_map_changes_nothing(rt: HostRuntime) -> Result<(), Fail> {
+    let mut ideal = two_maps(rt.alloc())?;
     let map = Vec::from_slice(rt.alloc(), &[(N1, OTHER)])?;
     assert_eq!(rt;
-        ideal.set_map(1, map, 3, &states),
+        ideal.set_map(1, map, 3, &[ONLINE, OFFLINE]),
         Err(IdealFault::UnknownState { part: 1, place: 0 })
     );
     assert_eq!(rt;
         *ideal.mode(),
-        custom(rt.alloc(), &[&[(N3, ONLINE)], &[(N2, OFFLINE)]])?
+        custom(rt.alloc(), &[&[], &[(N2, OFFLINE)]])?
     );
     Ok(())
 }
