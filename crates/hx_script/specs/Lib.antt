@@ -1,3 +1,6 @@
 pub use Rattle.hx_print.specs.Texts
 pub mod Grammar
 pub mod Parsing
+pub mod Logs
+pub mod LogEntries
+pub mod NewIdeals

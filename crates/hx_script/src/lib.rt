@@ -3,6 +3,7 @@
 
 mod faults;
 mod forms;
+mod log;
 mod parsing;
 mod verbs;
 mod words;
@@ -11,6 +12,7 @@ pub use faults::{ScriptFault, ScriptKind, ScriptRefusal};
 use hx_ids::{ControllerId, InstanceId, ModelId, MsgId, StateId};
 use hx_lists::Seq;
 pub use hx_print::{Note, Word};
+pub use log::{LogEntry, LogLine, LogMove, LogPart, LogVerb};
 pub use parsing::parse;
 pub use verbs::Verb;
 
