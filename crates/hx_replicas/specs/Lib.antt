@@ -1,1 +1,2 @@
 pub mod Participants
+pub mod Ledger

@@ -1,5 +1,5 @@
 -- A whole script: what each line does, and the text that comes of it.
-use Rattle.std.specs.Prelude.{ℕ, zero, suc, ◌+◌, ◌*◌, Bool, true, false, not, ◌==◌, ◌&&◌, ◌||◌, List, [], ◌∷◌, ◌++◌, map, filter, length, Option, None, Some, is_some, if◌then◌else◌, replicate, max}
+use Rattle.std.specs.Prelude.{ℕ, zero, suc, ◌+◌, ◌*◌, Bool, true, false, not, ◌==◌, ◌&&◌, ◌||◌, List, [], ◌∷◌, ◌++◌, map, filter, length, Option, None, Some, is_some, if◌then◌else◌, max}
 use Rattle.std.specs.List.{sum_by}
 use Rattle.hx_lists.specs.Lists.{count}
 use Rattle.hx_ids.specs.declared.InstanceId.{InstanceId}
@@ -9,8 +9,6 @@ use Rattle.hx_ids.specs.declared.PartId.{PartId}
 use Rattle.hx_ids.specs.declared.StateId.{StateId}
 use Rattle.hx_ids.specs.declared.SessionId.{SessionId}
 use Rattle.hx_model.specs.declared.ModelParts.{ModelParts}
-use Rattle.hx_ideal.specs.declared.Mode.{Mode}
-use Rattle.hx_ideal.specs.declared.Mode.TheVariants as modes
 use Rattle.hx_cluster.specs.declared.description.Spec.{Spec}
 use Rattle.hx_cluster.specs.declared.description.Resource.{Resource}
 use Rattle.hx_cluster.specs.declared.state.Cluster.{Cluster}
@@ -36,6 +34,7 @@ use Rattle.hx_script.specs.declared.ReadKind.TheVariants as kinds
 use Rattle.hx_script.specs.declared.What.{What}
 use Rattle.hx_script.specs.declared.What.TheVariants as asks
 use Rattle.hx_script.specs.declared.Line.{Line}
+use Rattle.hx_script.specs.NewIdeals.{bare_ideal}
 use Rattle.hx_control.specs.declared.PassOutcome.{PassOutcome}
 use Rattle.hx_control.specs.declared.PassOutcome.TheVariants as ends
 use Rattle.hx_sim.specs.World.{World, Voice, Handlers, Told, opening_world, happen, note, say, turn_of, with_turn}
@@ -60,13 +59,6 @@ do_step_on v w name step = step_on v w step (newest w.cluster name)
 
 abbrev pub part_at : ResourceId → ℕ → PartId
 part_at r index = record { resource = r; index = index }
-
--- a new resource has only empty lists or maps. Modes are 0, 1 and 2 for FULL_AUTO, SEMI_AUTO and CUSTOMIZED
-abbrev pub bare_mode : ℕ → ℕ → Mode
-bare_mode mode parts =
-    if mode == 0 then modes.Full
-    else if mode == 1 then modes.Semi (replicate parts [])
-    else modes.Custom (replicate parts [])
 
 -- a session dies: it ends, and where it did its participant stops
 abbrev pub died : Voice → World → InstanceId → Option StepFault → World
@@ -232,7 +224,7 @@ do_what v w (asks.Tick n) = do_step v w (steps.Tick n)
 do_what v w (asks.Expire i) = do_step v w (steps.End i)
 do_what v w (asks.Die i) = do_die v w i
 do_what v w (asks.Add name model replicas parts mode) =
-    do_step v w (steps.Add name model (record { replicas = replicas; parts = parts; mode = bare_mode mode parts }))
+    do_step v w (steps.Add name model (bare_ideal replicas parts mode))
 do_what v w (asks.Drop name) = do_step_on v w name (λ r. steps.Drop r)
 do_what v w (asks.List name part list) = do_step_on v w name (λ r. steps.SetList (part_at r part) list)
 do_what v w (asks.Map name part map) = do_step_on v w name (λ r. steps.SetMap (part_at r part) map)
