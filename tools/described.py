@@ -79,8 +79,8 @@ use Rattle.serde_json.specs.View.{items_of}
 use Rattle.hx_model.specs.declared.Bound.TheVariants as bounds
 use Rattle.hx_ideal.specs.declared.Mode.TheVariants as modes
 use Rattle.hx_cluster.specs.declared.description.Scope.TheVariants as scopes
-use Rattle.hx_desc.specs.declared.faults.DescKind.TheVariants as kinds
-use Rattle.hx_desc.specs.Found.{Found, within}
+use Rattle.hx_forms.specs.declared.faults.DescKind.TheVariants as kinds
+use Rattle.hx_forms.specs.Found.{Found, within}
 use Rattle.hx_desc.specs.Description.{described}
 
 abbrev members_from : List (List ℕ × Data) → Members

@@ -4,8 +4,8 @@ use Rattle.std.specs.Fmt.{digits}
 use Rattle.std.proofs.Common.{refl}
 use Rattle.serde_json.specs.Data.{Data, null, number, string, array, object, unsigned, negative, Members, no_members, member}
 use Rattle.serde_json.specs.View.{items_of}
-use Rattle.hx_desc.specs.declared.faults.DescKind.TheVariants as kinds
-use Rattle.hx_desc.specs.Found.{within}
+use Rattle.hx_forms.specs.declared.faults.DescKind.TheVariants as kinds
+use Rattle.hx_forms.specs.Found.{within}
 use Rattle.hx_desc.specs.Description.{described}
 
 abbrev members_from : List (List ℕ × Data) → Members

@@ -5,7 +5,7 @@ use Rattle.std.proofs.Common.{refl}
 use Rattle.serde_json.proofs.OnLiterals.{serde_json_on_literals}
 use Rattle.hx_ideal.specs.declared.Mode.TheVariants.{Semi}
 use Rattle.hx_cluster.specs.declared.description.Spec.{Spec}
-use Rattle.hx_desc.specs.declared.faults.DescKind.TheVariants as kinds
+use Rattle.hx_forms.specs.declared.faults.DescKind.TheVariants as kinds
 use Rattle.hx_desc.specs.Demo.{demo, instances_of}
 use Rattle.hx_desc.specs.Description.{input_spec}
 

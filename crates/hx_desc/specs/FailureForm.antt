@@ -4,9 +4,9 @@ use Rattle.serde_json.specs.Data.{Data}
 use Rattle.hx_ids.specs.declared.ResourceId.{ResourceId}
 use Rattle.hx_cluster.specs.declared.description.Failure.{Failure}
 use Rattle.hx_cluster.specs.Ends.{parts_of}
-use Rattle.hx_desc.specs.declared.faults.DescKind.TheVariants as kinds
+use Rattle.hx_forms.specs.declared.faults.DescKind.TheVariants as kinds
 use Rattle.hx_desc.specs.declared.tables.ResourceTable.{ResourceTable}
-use Rattle.hx_desc.specs.Found.{Found, fault, ◌>>=◌, tested, whole_in, number_in, place_in, array_up_to, read_all, object_in, required, optional}
+use Rattle.hx_forms.specs.Found.{Found, fault, ◌>>=◌, tested, whole_in, number_in, place_in, array_up_to, read_all, object_in, required, optional}
 use Rattle.hx_desc.specs.ResourceForm.{instance_in}
 
 -- a resource of the description: its number is the place of its name

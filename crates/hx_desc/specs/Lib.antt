@@ -1,4 +1,3 @@
-pub mod Found
 pub mod ModelForm
 pub mod RuleForm
 pub mod ResourceForm

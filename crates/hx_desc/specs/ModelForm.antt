@@ -14,11 +14,11 @@ use Rattle.hx_model.specs.declared.ModelFault.TheVariants as faults
 use Rattle.hx_model.specs.Model.{dropped, is_between}
 use Rattle.hx_model.specs.Faults.{fault_of, is_free}
 use Rattle.hx_model.specs.Builtin.{state_named, master_slave_parts, online_offline_parts, leader_standby_parts}
-use Rattle.hx_desc.specs.declared.faults.DescKind.{DescKind}
-use Rattle.hx_desc.specs.declared.faults.DescKind.TheVariants as kinds
+use Rattle.hx_forms.specs.declared.faults.DescKind.{DescKind}
+use Rattle.hx_forms.specs.declared.faults.DescKind.TheVariants as kinds
 use Rattle.hx_desc.specs.declared.tables.StateTable.{StateTable}
 use Rattle.hx_desc.specs.declared.tables.ModelTable.{ModelTable}
-use Rattle.hx_desc.specs.Found.{Found, fault, ◌>>=◌, tested, there_or, text_in, new_name_in, array_in, array_up_to, read_all, object_in, required}
+use Rattle.hx_forms.specs.Found.{Found, fault, ◌>>=◌, tested, there_or, text_in, new_name_in, array_in, array_up_to, read_all, object_in, required}
 
 -- the models that every description has
 abbrev pub built_in_states : List (List ℕ)

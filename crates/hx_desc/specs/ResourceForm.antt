@@ -13,12 +13,12 @@ use Rattle.hx_ideal.specs.declared.Mode.{Mode}
 use Rattle.hx_ideal.specs.declared.Mode.TheVariants as modes
 use Rattle.hx_ideal.specs.IdealState.{IdealState}
 use Rattle.hx_cluster.specs.Ends.{model_at}
-use Rattle.hx_desc.specs.declared.faults.DescKind.TheVariants as kinds
+use Rattle.hx_forms.specs.declared.faults.DescKind.TheVariants as kinds
 use Rattle.hx_desc.specs.declared.tables.ModelTable.{ModelTable}
 use Rattle.hx_desc.specs.declared.tables.ResourceTable.{ResourceTable}
 use Rattle.hx_desc.specs.declared.tables.ModeName.{ModeName}
 use Rattle.hx_desc.specs.declared.tables.ModeName.TheVariants.{FullAuto, SemiAuto, Customized}
-use Rattle.hx_desc.specs.Found.{Found, fault, ◌>>=◌, tested, there_or, text_in, number_in, new_name_in, place_in, array_in, array_up_to, read_all, object_in, required, optional}
+use Rattle.hx_forms.specs.Found.{Found, fault, ◌>>=◌, tested, there_or, text_in, number_in, new_name_in, place_in, array_in, array_up_to, read_all, object_in, required, optional}
 
 -- an instance by its name
 abbrev pub instance_in : List (List ℕ) → Data → Found InstanceId

@@ -6,8 +6,8 @@ use Rattle.hx_ids.specs.declared.StateId.{StateId}
 use Rattle.hx_cluster.specs.declared.description.Rule.{Rule}
 use Rattle.hx_cluster.specs.declared.description.Scope.{Scope}
 use Rattle.hx_cluster.specs.declared.description.Scope.TheVariants as scopes
-use Rattle.hx_desc.specs.declared.faults.DescKind.TheVariants as kinds
-use Rattle.hx_desc.specs.Found.{Found, fault, ◌>>=◌, tested, text_in, number_in, place_in, array_up_to, read_all, object_in, required, optional}
+use Rattle.hx_forms.specs.declared.faults.DescKind.TheVariants as kinds
+use Rattle.hx_forms.specs.Found.{Found, fault, ◌>>=◌, tested, text_in, number_in, place_in, array_up_to, read_all, object_in, required, optional}
 
 abbrev pub scope_of : List ℕ → Found Scope
 scope_of text =

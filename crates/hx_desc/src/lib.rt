@@ -1,7 +1,6 @@
 //! Descriptions of a cluster: a text of JSON, read as what it says or as the first fault in it.
 #![tactic(auto)]
 
-mod faults;
 mod tables;
 
-pub use faults::{DescFault, DescKind, DescRefusal, Path};
+pub use hx_forms::{DescFault, DescKind, DescRefusal, Path};

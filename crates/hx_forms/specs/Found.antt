@@ -6,9 +6,9 @@ use Rattle.serde_json.specs.Data.{Data, Items, no_items, item, Members, no_membe
 use Rattle.serde_json.specs.Find.{get_member, as_str, as_number, as_u64, as_array, as_object}
 use Rattle.hx_ids.specs.Names.{place_of}
 use Rattle.hx_text.specs.Spellings.{is_name}
-use Rattle.hx_desc.specs.declared.faults.DescKind.{DescKind}
-use Rattle.hx_desc.specs.declared.faults.DescKind.TheVariants as kinds
-use Rattle.hx_desc.specs.declared.faults.DescFault.{DescFault}
+use Rattle.hx_forms.specs.declared.faults.DescKind.{DescKind}
+use Rattle.hx_forms.specs.declared.faults.DescKind.TheVariants as kinds
+use Rattle.hx_forms.specs.declared.faults.DescFault.{DescFault}
 
 abbrev pub Found : Type 0 → Type 0
 Found A = Result A DescFault
