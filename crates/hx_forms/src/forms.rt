@@ -35,7 +35,8 @@ pub trait ItemForm {
         ensures { Reads result (found self.now items (view value.now)) };
 }
 
-/// A number from a least to a most.
+/// A number of 64 bits from a least to a most.
+#[derive(Clone, Copy, Debug)]
 pub struct Number {
     pub low: u64,
     pub high: u64,
@@ -48,5 +49,22 @@ impl Form for Number {
 
     fn read(&self, alloc: Global, value: &Value) -> Result<u64, DescRefusal> {
         number(alloc, self.low, self.high, value)
+    }
+}
+
+/// A number of 32 bits from a least to a most.
+#[derive(Clone, Copy, Debug)]
+pub struct SmallNumber {
+    pub low: u32,
+    pub high: u32,
+}
+
+impl Form for SmallNumber {
+    type Output = u32;
+
+    ghost found = { λ form d. number_in form.low form.high d };
+
+    fn read(&self, alloc: Global, value: &Value) -> Result<u32, DescRefusal> {
+        Ok(number(alloc, self.low as u64, self.high as u64, value)? as u32)
     }
 }

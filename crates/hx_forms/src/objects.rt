@@ -11,6 +11,7 @@ use serde_json::{Map, Value};
 use std::alloc::Global;
 
 /// The members of an object.
+#[derive(Clone, Copy)]
 pub struct Object<'a> {
     alloc: Global,
     members: &'a Map<String, Value>,

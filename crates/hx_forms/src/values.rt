@@ -1,5 +1,5 @@
 //! Texts, numbers and names.
-ghost use Rattle.std.specs.Prelude.{◌≡◌, ◌<◌, ◌≤◌, ◌^◌, Ok};
+ghost use Rattle.std.specs.Prelude.{◌≡◌, ◌<◌, ◌≤◌, length, IfOk};
 ghost use Rattle.std.specs.List.{list_any};
 ghost use Rattle.std.specs.Str.{bytes_eq};
 ghost use Rattle.serde_json.specs.View.{view};
@@ -34,7 +34,8 @@ pub fn whole(alloc: Global, value: &Value) -> Result<u64, DescRefusal>
 
 /// A number from a least to a most.
 pub fn number(alloc: Global, low: u64, high: u64, value: &Value) -> Result<u64, DescRefusal>
-    ensures { Reads result (number_in low high (view value.now)) }
+    ensures read { Reads result (number_in low high (view value.now)) }
+    ensures range { IfOk result (λ n. (low ≤ n) × (n ≤ high)) }
 {
     let n = whole(alloc, value)?;
     if n < low || high < n {
@@ -50,7 +51,8 @@ pub fn place(
     names: &Names,
     value: &Value,
 ) -> Result<u32, DescRefusal>
-    ensures { Reads result (place_in unknown names.now (view value.now)) }
+    ensures read { Reads result (place_in unknown names.now (view value.now)) }
+    ensures range { IfOk result (λ place. place < length names.now) }
 {
     let name = text(alloc, value)?;
     match names.find(name) {

@@ -1,4 +1,4 @@
-use Rattle.std.proofs.Common.{◌≡◌}
+use Rattle.std.proofs.Common.{◌≡◌, sym}
 use Rattle.serde_json.specs.View.{view, items_view}
 use Rattle.serde_json.specs.Find.{as_array}
 use Rattle.std.specs.Prelude.{Some}
@@ -7,5 +7,5 @@ use Rattle.hx_forms.proofs.arrays.array.Goals as goal
 
 pub returns-in-Some : goal.returns-in-Some
 returns-in-Some c =
-    let is : as_array (view c.args.value.now) ≡ Some (items_view c.in-Some.items.now.items) = cc (c.in-Some.ensures) in
+    let is : as_array (view c.args.value.now) ≡ Some (items_view c.in-Some.items.now.items) = sym c.in-Some.ensures in
     rw (is, data_of-items_of, c.as_slice.ensures.value)

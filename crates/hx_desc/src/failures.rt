@@ -1,0 +1,146 @@
+//! Failures to come.
+ghost use Rattle.std.specs.Prelude.{◌≡◌};
+ghost use Rattle.serde_json.specs.View.{view};
+ghost use Rattle.hx_forms.specs.Reading.{Reads};
+ghost use Rattle.hx_desc.specs.FailureForm.{resource_id_in, part_in, turn_in, turn_of, failure_in, failures_in};
+
+use crate::resources::{InstanceForm, parts_of};
+use crate::tables::ResourceTable;
+use hx_cluster::Failure;
+use hx_forms::{
+    DescKind, DescRefusal, Form, ItemForm, Object, array_up_to, fault, number, place, read_all,
+    whole,
+};
+use hx_ids::{Names, PartId, ResourceId};
+use hx_lists::Seq;
+use serde_json::Value;
+use std::alloc::Global;
+
+/// The most failures that a description has.
+const MOST_FAILURES: usize = 1024;
+
+/// A resource by its name.
+#[derive(Clone, Copy)]
+struct ResourceIdForm<'a> {
+    names: &'a Names,
+}
+
+impl Form for ResourceIdForm<'_> {
+    type Output = ResourceId;
+
+    ghost found = { λ form d. resource_id_in form.names.now d };
+
+    fn read(&self, alloc: Global, value: &Value) -> Result<ResourceId, DescRefusal> {
+        let place = place(alloc, DescKind::UnknownResource, self.names, value)?;
+        Ok(ResourceId(place))
+    }
+}
+
+/// One of so many partitions.
+#[derive(Clone, Copy)]
+struct PartForm {
+    parts: u32,
+}
+
+impl Form for PartForm {
+    type Output = u32;
+
+    ghost found = { λ form d. part_in form.parts d };
+
+    fn read(&self, alloc: Global, value: &Value) -> Result<u32, DescRefusal> {
+        let index = whole(alloc, value)?;
+        if index >= self.parts as u64 {
+            return Err(fault(alloc, DescKind::NoPart));
+        }
+        Ok(index as u32)
+    }
+}
+
+/// Which run or which making, counted from 1.
+#[derive(Clone, Copy)]
+struct TurnForm;
+
+impl Form for TurnForm {
+    type Output = Option<u32>;
+
+    ghost found = { λ _ d. turn_in d };
+
+    fn read(&self, alloc: Global, value: &Value) -> Result<Option<u32>, DescRefusal> {
+        let n = number(alloc, 1, 1_000_000, value)?;
+        Ok(Some(n as u32))
+    }
+}
+
+/// Whether it is a making, and which.
+fn turn(alloc: Global, run: Option<u32>, make: Option<u32>) -> Result<(bool, u32), DescRefusal>
+    ensures { Reads result (turn_of run make) }
+{
+    match (run, make) {
+        (Some(n), None) => Ok((false, n)),
+        (None, Some(n)) => Ok((true, n)),
+        _ => Err(fault(alloc, DescKind::RunOrMake)),
+    }
+}
+
+/// A failure, over the instances and the resources.
+#[derive(Clone, Copy)]
+struct FailureForm<'a> {
+    instances: &'a Names,
+    table: &'a ResourceTable,
+}
+
+impl ItemForm for FailureForm<'_> {
+    type Items = Seq<Failure>;
+
+    ghost found = { λ form failures d. failure_in form.instances.now form.table.now failures d };
+
+    fn read_next(
+        &self,
+        alloc: Global,
+        mut failures: Seq<Failure>,
+        value: &Value,
+    ) -> Result<Seq<Failure>, DescRefusal> {
+        let (instances, names) = (self.instances, &self.table.names);
+        let object = Object::read(
+            alloc,
+            &["instance", "resource", "part", "run", "make"],
+            value,
+        )?;
+        let instance = object.required("instance", &InstanceForm { instances })?;
+        let resource = object.required("resource", &ResourceIdForm { names })?;
+        let parts = parts_of(self.table.resources.as_slice(), resource);
+        let index = object.required("part", &PartForm { parts })?;
+        let run = object.optional("run", None, &TurnForm)?;
+        let make = object.optional("make", None, &TurnForm)?;
+        let (make, number) = turn(alloc, run, make)?;
+        failures.push(Failure {
+            instance,
+            part: PartId { resource, index },
+            make,
+            number,
+        })?;
+        Ok(failures)
+    }
+}
+
+/// All failures.
+#[derive(Clone, Copy)]
+pub(crate) struct FailuresForm<'a> {
+    pub(crate) instances: &'a Names,
+    pub(crate) table: &'a ResourceTable,
+}
+
+impl Form for FailuresForm<'_> {
+    type Output = Seq<Failure>;
+
+    ghost found = { λ form d. failures_in form.instances.now form.table.now d };
+
+    fn read(&self, alloc: Global, value: &Value) -> Result<Seq<Failure>, DescRefusal> {
+        let values = array_up_to(alloc, MOST_FAILURES, value)?;
+        let form = FailureForm {
+            instances: self.instances,
+            table: self.table,
+        };
+        read_all(alloc, &form, Seq::new(alloc), values)
+    }
+}

@@ -1,0 +1,139 @@
+//! Throttle rules.
+ghost use Rattle.std.specs.Prelude.{◌≡◌, ◌≤◌, length};
+ghost use Rattle.serde_json.specs.View.{view};
+ghost use Rattle.hx_forms.specs.Reading.{Reads};
+ghost use Rattle.hx_desc.specs.RuleForm.{scope_in, end_in, transition_of, rule_in, rules_in};
+
+use hx_cluster::{Rule, Scope};
+use hx_forms::{
+    DescKind, DescRefusal, Form, ItemForm, Object, SmallNumber, array_up_to, fault, place,
+    read_all, text,
+};
+use hx_ids::{Names, StateId};
+use hx_lists::Seq;
+use serde_json::Value;
+use std::alloc::Global;
+
+/// The most rules that a description has.
+const MOST_RULES: usize = 16;
+
+/// Over what a rule counts.
+#[derive(Clone, Copy)]
+struct ScopeForm;
+
+impl Form for ScopeForm {
+    type Output = Scope;
+
+    ghost found = { λ _ d. scope_in d };
+
+    fn read(&self, alloc: Global, value: &Value) -> Result<Scope, DescRefusal> {
+        let text = text(alloc, value)?;
+        if text == "cluster" {
+            Ok(Scope::Cluster)
+        } else if text == "instance" {
+            Ok(Scope::Instance)
+        } else if text == "resource" {
+            Ok(Scope::Resource)
+        } else {
+            Err(fault(alloc, DescKind::BadScope))
+        }
+    }
+}
+
+/// An end of a transition: any state but one.
+#[derive(Clone, Copy)]
+struct EndForm<'a> {
+    states: &'a Names,
+    never: u8,
+    ghost few: { length states.now ≤ 256 },
+}
+
+impl Form for EndForm<'_> {
+    type Output = Option<StateId>;
+
+    ghost found = { λ form d. end_in form.states.now form.never d };
+
+    fn read(&self, alloc: Global, value: &Value) -> Result<Option<StateId>, DescRefusal> {
+        let place = place(alloc, DescKind::UnknownState, self.states, value)?;
+        if place == self.never as u32 {
+            return Err(fault(alloc, DescKind::UnknownState));
+        }
+        Ok(Some(StateId(place as u8)))
+    }
+}
+
+/// The transition that a rule counts, or all of them.
+fn transition(
+    alloc: Global,
+    from: Option<StateId>,
+    to: Option<StateId>,
+) -> Result<Option<(StateId, StateId)>, DescRefusal>
+    ensures { Reads result (transition_of from to) }
+{
+    match (from, to) {
+        (None, None) => Ok(None),
+        (Some(from), Some(to)) => Ok(Some((from, to))),
+        _ => Err(fault(alloc, DescKind::HalfTransition)),
+    }
+}
+
+/// A rule, over the names of all states.
+#[derive(Clone, Copy)]
+struct RuleForm<'a> {
+    states: &'a Names,
+    ghost few: { length states.now ≤ 256 },
+}
+
+impl ItemForm for RuleForm<'_> {
+    type Items = Seq<Rule>;
+
+    ghost found = { λ form rules d. rule_in form.states.now rules d };
+
+    fn read_next(
+        &self,
+        alloc: Global,
+        mut rules: Seq<Rule>,
+        value: &Value,
+    ) -> Result<Seq<Rule>, DescRefusal> {
+        let states = self.states;
+        let object = Object::read(alloc, &["scope", "limit", "from", "to"], value)?;
+        let scope = object.required("scope", &ScopeForm)?;
+        let limit = object.required(
+            "limit",
+            &SmallNumber {
+                low: 1,
+                high: 65_535,
+            },
+        )?;
+        let from = object.optional("from", None, &EndForm { states, never: 1 })?;
+        let to = object.optional("to", None, &EndForm { states, never: 0 })?;
+        let transition = transition(alloc, from, to)?;
+        rules.push(Rule {
+            scope,
+            transition,
+            limit,
+        })?;
+        Ok(rules)
+    }
+}
+
+/// All rules.
+#[derive(Clone, Copy)]
+pub(crate) struct RulesForm<'a> {
+    pub(crate) states: &'a Names,
+    ghost few: { length states.now ≤ 256 },
+}
+
+impl Form for RulesForm<'_> {
+    type Output = Seq<Rule>;
+
+    ghost found = { λ form d. rules_in form.states.now d };
+
+    fn read(&self, alloc: Global, value: &Value) -> Result<Seq<Rule>, DescRefusal> {
+        let values = array_up_to(alloc, MOST_RULES, value)?;
+        let form = RuleForm {
+            states: self.states,
+        };
+        read_all(alloc, &form, Seq::new(alloc), values)
+    }
+}
