@@ -187,7 +187,7 @@ fn mail_of(
 {
     let mut mail = Vec::new(alloc);
     for e in live {
-        let shown = cluster.read_mail(alloc, e.0)?;
+        let shown = hx_calls::read_mail(cluster, alloc, e.0)?;
         mail.extend_from_slice(&shown)?;
     }
     Ok(mail)
@@ -203,7 +203,7 @@ fn rows_of(
 {
     let mut rows = Vec::new(alloc);
     for e in live {
-        let shown = cluster.read_states(alloc, e.0)?;
+        let shown = hx_calls::read_states(cluster, alloc, e.0)?;
         rows.extend_from_slice(&shown)?;
     }
     Ok(rows)
@@ -213,14 +213,14 @@ fn rows_of(
 fn view_now(alloc: Global, cluster: &Cluster) -> Result<View, AllocError>
     ensures { IfOk result (λ view. view ≡ view_now cluster.now) }
 {
-    let live = cluster.read_live(alloc)?;
+    let live = hx_calls::read_live(cluster, alloc)?;
     let mail = mail_of(alloc, cluster, &live)?;
     let rows = rows_of(alloc, cluster, &live)?;
     Ok(View {
         live: Seq::from_vec(live),
         mail: Seq::from_vec(mail),
         rows: Seq::from_vec(rows),
-        ideals: cluster.read_ideals(alloc)?,
+        ideals: hx_calls::read_ideals(cluster, alloc)?,
     })
 }
 
@@ -243,7 +243,7 @@ fn seen_at(cluster: &Cluster, part: PartId, shown: (SessionId, InstanceId)) -> O
 fn seen_of_part(alloc: Global, cluster: &Cluster, part: PartId) -> Result<Vec<Seen>, AllocError>
     ensures { IfOk result (λ rows. rows.items ≡ seen_of_part cluster.now part) }
 {
-    let live = cluster.read_live(alloc)?;
+    let live = hx_calls::read_live(cluster, alloc)?;
     live.iter()
         .filter_map(|e| seen_at(cluster, part, *e))
         .collect(alloc)
@@ -296,7 +296,7 @@ fn dispatch(
     }
     let roll = roll_of(alloc, cluster)?;
     let copy = Seq::from_vec(Vec::from_slice(alloc, proposals)?);
-    let answer = cluster.dispatch(controller, begun.epoch, begun.pass, proposals)?;
+    let answer = hx_calls::dispatch(cluster, controller, begun.epoch, begun.pass, proposals)?;
     let sent = count_sent(answer.placed.as_slice());
     let event = Event::Dispatch {
         c: controller,
@@ -357,7 +357,7 @@ fn post(
         rows: Seq::from_vec(Vec::from_slice(alloc, rows)?),
     };
     print(alloc, spec, cluster, &event, page)?;
-    cluster.publish(controller, epoch, rows)
+    hx_calls::publish(cluster, controller, epoch, rows)
 }
 
 /// The rest of a turn that has begun.
@@ -398,7 +398,7 @@ pub(crate) fn pass(
     }
     check_room(cluster, controller)?;
     let roll = roll_of(alloc, cluster)?;
-    let begun = cluster.begin(controller);
+    let begun = hx_calls::begin(cluster, controller);
     print_event(&Event::Begin(controller, begun), &roll, spec, page)?;
     turn(alloc, spec, cluster, controller, begun, page)
 }
@@ -417,7 +417,7 @@ fn ack(
     if cluster.can_ack(session, id) {
         check_room(cluster, ControllerId(0))?;
         print(alloc, spec, cluster, &Event::Ack(session, id), page)?;
-        cluster.ack(session, id);
+        hx_calls::ack(cluster, session, id);
     }
     Ok(())
 }
@@ -439,7 +439,7 @@ fn write(
     check_room(cluster, ControllerId(0))?;
     let event = Event::Write(session, id, Outcome::Ok);
     print(alloc, spec, cluster, &event, page)?;
-    cluster.write(session, id, Outcome::Ok)?;
+    hx_calls::write(cluster, session, id, Outcome::Ok)?;
     ack(alloc, spec, cluster, message, page)
 }
 
@@ -459,7 +459,7 @@ fn take(
     }
     check_room(cluster, ControllerId(0))?;
     print(alloc, spec, cluster, &Event::Take(session, id), page)?;
-    cluster.take(session, id);
+    hx_calls::take(cluster, session, id);
     write(alloc, spec, cluster, message, page)
 }
 
@@ -489,7 +489,7 @@ pub(crate) fn work(
 ) -> Result<(), AllocError>
     ensures { OnOk result (Brings spec.now (work_items cluster.old instance) cluster.old cluster.new page.old page.new) }
 {
-    let mail = cluster.fetch(alloc, instance)?;
+    let mail = hx_calls::fetch(cluster, alloc, instance)?;
     let event = Event::Fetch {
         instance,
         session: mail.session,

@@ -3,7 +3,6 @@
 
 mod admin;
 mod description;
-mod dispatch;
 mod edits;
 mod ends;
 mod happenings;
@@ -11,16 +10,13 @@ mod opening;
 mod planning;
 mod ranges;
 mod readers;
-mod reads;
 mod record;
 mod refusals;
-mod runs;
 mod state;
 mod steps;
 
 pub use admin::admin_on;
 pub use description::{Failure, Resource, Rule, Scope, Spec};
-pub use dispatch::{dispatch_on, place_all_on, place_on};
 pub use ends::{count_on, has_end};
 pub use happenings::{
     Admin, Begun, Did, Dispatched, Event, History, Mail, Outcome, Placed, Proposal, Seen, StepFault,
@@ -31,6 +27,5 @@ pub use planning::{
     Candidate, Entry, Finding, Full, Held, Ideals, Plan, Report, Selection, Target, Throttled, View,
 };
 pub use readers::{message_on, state_on};
-pub use refusals::{MOST_RESOURCES, refuses_on};
-pub use runs::write_on;
+pub use refusals::{MOST_RESOURCES, is_flag_of, refuses_on};
 pub use state::{Cluster, Message, Row};

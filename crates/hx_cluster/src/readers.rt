@@ -5,13 +5,15 @@ ghost use Rattle.hx_cluster.specs.Ends.{is_row, is_message, row_of, message_of, 
 ghost use Rattle.hx_cluster.specs.Steps.{session_of, is_drained, is_down, is_leader, is_dropped, newest};
 ghost use Rattle.hx_cluster.specs.Reads.{pass_of};
 ghost use Rattle.hx_cluster.specs.Events.{is_pass, is_epoch};
-ghost use Rattle.hx_cluster.specs.Messages.{has_id, pending_of};
+ghost use Rattle.hx_cluster.specs.Messages.{has_id, pending_of, state_after};
 
 use crate::description::Resource;
+use crate::happenings::Outcome;
 use crate::state::{Cluster, Message, Row};
 use hx_ids::{
     ControllerId, Epoch, InstanceId, Live, MsgId, PartId, PassNo, ResourceId, SessionId, StateId,
 };
+use hx_model::ERROR;
 
 impl Row {
     /// Whether it is the row of a session's part.
@@ -35,6 +37,16 @@ impl Message {
         ensures { result ≡ has_id session id self.now }
     {
         self.session == session && self.id == id
+    }
+
+    /// Where an outcome puts its replica.
+    pub fn state_after(&self, outcome: Outcome) -> StateId
+        ensures { result ≡ state_after self.now outcome }
+    {
+        match outcome {
+            Outcome::Ok => self.to,
+            Outcome::Failed => ERROR,
+        }
     }
 }
 

@@ -57,7 +57,7 @@ fn is_error(state: Option<StateId>) -> bool
 }
 
 /// Whether a flag is that of a session's part.
-pub(crate) fn is_flag_of(flag: &(SessionId, PartId), session: SessionId, part: PartId) -> bool
+pub fn is_flag_of(flag: &(SessionId, PartId), session: SessionId, part: PartId) -> bool
     ensures { result ≡ is_flag session part flag.now }
 {
     flag.0 == session && flag.1 == part

@@ -17,7 +17,7 @@ use crate::refusals::refuses_on;
 use crate::state::{Cluster, Message, Row};
 use hx_ideal::Ideal;
 use hx_ids::{
-    ControllerId, Epoch, InstanceId, Live, ModelId, PartId, ResourceId, SessionId, StateId,
+    ControllerId, Epoch, InstanceId, Live, ModelId, PartId, PassNo, ResourceId, SessionId, StateId,
 };
 use hx_lists::Seq;
 use std::alloc::{AllocError, Global};
@@ -131,6 +131,16 @@ impl Cluster {
             self.change += 1;
         }
         Ok(())
+    }
+
+    /// Sets whether a controller is down, and the number of its pass.
+    pub fn set_controller(&mut self, controller: ControllerId, entry: (bool, PassNo))
+        ensures { self.new ≡ record self.old { controllers = slice_set self.old.controllers controller.0 entry } }
+    {
+        let place = controller.0 as usize;
+        if place < self.controllers.len() {
+            self.controllers.set(place, entry);
+        }
     }
 
     /// Marks a controller as down or not.

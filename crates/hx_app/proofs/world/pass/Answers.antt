@@ -9,6 +9,6 @@ returns c =
     ok_then
     c.turn.result
     (λ turned.
-    pass_brings c.args.spec.now c.args.cluster.now c.begin-begun.new.self c.turn.new.cluster c.args.line c.args.controller c.begin-begun.result c.args.page.now c.print_event.new.page c.turn.new.page
+    pass_brings c.args.spec.now c.args.cluster.now c.begin-begun.new.cluster c.turn.new.cluster c.args.line c.args.controller c.begin-begun.result c.args.page.now c.print_event.new.page c.turn.new.page
     leads c.begin-begun.ensures.begun c.begin-begun.ensures.after c.in_ok-print_event.ensures.ok turned)
     c.turn.ensures

@@ -1,0 +1,51 @@
+//! How a controller begins a pass, and what it posts.
+ghost use Rattle.std.specs.Prelude.{◌≡◌, ℕ, ◌+◌, ◌^◌, ◌<◌, OnOk, OnErr};
+ghost use Rattle.hx_cluster.specs.Reads.{pass_of};
+ghost use Rattle.hx_cluster.specs.Events.{begun_of, next};
+ghost use Rattle.hx_cluster.specs.Messages.{next_pass};
+
+use hx_cluster::{Begun, Cluster, Event, Seen};
+use hx_ids::{ControllerId, Epoch, PassNo};
+use hx_lists::Seq;
+use std::alloc::AllocError;
+
+/// Raises a controller's pass number by one.
+pub fn raise_pass(cluster: &mut Cluster, controller: ControllerId)
+    requires { (pass_of cluster.old controller).0 < 2 ^ 63 }
+    ensures { cluster.new ≡ next_pass cluster.old controller }
+{
+    let place = controller.0 as usize;
+    if let Some(entry) = cluster.controllers.as_slice().get(place).copied() {
+        cluster.set_controller(controller, (entry.0, PassNo(entry.1.0 + 1)));
+    }
+}
+
+/// Begins a pass of a controller. It takes no memory.
+pub fn begin(cluster: &mut Cluster, controller: ControllerId) -> Begun
+    requires { (pass_of cluster.old controller).0 < 2 ^ 63 }
+    ensures begun { result ≡ begun_of cluster.old controller }
+    ensures after { cluster.new ≡ next cluster.old (Event.Begin controller result) }
+{
+    let begun = Begun {
+        epoch: cluster.epoch,
+        pass: PassNo(cluster.pass_of(controller).0 + 1),
+        change: cluster.change,
+    };
+    raise_pass(cluster, controller);
+    begun
+}
+
+/// Posts rows in place of those that stand.
+pub fn publish(
+    cluster: &mut Cluster,
+    controller: ControllerId,
+    epoch: Epoch,
+    rows: &[Seen],
+) -> Result<(), AllocError>
+    ensures ok { OnOk result (cluster.new ≡ next cluster.old (Event.Post controller epoch rows.now)) }
+    ensures err { OnErr result (cluster.new ≡ cluster.old) }
+{
+    let alloc = cluster.allocator();
+    cluster.posted = Seq::from_vec(Vec::from_slice(alloc, rows)?);
+    Ok(())
+}
