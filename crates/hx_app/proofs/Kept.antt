@@ -1,6 +1,6 @@
 -- Lines leave the resources as they are.
-use Rattle.std.proofs.Common.{◌≡◌, ℕ, ◌+◌, Bool, true, false, ◌&&◌, List, [], ◌∷◌, ◌++◌, map, Option, None, Some, refl, sym, ap, ◌∙◌}
-use Rattle.std.specs.Prelude.{cond, if◌then◌else◌}
+use Rattle.std.proofs.Common.{◌≡◌, ℕ, ◌+◌, Bool, true, false, List, [], ◌∷◌, ◌++◌, map, Option, None, Some, refl, sym, ap, ◌∙◌}
+use Rattle.std.specs.Prelude.{if◌then◌else◌}
 use Rattle.std.specs.List.{list_all}
 use Rattle.hx_ids.specs.declared.ControllerId.{ControllerId}
 use Rattle.hx_ids.specs.declared.SessionId.{SessionId}
@@ -23,7 +23,7 @@ use Rattle.hx_cluster.specs.Steps.{refusal_of, did_of, is_leader}
 use Rattle.hx_cluster.specs.Reads.{fetched}
 use Rattle.hx_cluster.specs.Messages.{placed_of, after_placed, after_proposal, after_proposals, raised_pass, next_pass, pending_of, written_of}
 use Rattle.std.specs.Prelude.{slice_get}
-use Rattle.hx_cluster.specs.Events.{next, begun_of, dispatched_of, can_take, can_write, can_ack}
+use Rattle.hx_cluster.specs.Events.{next, begun_of, can_take, can_write, can_ack}
 use Rattle.hx_script.specs.declared.What.{What}
 use Rattle.hx_script.specs.declared.What.TheVariants as asks
 use Rattle.hx_script.specs.declared.Line.{Line}
@@ -38,8 +38,8 @@ use Rattle.hx_print.specs.Texts.{entry_text, note_text, view_text, view_line, vi
 use Rattle.hx_app.specs.Demo.{demo}
 use Rattle.hx_app.specs.DemoPlan.{demo_proposals, part_at}
 use Rattle.hx_app.specs.Brings.{Brings}
-use Rattle.hx_app.proofs.Items.{is_read, turn_reads, brings_reads, cluster_after-append}
-use Rattle.hx_app.specs.FirstPath.{Item, Happens, Says, cluster_after, items_text, script_text, reads, view_now, seen_now, dispatch_items, step_items, turn_items, pass_items, ack_items, write_items, take_items, run_items, work_items, what_items, line_items}
+use Rattle.hx_app.proofs.Items.{is_read, turn_reads, brings_reads, cluster_after-append, items_text-append}
+use Rattle.hx_app.specs.FirstPath.{Item, Happens, Says, cluster_after, items_text, script_items, script_text, reads, view_now, seen_now, dispatch_items, step_items, turn_items, ack_items, write_items, take_items, run_items, what_items, line_items}
 
 raised : (c : Cluster) (k : ControllerId) (o : Option (Bool × PassNo)) → (raised_pass c k o).resources ≡ c.resources
 raised c k None = refl
@@ -160,6 +160,9 @@ view_demo spec c e =
     ∙ ap (λ t. view_line spec c.resources (part_at 0) (view_of_part c (part_at 0)) ++ t) (append-nil (view_line spec c.resources (part_at 1) (view_of_part c (part_at 1))))
 
 -- a line more of a script
+text_next : (spec : Spec) (c : Cluster) (l : Line) (ls : List Line) → script_text spec c (l ∷ ls) ≡ items_text spec c (line_items spec c l) ++ script_text spec (cluster_after c (line_items spec c l)) ls
+text_next spec c l ls = items_text-append spec c (line_items spec c l) (script_items spec (cluster_after c (line_items spec c l)) ls)
+
 pub script_more : (spec : Spec) (c c1 : Cluster) (lines : List Line) (i : ℕ) (d : Line) (page p1 whole : List ℕ) → i < length lines
     → page ++ script_text spec c (drop i lines) ≡ whole → Brings spec (line_items spec c (get_or lines i d)) c c1 page p1 → p1 ++ script_text spec c1 (drop (i + 1) lines) ≡ whole
 script_more spec c c1 lines i d page p1 whole lt is b =
@@ -168,5 +171,10 @@ script_more spec c c1 lines i d page p1 whole lt is b =
     ap (λ t. t ++ script_text spec c1 rest) b.text
     ∙ append_assoc page (items_text spec c (line_items spec c l)) (script_text spec c1 rest)
     ∙ ap (λ (x : Cluster). page ++ (items_text spec c (line_items spec c l) ++ script_text spec x rest)) b.cluster
+    ∙ ap (λ t. page ++ t) (sym (text_next spec c l rest))
     ∙ ap (λ t. page ++ t) (sym (rw add-one (ap (script_text spec c) (drop-cons lines i d lt))))
     ∙ is
+
+-- the view at its end
+pub script_end : (spec : Spec) (c : Cluster) → view_text spec c ≡ script_text spec c []
+script_end spec c = sym (append-nil (view_text spec c))

@@ -1,15 +1,16 @@
 -- When each status comes, from what was read and what was written.
-use Rattle.std.proofs.Common.{◌≡◌, ℕ, ◌+◌, ◌<◌, ◌≤◌, Bool, true, false, List, ◌++◌, length, length-append, take, Option, None, Some, refl, sym, ap, subst, ◌∙◌, inl, inr, arith}
-use Rattle.std.specs.Prelude.{◌⊎◌, IfSome}
+use Rattle.std.proofs.Common.{◌≡◌, ℕ, ◌<◌, ◌≤◌, true, false, List, ◌++◌, length, length-append, Option, None, Some, refl, sym, ap, subst, ◌∙◌, inl, inr, arith}
+use Rattle.std.specs.Prelude.{IfSome}
 use Rattle.std.specs.Io.KnownBytes.{Appends, Consumes, IsAtEnd}
 use Rattle.std.proofs.lemmas.List.{append-nil}
 use Rattle.hx_io.specs.Faults.{Rose}
 use Rattle.hx_io.specs.Whole.{Gave}
 use Rattle.hx_text.specs.Lines.{lines_of}
-use Rattle.hx_app.specs.Answers.{Answer, answer_of, script_answer, refused_or, words_refused, read_fault, too_long}
+use Rattle.hx_app.specs.Answers.{answer_of, script_answer, refused_or, words_refused, read_fault, too_long}
 use Rattle.hx_app.specs.Input.{demo_script, refused_from}
-use Rattle.hx_app.specs.Runs.{Ends, IsAnswered, IsDefined, WroteFront, Runs, RefusesWords, is_of_input, most_bytes}
+use Rattle.hx_app.specs.Runs.{Ends, IsAnswered, IsSafeRun, IsDefined, WroteFront, Runs, RefusesWords, is_of_input, most_bytes}
 use Rattle.hx_app.specs.Writes.{Writes}
+use Rattle.hx_app.proofs.SafeScripts.{run_safe}
 
 if_some : {X : Type 0} {P Q : X → Type 0} (o : Option X) → ((x : X) → P x → Q x) → IfSome o P → IfSome o Q
 if_some None f h = h
@@ -43,6 +44,7 @@ runs_six : (old new : Ends) (text : List ℕ) → IsDefined old new text → Ros
 runs_six old new text defined rose front source sink = record {
   known = refl;
   answered = λ (h : false ≡ true). cc;
+  safe = λ (e : 6 ≡ 0). absurd (omega arith);
   read_fault = λ (e : 6 ≡ 5). absurd (omega arith);
   write_fault = λ e. (rose, (text, defined, front));
   no_memory = λ (e : 6 ≡ 7). absurd (omega arith);
@@ -55,6 +57,7 @@ runs_five : (old new : Ends) → Rose old.source_faults new.source_faults → Ap
 runs_five old new rose text source sink = record {
   known = refl;
   answered = λ (h : false ≡ true). cc;
+  safe = λ (e : 5 ≡ 0). absurd (omega arith);
   read_fault = λ e. (rose, text);
   write_fault = λ (e : 5 ≡ 6). absurd (omega arith);
   no_memory = λ (e : 5 ≡ 7). absurd (omega arith);
@@ -67,6 +70,7 @@ runs_ten : (old new : Ends) → IfSome old.left (λ bytes. most_bytes < length b
 runs_ten old new long text source sink = record {
   known = refl;
   answered = λ (h : false ≡ true). cc;
+  safe = λ (e : 10 ≡ 0). absurd (omega arith);
   read_fault = λ (e : 10 ≡ 5). absurd (omega arith);
   write_fault = λ (e : 10 ≡ 6). absurd (omega arith);
   no_memory = λ (e : 10 ≡ 7). absurd (omega arith);
@@ -78,10 +82,16 @@ runs_ten old new long text source sink = record {
 other_status : (status n : ℕ) → is_of_input status ≡ true → is_of_input n ≡ false → status ≡ n → ⊥
 other_status status n is not_is e = let P : ℕ → Type 0 = λ k. is_of_input k ≡ true in let bad : is_of_input n ≡ true = subst P e is in cc
 
+-- what happens is safe, whatever was read
+each_safe : (left : Option (List ℕ)) → IfSome left IsSafeRun
+each_safe None = tt
+each_safe (Some bytes) = run_safe bytes
+
 runs_input : (old new : Ends) (status : ℕ) → is_of_input status ≡ true → IfSome old.left (IsAnswered old new status) → old.source_faults ≤ new.source_faults → old.sink_faults ≤ new.sink_faults → Runs old new status
 runs_input old new status is answered source sink = record {
   known = rw is refl;
   answered = λ h. answered;
+  safe = λ e. each_safe old.left;
   read_fault = λ e. absurd (other_status status 5 is refl e);
   write_fault = λ e. absurd (other_status status 6 is refl e);
   no_memory = λ e. absurd (other_status status 7 is refl e);

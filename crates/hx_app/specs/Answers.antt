@@ -1,6 +1,5 @@
 -- The status and the text that answer an input.
-use Rattle.std.specs.Prelude.{◌≡◌, ℕ, ◌<◌, ◌≤◌, List, [], ◌++◌, length, take, Option, None, Some, IfSome, codes, decimal}
-use Rattle.std.specs.Io.KnownBytes.{Appends}
+use Rattle.std.specs.Prelude.{ℕ, List, ◌++◌, Option, None, Some, codes, decimal}
 use Rattle.hx_cluster.specs.Steps.{opening}
 use Rattle.hx_text.specs.Lines.{lines_of}
 use Rattle.hx_app.specs.Demo.{demo}

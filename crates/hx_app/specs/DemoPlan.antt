@@ -1,8 +1,8 @@
 -- What a pass plans for the demo: two replicas of each part online, on the first live instances of its preference list.
-use Rattle.std.specs.Prelude.{ℕ, ◌-◌, Bool, true, false, not, ◌==◌, ◌&&◌, List, [], ◌∷◌, ◌++◌, map, length, take, Option, None, Some, is_some, is_none, if◌then◌else◌, nat_lt, slice_index_or}
-use Rattle.std.specs.List.{before_first, filter_map, flat_map}
+use Rattle.std.specs.Prelude.{ℕ, ◌-◌, Bool, true, false, ◌==◌, List, [], ◌∷◌, ◌++◌, take, Option, None, Some, is_some, if◌then◌else◌, nat_lt}
+use Rattle.std.specs.List.{before_first, filter_map}
 use Rattle.std.specs.Option.{option_and_then}
-use Rattle.hx_lists.specs.Lists.{count, numbers_below}
+use Rattle.hx_lists.specs.Lists.{count}
 use Rattle.hx_ids.specs.declared.StateId.{StateId}
 use Rattle.hx_ids.specs.declared.SessionId.{SessionId}
 use Rattle.hx_ids.specs.declared.InstanceId.{InstanceId}

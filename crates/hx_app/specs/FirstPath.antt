@@ -1,5 +1,5 @@
 -- What the lines of a script do to the demo cluster, and what they print.
-use Rattle.std.specs.Prelude.{ℕ, ◌+◌, Bool, true, false, ◌&&◌, ◌||◌, List, [], ◌∷◌, ◌++◌, map, length, Option, None, Some, if◌then◌else◌, nat_lt}
+use Rattle.std.specs.Prelude.{ℕ, Bool, true, false, List, [], ◌∷◌, ◌++◌, map, length, Option, None, Some, if◌then◌else◌, nat_lt}
 use Rattle.std.specs.List.{flat_map, filter_map}
 use Rattle.std.specs.Option.{option_map}
 use Rattle.hx_lists.specs.Lists.{count}
@@ -157,12 +157,14 @@ what_items spec c n other = []
 abbrev pub line_items : Spec → Cluster → Line → List Item
 line_items spec c l = Happens (events.Line l.number) ∷ what_items spec (next c (events.Line l.number)) l.number l.what
 
--- what all lines print, and the view at the end
-abbrev pub script_text : Spec → Cluster → List Line → List ℕ
-script_text spec c [] = view_text spec c
-script_text spec c (l ∷ ls) = items_text spec c (line_items spec c l) ++ script_text spec (cluster_after c (line_items spec c l)) ls
+-- all lines, and the view at the end
+abbrev pub script_items : Spec → Cluster → List Line → List Item
+script_items spec c [] = Says (view_text spec c) ∷ []
+script_items spec c (l ∷ ls) = line_items spec c l ++ script_items spec (cluster_after c (line_items spec c l)) ls
 
--- what happens in all of them
+-- what they print, and what happens in them
+abbrev pub script_text : Spec → Cluster → List Line → List ℕ
+script_text spec c ls = items_text spec c (script_items spec c ls)
+
 abbrev pub script_events : Spec → Cluster → List Line → List Event
-script_events spec c [] = []
-script_events spec c (l ∷ ls) = events_in (line_items spec c l) ++ script_events spec (cluster_after c (line_items spec c l)) ls
+script_events spec c ls = events_in (script_items spec c ls)

@@ -2,7 +2,9 @@
 use Rattle.std.specs.Prelude.{◌≡◌, ◌⊎◌, ℕ, ◌<◌, ◌≤◌, Bool, true, ◌==◌, ◌||◌, List, length, take, Option, IfSome}
 use Rattle.std.specs.Io.KnownBytes.{Appends, IsAtEnd}
 use Rattle.hx_io.specs.Faults.{Rose}
-use Rattle.hx_app.specs.Answers.{Answer, answer_of, words_refused, read_fault, too_long}
+use Rattle.hx_app.specs.Input.{demo_script}
+use Rattle.hx_app.specs.History.{history_of, IsSafeHistory}
+use Rattle.hx_app.specs.Answers.{answer_of, words_refused, read_fault, too_long}
 
 -- the most bytes that are read
 abbrev pub most_bytes : ℕ
@@ -22,6 +24,10 @@ pub record IsAnswered (old new : Ends) (status : ℕ) (bytes : List ℕ) : Type 
   pub text : Appends old.got new.got (answer_of bytes).text
   pub end : IsAtEnd new.left
 
+-- what happened in the run of an input is legal, and safe before and after each event
+abbrev pub IsSafeRun : List ℕ → Type 0
+IsSafeRun bytes = IfSome (demo_script bytes) (λ script. IsSafeHistory (history_of script))
+
 -- the text that a run may have to write: of its input, or of a source that failed, or of an input that is too long
 abbrev pub IsDefined : Ends → Ends → List ℕ → Type 0
 IsDefined old new text =
@@ -40,6 +46,7 @@ is_of_input status = (status == 0) || (status == 3) || (status == 4)
 pub record Runs (old new : Ends) (status : ℕ) : Type 0 where
   pub known : (is_of_input status || (status == 5) || (status == 6) || (status == 7) || (status == 10)) ≡ true
   pub answered : is_of_input status ≡ true → IfSome old.left (IsAnswered old new status)
+  pub safe : status ≡ 0 → IfSome old.left IsSafeRun
   pub read_fault : status ≡ 5 → Rose old.source_faults new.source_faults × Appends old.got new.got read_fault.text
   pub write_fault : status ≡ 6 → Rose old.sink_faults new.sink_faults × ((text : List ℕ) × IsDefined old new text × WroteFront old new text)
   pub no_memory : status ≡ 7 → new.got ≡ old.got

@@ -4,6 +4,7 @@
 mod demo;
 mod demo_plan;
 mod input;
+pub mod laws;
 mod program;
 mod script;
 mod world;

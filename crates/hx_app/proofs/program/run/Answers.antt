@@ -1,4 +1,4 @@
-use Rattle.std.proofs.Common.{◌≡◌, refl}
+use Rattle.std.proofs.Common.{refl}
 use Rattle.hx_app.specs.Runs.{Ends}
 use Rattle.hx_app.proofs.Statuses.{refuses_words}
 use Rattle.hx_app.proofs.program.run.Goals as goal

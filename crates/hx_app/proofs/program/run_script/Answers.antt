@@ -1,4 +1,4 @@
-use Rattle.std.proofs.Common.{◌≡◌, refl, sym, ap, ◌∙◌}
+use Rattle.std.proofs.Common.{◌∙◌}
 use Rattle.hx_app.specs.Runs.{Ends}
 use Rattle.hx_app.proofs.Statuses.{runs_read_fault, runs_too_long, runs_answer}
 use Rattle.hx_app.proofs.program.run_script.Goals as goal

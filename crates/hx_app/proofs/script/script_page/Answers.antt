@@ -1,4 +1,4 @@
-use Rattle.std.proofs.Common.{◌≡◌, ◌<◌, ◌≤◌, ◌++◌, List, length, get_or, drop, sym, ap, subst, ◌∙◌, arith}
+use Rattle.std.proofs.Common.{◌<◌, ◌≤◌, ◌++◌, List, length, sym, ap, subst, ◌∙◌, arith}
 use Rattle.std.proofs.lemmas.List.{drop_all}
 use Rattle.hx_cluster.specs.declared.description.Spec.{Spec}
 use Rattle.hx_cluster.specs.declared.state.Cluster.{Cluster}
@@ -7,7 +7,7 @@ use Rattle.hx_print.specs.Texts.{view_text}
 use Rattle.hx_app.specs.Demo.{demo}
 use Rattle.hx_app.specs.Brings.{Brings}
 use Rattle.hx_app.specs.FirstPath.{line_items, script_text}
-use Rattle.hx_app.proofs.Kept.{line_left, script_more}
+use Rattle.hx_app.proofs.Kept.{line_left, script_more, script_end}
 use Rattle.hx_app.proofs.script.script_page.Goals as goal
 
 pub loop-next-preserved : goal.loop-next-preserved
@@ -34,5 +34,6 @@ returns c =
     let past : length lines ≤ i = omega arith in
     c.in_ok-view.ensures
     ∙ ap (λ (s : Spec). c.loop-next.page ++ view_text s last) c.in_ok-spec.ensures
+    ∙ ap (λ t. c.loop-next.page ++ t) (script_end demo last)
     ∙ ap (λ (ls : List Line). c.loop-next.page ++ script_text demo last ls) (sym (drop_all i lines past))
     ∙ c.loop-next.invariant.text

@@ -1,4 +1,4 @@
-use Rattle.std.proofs.Common.{◌≡◌, true, sym, ◌∙◌}
+use Rattle.std.proofs.Common.{◌≡◌, true}
 use Rattle.hx_cluster.specs.Steps.{is_leader}
 use Rattle.hx_app.proofs.Items.{pass_brings, ok_then}
 use Rattle.hx_app.proofs.world.pass.Goals as goal

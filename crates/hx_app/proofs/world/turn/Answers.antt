@@ -1,4 +1,4 @@
-use Rattle.std.proofs.Common.{◌≡◌, ℕ, ◌++◌, List, length, sym, ap, ◌∙◌}
+use Rattle.std.proofs.Common.{◌≡◌, ◌++◌, length, sym, ap, ◌∙◌}
 use Rattle.hx_app.specs.FirstPath.{reads, outcome_text}
 use Rattle.hx_app.proofs.Items.{turn_brings, ok_then}
 use Rattle.hx_app.proofs.world.turn.Goals as goal
