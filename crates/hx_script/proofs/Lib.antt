@@ -1,4 +1,12 @@
 pub mod AllWords
 mod Examples
+pub mod FormsAgain
+pub mod Joined
+pub mod Later
 pub mod Letters
+pub mod LinesAgain
+pub mod NamesKept
+pub mod PlainWords
 pub mod Scripts
+pub mod TextsAgain
+pub mod WordsAgain

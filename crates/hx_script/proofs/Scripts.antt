@@ -74,7 +74,7 @@ adds_if : (spec : Spec) (words : List (List ℕ)) (b : Bool) → AddsName spec (
 adds_if spec words true = adds_name spec (two_and_more words)
 adds_if spec words false = adds_none spec
 
-adds_with : (spec : Spec) (words : List (List ℕ)) (asked : Result (Option What) ScriptKind) → AddsName spec (spec_with spec words asked)
+pub adds_with : (spec : Spec) (words : List (List ℕ)) (asked : Result (Option What) ScriptKind) → AddsName spec (spec_with spec words asked)
 adds_with spec words (Err kind) = adds_none spec
 adds_with spec words (Ok what) = adds_if spec words (is_add what)
 

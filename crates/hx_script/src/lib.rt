@@ -5,6 +5,7 @@ mod faults;
 mod forms;
 mod log;
 mod parsing;
+mod printing;
 mod verbs;
 mod words;
 
@@ -14,6 +15,7 @@ use hx_lists::Seq;
 pub use hx_print::{Note, Word};
 pub use log::{LogEntry, LogLine, LogMove, LogPart, LogVerb};
 pub use parsing::parse;
+pub use printing::{print_line, printed_lines_are_read_again};
 pub use verbs::Verb;
 
 /// Which of a turn's reads.

@@ -1,0 +1,298 @@
+-- The words of a good line have no line feed and no carriage return, where the names of the description are names.
+use Rattle.std.proofs.Common.{◌≡◌, ℕ, ◌-◌, ◌^◌, ◌<◌, Bool, true, false, not, ◌&&◌, ◌==◌, List, [], ◌∷◌, get_or, Some, None, Result, Ok, Err, if◌then◌else◌, codes, refl, sym, ap, ◌∙◌, subst, arith}
+use Rattle.std.proofs.lemmas.Bool.{and_parts, and_from}
+use Rattle.std.proofs.lemmas.Bool.Decides.{nat_tests}
+use Rattle.std.proofs.lemmas.List.Folds.{list_all-append}
+use Rattle.std.proofs.lemmas.List.Quantifiers.{position-Some}
+use Rattle.std.proofs.lemmas.List.Sums.{AllPass-from_list_all, list_all-from_AllPass}
+use Rattle.std.proofs.lemmas.Option.{unwrap_or-slice_get}
+use Rattle.std.specs.Fmt.{decimal}
+use Rattle.std.specs.List.{list_all, before_first, after_first}
+use Rattle.hx_ids.specs.Names.{place_of, place_after}
+use Rattle.hx_ids.specs.declared.InstanceId.{InstanceId}
+use Rattle.hx_ids.specs.declared.StateId.{StateId}
+use Rattle.hx_ids.specs.declared.ModelId.{ModelId}
+use Rattle.hx_ids.specs.declared.MsgId.{MsgId}
+use Rattle.hx_ids.specs.declared.ControllerId.{ControllerId}
+use Rattle.hx_text.specs.Spellings.{is_name_byte, is_name, number_of}
+use Rattle.hx_text.proofs.Names.{name_bytes}
+use Rattle.hx_text.proofs.Numbers.{decimal-number_of, decimal-without}
+use Rattle.hx_cluster.specs.declared.description.Spec.{Spec}
+use Rattle.hx_script.specs.declared.ReadKind.{ReadKind}
+use Rattle.hx_script.specs.declared.ReadKind.TheVariants as reads
+use Rattle.hx_script.specs.declared.What.{What}
+use Rattle.hx_script.specs.declared.What.TheVariants as asks
+use Rattle.hx_script.specs.declared.verbs.Verb.{Verb}
+use Rattle.hx_script.specs.declared.verbs.Verb.TheVariants as verbs
+use Rattle.hx_script.specs.declared.faults.ScriptKind.{ScriptKind}
+use Rattle.hx_script.specs.declared.faults.ScriptKind.TheVariants as kinds
+use Rattle.hx_script.specs.Grammar.{map_ok, then_ok, one_word, two_words, three_words, five_words, two_and_more, instance_word, resource_word, model_word, state_word, name_word, in_range, number_word, part_word, part_words, numbered_by, controller_word, message_word, mode_word, read_kind_word, is_equals, pair_word, all_words, instance_alone, controller_alone, instance_and_message, tick_line, add_line, drop_line, reset_line, route_line, bare_line, what_of, verb_name}
+use Rattle.hx_script.specs.LineTexts.{read_kind_text, has_names}
+use Rattle.hx_script.proofs.WordsAgain.{map_ok_from, then_ok_from, or_fault_from, option_map_from, in_range_from, name_again, mode_again, read_kind_again, pair_split}
+use Rattle.hx_script.proofs.FormsAgain.{one_from, two_from, three_from, five_from, more_from}
+
+abbrev pub is_plain_byte : ℕ → Bool
+is_plain_byte b = not (b == 10) && not (b == 13)
+
+abbrev pub is_plain : List ℕ → Bool
+is_plain w = list_all is_plain_byte w
+
+abbrev pub are_plain : List (List ℕ) → Bool
+are_plain ws = list_all is_plain ws
+
+-- names
+plain_name_byte : (b : ℕ) → is_name_byte b ≡ true → is_plain_byte b ≡ true
+plain_name_byte b e = grind (arith, nat_tests)
+
+plain_bytes : (bs : List ℕ) → list_all is_name_byte bs ≡ true → is_plain bs ≡ true
+plain_bytes [] e = refl
+plain_bytes (b ∷ bs) e = let parts = and_parts (is_name_byte b) (list_all is_name_byte bs) e in and_from _ _ (plain_name_byte b parts.0) (plain_bytes bs parts.1)
+
+plain_name : (w : List ℕ) → is_name w ≡ true → is_plain w ≡ true
+plain_name w e = plain_bytes w (name_bytes w e)
+
+plain_place : (names : List (List ℕ)) (w : List ℕ) (n : ℕ) → list_all is_name names ≡ true → place_of names w ≡ Some n → is_plain w ≡ true
+plain_place names w n named e =
+    let name : is_name (get_or names n []) ≡ true = AllPass-from_list_all is_name names named n [] (position-Some _ names n [] e).0 in
+    plain_name w (ap is_name (sym (sym (unwrap_or-slice_get names n []) ∙ name_again names w n e)) ∙ name)
+
+-- numbers
+plain_decimal : (n : ℕ) → n < 2 ^ 64 → is_plain (decimal n) ≡ true
+plain_decimal n small =
+    list_all-from_AllPass is_plain_byte (decimal n) (λ k d lt. and_from _ _ (ap not (decimal-without n 10 small (omega arith) k d lt)) (ap not (decimal-without n 13 small (omega arith) k d lt)))
+
+plain_number_of : (w : List ℕ) (n : ℕ) → number_of w ≡ Some n → is_plain w ≡ true
+plain_number_of w n e = let d = decimal-number_of w n e in subst (λ t. is_plain t ≡ true) d.1 (plain_decimal n d.0)
+
+plain_number : (least most : ℕ) (w : List ℕ) (n : ℕ) → number_word least most w ≡ Ok n → is_plain w ≡ true
+plain_number least most w n e = plain_number_of w n (in_range_from least most (number_of w) n (or_fault_from _ _ n e)).0
+
+plain_numbered : (letter : ℕ) (w : List ℕ) (n : ℕ) → is_plain_byte letter ≡ true → numbered_by letter w ≡ Some n → is_plain w ≡ true
+plain_numbered letter [] n good e = refl
+plain_numbered letter (b ∷ bs) n good e = one (b == letter) refl e
+  where
+    one : (t : Bool) → (b == letter) ≡ t → (if t then number_of bs else None) ≡ Some n → is_plain (b ∷ bs) ≡ true
+    one true is e = and_from _ _ (ap is_plain_byte (let same : b ≡ letter = grind (arith, nat_tests, is) in same) ∙ good) (plain_number_of bs n e)
+    one false is e = cc
+
+plain_message : (w : List ℕ) (m : MsgId) → message_word w ≡ Ok m → is_plain w ≡ true
+plain_message w m e =
+    let from = option_map_from (λ (n : ℕ). let m : MsgId = record { 0 = n } in m) (in_range 1 (2 ^ 64 - 1) (numbered_by 109 w)) m (or_fault_from _ _ m e) in
+    plain_numbered 109 w from.0 refl (in_range_from 1 (2 ^ 64 - 1) (numbered_by 109 w) from.0 from.1).0
+
+-- words of a few
+plain_mode_text : (a b c : Bool) → is_plain (if a then codes "FULL_AUTO" else if b then codes "SEMI_AUTO" else if c then codes "CUSTOMIZED" else []) ≡ true
+plain_mode_text true b c = refl
+plain_mode_text false true c = refl
+plain_mode_text false false true = refl
+plain_mode_text false false false = refl
+
+plain_mode : (w : List ℕ) (mode : ℕ) → mode_word w ≡ Ok mode → is_plain w ≡ true
+plain_mode w mode e = subst (λ t. is_plain t ≡ true) (mode_again w mode e) (plain_mode_text (mode == 0) (mode == 1) (mode == 2))
+
+plain_kind_text : (kind : ReadKind) → is_plain (read_kind_text kind) ≡ true
+plain_kind_text reads.Live = refl
+plain_kind_text reads.Mail = refl
+plain_kind_text reads.States = refl
+plain_kind_text reads.Ideals = refl
+
+plain_kind : (w : List ℕ) (kind : ReadKind) → read_kind_word w ≡ Ok kind → is_plain w ≡ true
+plain_kind w kind e = subst (λ t. is_plain t ≡ true) (read_kind_again w kind e) (plain_kind_text kind)
+
+-- lines of one word, of two, of a list
+one_plain : {A : Type 0} (word : List ℕ → Result A ScriptKind) → ((w : List ℕ) (x : A) → word w ≡ Ok x → is_plain w ≡ true) → (ws : List (List ℕ)) (x : A) → then_ok (one_word ws) word ≡ Ok x → are_plain ws ≡ true
+one_plain word plain ws x e =
+    let w = then_ok_from (one_word ws) word x e in
+    subst (λ l. are_plain l ≡ true) (sym (one_from ws w.0 w.1)) (and_from _ _ (plain w.0 x w.2) refl)
+
+two_plain : {A B C : Type 0} (f : List ℕ → Result A ScriptKind) (h : List ℕ → Result B ScriptKind) (g : A → B → C) → ((w : List ℕ) (x : A) → f w ≡ Ok x → is_plain w ≡ true) → ((w : List ℕ) (x : B) → h w ≡ Ok x → is_plain w ≡ true)
+    → (ws : List (List ℕ)) (y : C) → then_ok (two_words ws) (λ t. then_ok (f t.0) (λ a. map_ok (g a) (h t.1))) ≡ Ok y → are_plain ws ≡ true
+two_plain f h g plain_f plain_h ws y e =
+    let t = then_ok_from (two_words ws) _ y e in
+    let a = then_ok_from (f t.0.0) _ y t.2 in
+    let b = map_ok_from (g a.0) (h t.0.1) y a.2 in
+    subst (λ l. are_plain l ≡ true) (sym (two_from ws t.0 t.1)) (and_from _ _ (plain_f t.0.0 a.0 a.1) (and_from _ _ (plain_h t.0.1 b.0 b.1) refl))
+
+all_plain : {A : Type 0} (word : List ℕ → Result A ScriptKind) → ((w : List ℕ) (x : A) → word w ≡ Ok x → is_plain w ≡ true) → (ws : List (List ℕ)) (xs : List A) → all_words word ws ≡ Ok xs → are_plain ws ≡ true
+all_plain word plain [] xs e = refl
+all_plain word plain (w ∷ ws) xs e =
+    let x = then_ok_from (word w) _ xs e in
+    let more = map_ok_from (λ ys. x.0 ∷ ys) (all_words word ws) xs x.2 in
+    and_from _ _ (plain w x.0 x.1) (all_plain word plain ws more.0 more.1)
+
+none_plain : (what : What) (ws : List (List ℕ)) (y : What) → bare_line what ws ≡ Ok y → are_plain ws ≡ true
+none_plain what [] y e = refl
+none_plain what (w ∷ ws) y e = cc
+
+module _ (spec : Spec) (named : has_names spec ≡ true) where
+  instances_named : list_all is_name spec.instances ≡ true
+  instances_named = (and_parts _ _ named).0
+
+  states_named : list_all is_name spec.states ≡ true
+  states_named = (and_parts _ _ (and_parts (list_all is_name spec.instances) _ named).1).0
+
+  resources_named : list_all is_name spec.resource_names ≡ true
+  resources_named = (and_parts _ _ (and_parts (list_all is_name spec.states) _ (and_parts (list_all is_name spec.instances) _ named).1).1).0
+
+  models_named : list_all is_name spec.model_names ≡ true
+  models_named = (and_parts (list_all is_name spec.resource_names) _ (and_parts (list_all is_name spec.states) _ (and_parts (list_all is_name spec.instances) _ named).1).1).1
+
+  plain_instance : (w : List ℕ) (i : InstanceId) → instance_word spec w ≡ Ok i → is_plain w ≡ true
+  plain_instance w i e =
+      let from = option_map_from (λ (n : ℕ). let i : InstanceId = record { 0 = n } in i) (place_of spec.instances w) i (or_fault_from _ _ i e) in
+      plain_place spec.instances w from.0 instances_named from.1
+
+  plain_state : (w : List ℕ) (t : StateId) → state_word spec w ≡ Ok t → is_plain w ≡ true
+  plain_state w t e =
+      let from = option_map_from (λ (n : ℕ). let t : StateId = record { 0 = n } in t) (place_of spec.states w) t (or_fault_from _ _ t e) in
+      plain_place spec.states w from.0 states_named from.1
+
+  plain_model : (w : List ℕ) (m : ModelId) → model_word spec w ≡ Ok m → is_plain w ≡ true
+  plain_model w m e =
+      let from = option_map_from (λ (n : ℕ). let m : ModelId = record { 0 = n } in m) (place_of spec.model_names w) m (or_fault_from _ _ m e) in
+      plain_place spec.model_names w from.0 models_named from.1
+
+  plain_resource : (w : List ℕ) (n : ℕ) → resource_word spec w ≡ Ok n → is_plain w ≡ true
+  plain_resource w n e = plain_place spec.resource_names w n resources_named (or_fault_from _ _ n e)
+
+  plain_new_name : (w : List ℕ) (n : ℕ) → name_word spec w ≡ Ok n → is_plain w ≡ true
+  plain_new_name w n e = one (is_name w) refl e
+    where
+      one : (b : Bool) → is_name w ≡ b → (if b then Ok (place_after spec.resource_names w) else Err kinds.BadName) ≡ Ok n → is_plain w ≡ true
+      one true is e = plain_name w is
+      one false is e = cc
+
+  plain_controller : (w : List ℕ) (k : ControllerId) → controller_word spec w ≡ Ok k → is_plain w ≡ true
+  plain_controller w k e =
+      let from = option_map_from (λ (n : ℕ). let k : ControllerId = record { 0 = n - 1 } in k) (in_range 1 spec.controllers (numbered_by 99 w)) k (or_fault_from _ _ k e) in
+      plain_numbered 99 w from.0 refl (in_range_from 1 spec.controllers (numbered_by 99 w) from.0 from.1).0
+
+  plain_pair : (w : List ℕ) (p : InstanceId × StateId) → pair_word spec w ≡ Ok p → is_plain w ≡ true
+  plain_pair w p e =
+      let parts = pair_split spec w p e in
+      ap is_plain parts.whole ∙ list_all-append is_plain_byte (before_first is_equals w) (61 ∷ after_first is_equals w)
+      ∙ and_from _ _ (plain_instance (before_first is_equals w) parts.instance parts.names) (plain_state (after_first is_equals w) parts.state parts.has)
+
+  plain_part : (r p : List ℕ) (part : ℕ × ℕ) → part_words spec r p ≡ Ok part → (is_plain r ≡ true) × (is_plain p ≡ true)
+  plain_part r p part e =
+      let name = then_ok_from (resource_word spec r) _ part e in
+      let index = map_ok_from (λ (n : ℕ). (name.0, n)) (part_word p) part name.2 in
+      (plain_resource r name.0 name.1, plain_number 0 (2 ^ 32 - 1) p index.0 index.1)
+
+  more_plain : {A : Type 0} (ask : ℕ → ℕ → List A → What) (word : List ℕ → Result A ScriptKind) → ((w : List ℕ) (x : A) → word w ≡ Ok x → is_plain w ≡ true) → (ws : List (List ℕ)) (y : What)
+      → then_ok (two_and_more ws) (λ t. then_ok (part_words spec t.0 t.1) (λ p. map_ok (ask p.0 p.1) (all_words word t.2))) ≡ Ok y → are_plain ws ≡ true
+  more_plain ask word plain ws y e =
+      let t = then_ok_from (two_and_more ws) _ y e in
+      let p = then_ok_from (part_words spec t.0.0 t.0.1) _ y t.2 in
+      let list = map_ok_from (ask p.0.0 p.0.1) (all_words word t.0.2) y p.2 in
+      let part = plain_part t.0.0 t.0.1 p.0 p.1 in
+      subst (λ l. are_plain l ≡ true) (sym (more_from ws t.0 t.1)) (and_from _ _ part.0 (and_from _ _ part.1 (all_plain word plain t.0.2 list.0 list.1)))
+
+  plain_tick : (ws : List (List ℕ)) (y : What) → tick_line ws ≡ Ok y → are_plain ws ≡ true
+  plain_tick ws y e = one_plain _ (λ w x read. let n = map_ok_from asks.Tick (number_word 0 (2 ^ 64 - 1) w) x read in plain_number 0 (2 ^ 64 - 1) w n.0 n.1) ws y e
+
+  plain_drop : (ws : List (List ℕ)) (y : What) → drop_line spec ws ≡ Ok y → are_plain ws ≡ true
+  plain_drop ws y e = one_plain _ (λ w x read. let n = map_ok_from asks.Drop (resource_word spec w) x read in plain_resource w n.0 n.1) ws y e
+
+  plain_reset : (ws : List (List ℕ)) (y : What) → reset_line spec ws ≡ Ok y → are_plain ws ≡ true
+  plain_reset ws y e =
+      let t = then_ok_from (three_words ws) _ y e in
+      let i = then_ok_from (instance_word spec t.0.0) _ y t.2 in
+      let p = map_ok_from (λ (p : ℕ × ℕ). asks.Reset i.0 p.0 p.1) (part_words spec t.0.1 t.0.2) y i.2 in
+      let part = plain_part t.0.1 t.0.2 p.0 p.1 in
+      subst (λ l. are_plain l ≡ true) (sym (three_from ws t.0 t.1)) (and_from _ _ (plain_instance t.0.0 i.0 i.1) (and_from _ _ part.0 (and_from _ _ part.1 refl)))
+
+  plain_route : (ws : List (List ℕ)) (y : What) → route_line spec ws ≡ Ok y → are_plain ws ≡ true
+  plain_route ws y e =
+      let t = then_ok_from (three_words ws) _ y e in
+      let p = then_ok_from (part_words spec t.0.0 t.0.1) _ y t.2 in
+      let state = map_ok_from (asks.Route p.0.0 p.0.1) (state_word spec t.0.2) y p.2 in
+      let part = plain_part t.0.0 t.0.1 p.0 p.1 in
+      subst (λ l. are_plain l ≡ true) (sym (three_from ws t.0 t.1)) (and_from _ _ part.0 (and_from _ _ part.1 (and_from _ _ (plain_state t.0.2 state.0 state.1) refl)))
+
+  plain_add : (ws : List (List ℕ)) (y : What) → add_line spec ws ≡ Ok y → are_plain ws ≡ true
+  plain_add ws y e =
+      let t = then_ok_from (five_words ws) _ y e in
+      let name = then_ok_from (name_word spec t.0.0) _ y t.2 in
+      let model = then_ok_from (model_word spec t.0.1) _ y name.2 in
+      let replicas = then_ok_from (number_word 1 64 t.0.2) _ y model.2 in
+      let parts = then_ok_from (number_word 1 1024 t.0.3) _ y replicas.2 in
+      let mode = map_ok_from (asks.Add name.0 model.0 replicas.0 parts.0) (mode_word t.0.4) y parts.2 in
+      subst (λ l. are_plain l ≡ true) (sym (five_from ws t.0 t.1))
+      (and_from _ _ (plain_new_name t.0.0 name.0 name.1) (and_from _ _ (plain_model t.0.1 model.0 model.1) (and_from _ _ (plain_number 1 64 t.0.2 replicas.0 replicas.1)
+      (and_from _ _ (plain_number 1 1024 t.0.3 parts.0 parts.1) (and_from _ _ (plain_mode t.0.4 mode.0 mode.1) refl)))))
+
+  of_instance : (ask : InstanceId → What) (ws : List (List ℕ)) (y : What) → map_ok ask (instance_alone spec ws) ≡ Ok y → are_plain ws ≡ true
+  of_instance ask ws y e = let i = map_ok_from ask (instance_alone spec ws) y e in one_plain (instance_word spec) plain_instance ws i.0 i.1
+
+  of_controller : (ask : ControllerId → What) (ws : List (List ℕ)) (y : What) → map_ok ask (controller_alone spec ws) ≡ Ok y → are_plain ws ≡ true
+  of_controller ask ws y e = let k = map_ok_from ask (controller_alone spec ws) y e in one_plain (controller_word spec) plain_controller ws k.0 k.1
+
+  of_message : (ask : InstanceId × MsgId → What) (ws : List (List ℕ)) (y : What) → map_ok ask (instance_and_message spec ws) ≡ Ok y → are_plain ws ≡ true
+  of_message ask ws y e =
+      let both = map_ok_from ask (instance_and_message spec ws) y e in
+      two_plain (instance_word spec) message_word (λ (i : InstanceId) (m : MsgId). (i, m)) plain_instance plain_message ws both.0 both.1
+
+  pub plain_words : (verb : Verb) (ws : List (List ℕ)) (y : What) → what_of spec verb ws ≡ Ok y → are_plain ws ≡ true
+  plain_words verbs.Join ws y e = of_instance asks.Join ws y e
+  plain_words verbs.Beat ws y e = of_instance asks.Beat ws y e
+  plain_words verbs.Drain ws y e = of_instance asks.Drain ws y e
+  plain_words verbs.Undrain ws y e = of_instance asks.Undrain ws y e
+  plain_words verbs.Tick ws y e = plain_tick ws y e
+  plain_words verbs.Expire ws y e = of_instance asks.Expire ws y e
+  plain_words verbs.Die ws y e = of_instance asks.Die ws y e
+  plain_words verbs.Add ws y e = plain_add ws y e
+  plain_words verbs.Drop ws y e = plain_drop ws y e
+  plain_words verbs.List ws y e = more_plain asks.List (instance_word spec) plain_instance ws y e
+  plain_words verbs.Map ws y e = more_plain asks.Map (pair_word spec) plain_pair ws y e
+  plain_words verbs.Reset ws y e = plain_reset ws y e
+  plain_words verbs.Lead ws y e = of_controller asks.Lead ws y e
+  plain_words verbs.Stop ws y e = of_controller asks.Stop ws y e
+  plain_words verbs.Start ws y e = of_controller asks.Start ws y e
+  plain_words verbs.Begin ws y e = of_controller asks.Begin ws y e
+  plain_words verbs.Read ws y e = two_plain (controller_word spec) read_kind_word asks.Read plain_controller plain_kind ws y e
+  plain_words verbs.Send ws y e = of_controller asks.Send ws y e
+  plain_words verbs.Post ws y e = of_controller asks.Post ws y e
+  plain_words verbs.Pass ws y e = of_controller asks.Pass ws y e
+  plain_words verbs.Fetch ws y e = of_instance asks.Fetch ws y e
+  plain_words verbs.Deliver ws y e = of_message (λ (p : InstanceId × MsgId). asks.Deliver p.0 p.1) ws y e
+  plain_words verbs.Take ws y e = of_message (λ (p : InstanceId × MsgId). asks.Take p.0 p.1) ws y e
+  plain_words verbs.Write ws y e = of_message (λ (p : InstanceId × MsgId). asks.Write p.0 p.1) ws y e
+  plain_words verbs.Ack ws y e = of_message (λ (p : InstanceId × MsgId). asks.Ack p.0 p.1) ws y e
+  plain_words verbs.Work ws y e = of_instance asks.Work ws y e
+  plain_words verbs.Settle ws y e = none_plain asks.Settle ws y e
+  plain_words verbs.View ws y e = none_plain asks.View ws y e
+  plain_words verbs.Route ws y e = plain_route ws y e
+  plain_words verbs.Summary ws y e = none_plain asks.Summary ws y e
+
+pub plain_verb : (verb : Verb) → is_plain (verb_name verb) ≡ true
+plain_verb verbs.Join = refl
+plain_verb verbs.Beat = refl
+plain_verb verbs.Drain = refl
+plain_verb verbs.Undrain = refl
+plain_verb verbs.Tick = refl
+plain_verb verbs.Expire = refl
+plain_verb verbs.Die = refl
+plain_verb verbs.Add = refl
+plain_verb verbs.Drop = refl
+plain_verb verbs.List = refl
+plain_verb verbs.Map = refl
+plain_verb verbs.Reset = refl
+plain_verb verbs.Lead = refl
+plain_verb verbs.Stop = refl
+plain_verb verbs.Start = refl
+plain_verb verbs.Begin = refl
+plain_verb verbs.Read = refl
+plain_verb verbs.Send = refl
+plain_verb verbs.Post = refl
+plain_verb verbs.Pass = refl
+plain_verb verbs.Fetch = refl
+plain_verb verbs.Deliver = refl
+plain_verb verbs.Take = refl
+plain_verb verbs.Write = refl
+plain_verb verbs.Ack = refl
+plain_verb verbs.Work = refl
+plain_verb verbs.Settle = refl
+plain_verb verbs.View = refl
+plain_verb verbs.Route = refl
+plain_verb verbs.Summary = refl
