@@ -1,3 +1,5 @@
 pub mod Worked
 pub mod EachFault
 pub mod Inputs
+pub mod Chains
+pub mod Sizes

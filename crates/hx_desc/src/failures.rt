@@ -30,7 +30,7 @@ impl Form for ResourceIdForm<'_> {
 
     ghost found = { λ form d. resource_id_in form.names.now d };
 
-    fn read(&self, alloc: Global, value: &Value) -> Result<ResourceId, DescRefusal> {
+    fn read(self, alloc: Global, value: &Value) -> Result<ResourceId, DescRefusal> {
         let place = place(alloc, DescKind::UnknownResource, self.names, value)?;
         Ok(ResourceId(place))
     }
@@ -47,7 +47,7 @@ impl Form for PartForm {
 
     ghost found = { λ form d. part_in form.parts d };
 
-    fn read(&self, alloc: Global, value: &Value) -> Result<u32, DescRefusal> {
+    fn read(self, alloc: Global, value: &Value) -> Result<u32, DescRefusal> {
         let index = whole(alloc, value)?;
         if index >= self.parts as u64 {
             return Err(fault(alloc, DescKind::NoPart));
@@ -65,7 +65,7 @@ impl Form for TurnForm {
 
     ghost found = { λ _ d. turn_in d };
 
-    fn read(&self, alloc: Global, value: &Value) -> Result<Option<u32>, DescRefusal> {
+    fn read(self, alloc: Global, value: &Value) -> Result<Option<u32>, DescRefusal> {
         let n = number(alloc, 1, 1_000_000, value)?;
         Ok(Some(n as u32))
     }
@@ -106,12 +106,12 @@ impl ItemForm for FailureForm<'_> {
             &["instance", "resource", "part", "run", "make"],
             value,
         )?;
-        let instance = object.required("instance", &InstanceForm { instances })?;
-        let resource = object.required("resource", &ResourceIdForm { names })?;
+        let instance = object.required("instance", InstanceForm { instances })?;
+        let resource = object.required("resource", ResourceIdForm { names })?;
         let parts = parts_of(self.table.resources.as_slice(), resource);
-        let index = object.required("part", &PartForm { parts })?;
-        let run = object.optional("run", None, &TurnForm)?;
-        let make = object.optional("make", None, &TurnForm)?;
+        let index = object.required("part", PartForm { parts })?;
+        let run = object.optional("run", None, TurnForm)?;
+        let make = object.optional("make", None, TurnForm)?;
         let (make, number) = turn(alloc, run, make)?;
         failures.push(Failure {
             instance,
@@ -135,7 +135,7 @@ impl Form for FailuresForm<'_> {
 
     ghost found = { λ form d. failures_in form.instances.now form.table.now d };
 
-    fn read(&self, alloc: Global, value: &Value) -> Result<Seq<Failure>, DescRefusal> {
+    fn read(self, alloc: Global, value: &Value) -> Result<Seq<Failure>, DescRefusal> {
         let values = array_up_to(alloc, MOST_FAILURES, value)?;
         let form = FailureForm {
             instances: self.instances,

@@ -2,8 +2,10 @@
 #![tactic(auto)]
 
 mod failures;
+mod models;
 mod resources;
 mod rules;
+mod states;
 mod tables;
 
 pub use hx_forms::{DescFault, DescKind, DescRefusal, Path};

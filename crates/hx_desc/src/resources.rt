@@ -22,7 +22,7 @@ impl Form for InstanceForm<'_> {
 
     ghost found = { λ form d. instance_in form.instances.now d };
 
-    fn read(&self, alloc: Global, value: &Value) -> Result<InstanceId, DescRefusal> {
+    fn read(self, alloc: Global, value: &Value) -> Result<InstanceId, DescRefusal> {
         let place = place(alloc, DescKind::UnknownInstance, self.instances, value)?;
         Ok(InstanceId(place))
     }

@@ -26,7 +26,7 @@ impl Form for ScopeForm {
 
     ghost found = { λ _ d. scope_in d };
 
-    fn read(&self, alloc: Global, value: &Value) -> Result<Scope, DescRefusal> {
+    fn read(self, alloc: Global, value: &Value) -> Result<Scope, DescRefusal> {
         let text = text(alloc, value)?;
         if text == "cluster" {
             Ok(Scope::Cluster)
@@ -53,7 +53,7 @@ impl Form for EndForm<'_> {
 
     ghost found = { λ form d. end_in form.states.now form.never d };
 
-    fn read(&self, alloc: Global, value: &Value) -> Result<Option<StateId>, DescRefusal> {
+    fn read(self, alloc: Global, value: &Value) -> Result<Option<StateId>, DescRefusal> {
         let place = place(alloc, DescKind::UnknownState, self.states, value)?;
         if place == self.never as u32 {
             return Err(fault(alloc, DescKind::UnknownState));
@@ -97,16 +97,16 @@ impl ItemForm for RuleForm<'_> {
     ) -> Result<Seq<Rule>, DescRefusal> {
         let states = self.states;
         let object = Object::read(alloc, &["scope", "limit", "from", "to"], value)?;
-        let scope = object.required("scope", &ScopeForm)?;
+        let scope = object.required("scope", ScopeForm)?;
         let limit = object.required(
             "limit",
-            &SmallNumber {
+            SmallNumber {
                 low: 1,
                 high: 65_535,
             },
         )?;
-        let from = object.optional("from", None, &EndForm { states, never: 1 })?;
-        let to = object.optional("to", None, &EndForm { states, never: 0 })?;
+        let from = object.optional("from", None, EndForm { states, never: 1 })?;
+        let to = object.optional("to", None, EndForm { states, never: 0 })?;
         let transition = transition(alloc, from, to)?;
         rules.push(Rule {
             scope,
@@ -129,7 +129,7 @@ impl Form for RulesForm<'_> {
 
     ghost found = { λ form d. rules_in form.states.now d };
 
-    fn read(&self, alloc: Global, value: &Value) -> Result<Seq<Rule>, DescRefusal> {
+    fn read(self, alloc: Global, value: &Value) -> Result<Seq<Rule>, DescRefusal> {
         let values = array_up_to(alloc, MOST_RULES, value)?;
         let form = RuleForm {
             states: self.states,

@@ -1,5 +1,5 @@
 //! Arrays, whose items are read in order.
-ghost use Rattle.std.specs.Prelude.{◌≡◌, map};
+ghost use Rattle.std.specs.Prelude.{◌≡◌, ℕ, ◌+◌, ◌≤◌, length, map, IfOk};
 ghost use Rattle.serde_json.specs.View.{view};
 ghost use Rattle.hx_forms.specs.Found.{array_in, array_up_to, read_all};
 ghost use Rattle.hx_forms.specs.Reading.{Reads, at_ok};
@@ -21,7 +21,8 @@ pub fn array(alloc: Global, value: &Value) -> Result<&[Value], DescRefusal>
 
 /// The items of an array that has no more than some.
 pub fn array_up_to(alloc: Global, most: usize, value: &Value) -> Result<&[Value], DescRefusal>
-    ensures { Reads (at_ok (λ vs. map view vs.now) result) (array_up_to most (view value.now)) }
+    ensures read { Reads (at_ok (λ vs. map view vs.now) result) (array_up_to most (view value.now)) }
+    ensures few { IfOk result (λ vs. length vs.now ≤ most) }
 {
     let items = array(alloc, value)?;
     if items.len() > most {
@@ -38,7 +39,9 @@ pub fn read_all<F: ItemForm>(
     mut items: F::Items,
     values: &[Value],
 ) -> Result<F::Items, DescRefusal>
-    ensures { Reads result (read_all (F.found form.now) items (map view values.now)) }
+    requires { F.room form.now (length values.now) items }
+    ensures read { Reads result (read_all (F.found form.now) items (map view values.now)) }
+    ensures room { IfOk result (F.room form.now 0) }
 {
     for (place, value) in values.iter().enumerate() {
         items = match form.read_next(alloc, items, value) {

@@ -9,6 +9,6 @@ mod values;
 
 pub use arrays::{array, array_up_to, read_all};
 pub use faults::{DescFault, DescKind, DescRefusal, Path, fault};
-pub use forms::{Form, ItemForm, Number, SmallNumber};
+pub use forms::{Form, ItemForm, Name, NewName, Number, SmallNumber};
 pub use objects::Object;
 pub use values::{new_name, number, place, text, whole};

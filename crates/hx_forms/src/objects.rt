@@ -1,5 +1,5 @@
 //! Objects, which have no members but some.
-ghost use Rattle.std.specs.Prelude.{◌≡◌, map, option_map};
+ghost use Rattle.std.specs.Prelude.{◌≡◌, map, option_map, IfOk};
 ghost use Rattle.serde_json.specs.Find.{get_member};
 ghost use Rattle.serde_json.specs.View.{view};
 ghost use Rattle.hx_forms.specs.Found.{is_among as is_among_of, object_in, required as required_in, optional as optional_in};
@@ -51,8 +51,9 @@ impl<'a> Object<'a> {
 
     /// A member that must be there.
     #[tactic(auto, using(crate::proofs::Refusals::refused_within))]
-    pub fn required<F: Form>(&self, name: &str, form: &F) -> Result<F::Output, DescRefusal>
-        ensures { Reads result (required_in name.now (F.found form.now) (members_of self.now)) }
+    pub fn required<F: Form>(&self, name: &str, form: F) -> Result<F::Output, DescRefusal>
+        ensures read { Reads result (required_in name.now (F.found form) (members_of self.now)) }
+        ensures known { IfOk result (F.known form) }
     {
         let Some(value) = self.member(name) else {
             return Err(fault(self.alloc, DescKind::Missing).in_member(self.alloc, name));
@@ -69,9 +70,11 @@ impl<'a> Object<'a> {
         &self,
         name: &str,
         default: F::Output,
-        form: &F,
+        form: F,
     ) -> Result<F::Output, DescRefusal>
-        ensures { Reads result (optional_in name.now default (F.found form.now) (members_of self.now)) }
+        requires { F.known form default }
+        ensures read { Reads result (optional_in name.now default (F.found form) (members_of self.now)) }
+        ensures known { IfOk result (F.known form) }
     {
         let Some(value) = self.member(name) else {
             return Ok(default);

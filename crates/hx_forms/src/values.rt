@@ -1,5 +1,5 @@
 //! Texts, numbers and names.
-ghost use Rattle.std.specs.Prelude.{◌≡◌, ◌<◌, ◌≤◌, length, IfOk};
+ghost use Rattle.std.specs.Prelude.{◌≡◌, ◌<◌, ◌≤◌, length, IfOk, false};
 ghost use Rattle.std.specs.List.{list_any};
 ghost use Rattle.std.specs.Str.{bytes_eq};
 ghost use Rattle.serde_json.specs.View.{view};
@@ -70,7 +70,8 @@ fn is_declared(names: &Names, name: &str) -> bool
 
 /// A name that is declared beside others.
 pub fn new_name<'a>(alloc: Global, names: &Names, value: &'a Value) -> Result<&'a str, DescRefusal>
-    ensures { Reads (at_ok (λ s. s.now) result) (new_name_in names.now (view value.now)) }
+    ensures read { Reads (at_ok (λ s. s.now) result) (new_name_in names.now (view value.now)) }
+    ensures new { IfOk result (λ name. list_any (bytes_eq name.now) names.now ≡ false) }
 {
     let name = text(alloc, value)?;
     if !is_name(name) {
