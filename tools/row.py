@@ -1,8 +1,10 @@
 #!/usr/bin/env python3
-"""row.py CASE NAME: writes a theorem, to standard output, that the definitions compute the output of a case.
+"""row.py CASE NAME [SENTENCE]: writes a theorem, to standard output, that the definitions compute the output of a case.
 
-A case is a folder with input and output. Its description is read here with Python's json, and its script by words, so the
-theorem speaks of the parsed description and lines. See docs/computed_rows.md.
+A case is a folder with input and output. Its description is read here with Python's json, so the theorem speaks of the
+description as it is parsed. A script is read here too, by words, so the theorem speaks of its lines as they are parsed; but
+where the output is a verdict on a log, or a fault of the script, the theorem speaks of the text's lines. The sentence says what
+the case shows. docs/definitions.md says what the theorems are for.
 """
 import json
 import os
@@ -147,36 +149,75 @@ class Reader:
         raise SystemExit(f'row.py: {words}')
 
 
-USES = '''use Rattle.std.specs.Prelude.{◌≡◌, ℕ, Bool, true, false, List, [], ◌∷◌, Option, None, Some, codes}
+USES = '''use Rattle.std.specs.Prelude.{◌≡◌, ℕ, Bool, true, false, List, [], ◌∷◌, Option, None, Some, Result, Ok, Err, codes}
 use Rattle.std.specs.Fmt.{digits}
 use Rattle.std.proofs.Common.{refl}
 use Rattle.hx_model.specs.declared.Bound.TheVariants as bounds
 use Rattle.hx_ideal.specs.declared.Mode.TheVariants as modes
 use Rattle.hx_cluster.specs.declared.description.Spec.{Spec}
 use Rattle.hx_cluster.specs.declared.description.Scope.TheVariants as scopes
-use Rattle.hx_script.specs.declared.ReadKind.TheVariants as kinds
+'''
+USES_OF_LINES = '''use Rattle.hx_script.specs.declared.ReadKind.TheVariants as kinds
 use Rattle.hx_script.specs.declared.What.TheVariants as asks
 use Rattle.hx_script.specs.declared.Line.{Line}
 use Rattle.hx_sim.specs.Scripts.{sim_text}
 '''
+USES_OF_LOG = '''use Rattle.hx_check.specs.Judge.{verdict_of, verdict_text}
+'''
+USES_OF_FAULT = '''use Rattle.hx_script.specs.declared.faults.ScriptKind.TheVariants as kinds
+use Rattle.hx_script.specs.Grammar.{script_of}
+'''
 
 
-def main():
-    case, name = sys.argv[1], sys.argv[2]
-    raw = open(os.path.join(case, 'input'), encoding='utf-8').read().replace('\r\n', '\n')
-    output = open(os.path.join(case, 'output'), encoding='utf-8').read()
-    described, script = raw.split('---\n', 1) if '---\n' in raw else (raw.rsplit('---', 1)[0], '')
-    reader = Reader(described)
+def quoted(text):
+    return '"' + text.replace('\\', '\\\\').replace('\n', '\\n').replace('"', '\\"') + '"'
+
+
+def bytes_of(text):
+    return f'codes {quoted(text)}' if text else '[]'
+
+
+def script_lines(reader, script):
     lines = []
     for n, text in enumerate(script.split('\n'), 1):
         words = [w for w in text.split(' ') if w]
         if words and not words[0].startswith('#'):
             lines.append(f'(record {{ number = {n}; what = {reader.line(words)} }})')
-    print(USES)
+    return lines
+
+
+def text_lines(text):
+    lines = text.split('\n')
+    return [bytes_of(line) for line in (lines if lines[-1] else lines[:-1])]
+
+
+def theorem(reader, script, output):
+    """What a theorem uses, the type and the items of the lines that it speaks of, and its two sides."""
+    if output.startswith(('lawful ', 'unlawful ')):
+        return USES_OF_LOG, 'List (List ℕ)', text_lines(script), 'verdict_text (verdict_of the_spec the_lines)', bytes_of(output)
+    if output.startswith('script '):
+        _, line, kind = output.split()
+        variant = 'kinds.' + ''.join(part.capitalize() for part in kind.split('-'))
+        return USES_OF_FAULT, 'List (List ℕ)', text_lines(script), 'script_of the_lines the_spec', f'Err (record {{ line = {line}; kind = {variant} }})'
+    return USES_OF_LINES, 'List Line', script_lines(reader, script), 'sim_text the_spec the_lines', bytes_of(output)
+
+
+def read(case, name):
+    with open(os.path.join(case, name), encoding='utf-8') as f:
+        return f.read().replace('\r\n', '\n')
+
+
+def main():
+    case, name = sys.argv[1], sys.argv[2]
+    sentence = sys.argv[3] if len(sys.argv) > 3 else name.replace('_', ' ')
+    raw = read(case, 'input')
+    described, script = raw.split('---\n', 1) if '---\n' in raw else (raw.rsplit('---', 1)[0], '')
+    reader = Reader(described)
+    uses, kind, lines, found, wanted = theorem(reader, script, read(case, 'output'))
+    print(USES + uses)
     print(f'abbrev the_spec : Spec\nthe_spec = {reader.spec()}\n')
-    print('abbrev the_lines : List Line\nthe_lines = ' + '\n    ∷ '.join(lines + ['[]']) + '\n')
-    wanted = '"' + output.replace('\\', '\\\\').replace('\n', '\\n').replace('"', '\\"') + '"'
-    print(f'-- {name}\npub {name} : sim_text the_spec the_lines ≡ codes {wanted}\nunfolding digits\n{name} = refl')
+    print(f'abbrev the_lines : {kind}\nthe_lines = ' + '\n    ∷ '.join(lines + ['[]']) + '\n')
+    print(f'-- {sentence}\npub {name} : {found} ≡ {wanted}\nunfolding digits\n{name} = refl')
 
 
 if __name__ == '__main__':

@@ -1,0 +1,2 @@
+//! Live runs: what their histories must be.
+#![tactic(auto)]
