@@ -5,6 +5,10 @@ use Rattle.std.specs.List.{list_any}
 use Rattle.std.specs.Cmp.Lexicographic.{pointwise}
 use Rattle.hx_ids.specs.declared.PassNo.{PassNo}
 use Rattle.hx_ids.specs.declared.Epoch.{Epoch}
+use Rattle.hx_text.specs.declared.line_table.TextFault.{TextFault}
+use Rattle.hx_text.specs.declared.line_table.TextFault.TheVariants as text_faults
+use Rattle.hx_text.specs.Lines.{lines_of}
+use Rattle.hx_text.specs.Faults.{lines_fault}
 use Rattle.hx_cluster.specs.declared.description.Spec.{Spec}
 use Rattle.hx_cluster.specs.declared.happenings.Proposal.{Proposal}
 use Rattle.hx_cluster.specs.declared.happenings.Event.{Event}
@@ -131,7 +135,20 @@ verdict_on log = verdict_after (walk_from log.1 (first_step log.1) log.0)
 abbrev pub verdict_of : Spec → List (List ℕ) → Verdict
 verdict_of spec lines = verdict_on (log_of spec lines)
 
--- and its text
+-- and of the bytes of a log. A line that isn't UTF-8 or is too long is tested before all others
+abbrev pub most_line : ℕ
+most_line = 16384
+
+abbrev pub fault_or : Option TextFault → Verdict → Verdict
+fault_or None verdict = verdict
+fault_or (Some (text_faults.NotUtf8 line)) verdict = verdicts.Unlawful line causes.Grammar
+fault_or (Some (text_faults.LineTooLong line)) verdict = verdicts.Unlawful line causes.Grammar
+fault_or (Some text_faults.OutOfMemory) verdict = verdict
+
+abbrev pub verdict_on_text : Spec → List ℕ → Verdict
+verdict_on_text spec bytes = fault_or (lines_fault most_line bytes) (verdict_of spec (lines_of bytes))
+
+-- its text
 abbrev pub cause_name : Cause → List ℕ
 cause_name causes.Grammar = codes "grammar"
 cause_name causes.Step = codes "step"
