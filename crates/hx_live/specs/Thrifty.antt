@@ -1,9 +1,8 @@
 -- Histories in which no controller and no instance made more calls than a number of rounds allows, and none was longer than it may be.
-use Rattle.std.specs.Prelude.{ℕ, ◌+◌, ◌*◌, Bool, true, false, ◌==◌, ◌&&◌, List, length, nat_le}
+use Rattle.std.specs.Prelude.{ℕ, ◌+◌, ◌*◌, Bool, false, ◌==◌, ◌&&◌, List, length, nat_le}
 use Rattle.std.specs.List.{list_all, sum_by}
 use Rattle.hx_lists.specs.Lists.{count, numbers_below}
 use Rattle.hx_cluster.specs.declared.description.Spec.{Spec}
-use Rattle.hx_cluster.specs.declared.happenings.Admin.{Admin}
 use Rattle.hx_cluster.specs.declared.happenings.Admin.TheVariants as steps
 use Rattle.hx_cluster.specs.declared.happenings.Event.{Event}
 use Rattle.hx_cluster.specs.declared.happenings.Event.TheVariants as events

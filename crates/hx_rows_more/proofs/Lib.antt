@@ -16,3 +16,6 @@ mod TornTurns
 mod ExpiriesAndRepeats
 mod RepeatsAndDeath
 mod FailedSettle
+mod History
+mod Settling
+mod UnreadableLog
