@@ -1,5 +1,5 @@
 -- How far the replicas of a cluster are from their goals.
-use Rattle.std.specs.Prelude.{ℕ, List, if◌then◌else◌, unwrap_or}
+use Rattle.std.specs.Prelude.{ℕ, if◌then◌else◌, unwrap_or}
 use Rattle.std.specs.List.{sum_by}
 use Rattle.hx_model.specs.declared.ModelParts.{ModelParts}
 use Rattle.hx_model.specs.Walks.{dist}

@@ -1,5 +1,5 @@
 -- A plain participant: its session, and for each part what its replica is and does.
-use Rattle.std.specs.Prelude.{ℕ, ◌+◌, Bool, true, false, not, ◌==◌, ◌&&◌, ◌||◌, List, [], ◌∷◌, map, find, filter, Option, None, Some, if◌then◌else◌, is_none, unwrap_or, nat_le, nat_lt}
+use Rattle.std.specs.Prelude.{ℕ, ◌+◌, Bool, false, not, ◌==◌, ◌&&◌, ◌||◌, List, [], ◌∷◌, map, find, Option, None, Some, if◌then◌else◌, is_none, unwrap_or, nat_le, nat_lt}
 use Rattle.std.specs.List.{list_any, filter_map}
 use Rattle.hx_lists.specs.Lists.{sort_by}
 use Rattle.hx_ids.specs.declared.StateId.{StateId}

@@ -1,5 +1,5 @@
 -- The grammar of logs: what each entry tells. Words stand with exactly one space between them.
-use Rattle.std.specs.Prelude.{ℕ, ◌+◌, ◌-◌, ◌^◌, Bool, true, false, ◌==◌, ◌&&◌, ◌||◌, List, [], ◌∷◌, ◌++◌, map, length, drop, Option, None, Some, Result, Ok, Err, if◌then◌else◌, find, codes}
+use Rattle.std.specs.Prelude.{ℕ, ◌+◌, ◌-◌, ◌^◌, Bool, ◌==◌, ◌&&◌, List, [], ◌∷◌, ◌++◌, map, drop, Option, None, Some, Result, Ok, Err, if◌then◌else◌, find, codes}
 use Rattle.std.specs.List.{slice_split, before_first, after_first, list_any}
 use Rattle.std.specs.Option.{option_map}
 use Rattle.std.specs.Str.{bytes_eq}
@@ -12,7 +12,7 @@ use Rattle.hx_ids.specs.declared.Epoch.{Epoch}
 use Rattle.hx_ids.specs.declared.PassNo.{PassNo}
 use Rattle.hx_ids.specs.declared.ControllerId.{ControllerId}
 use Rattle.hx_ids.specs.Names.{place_of, place_after, interned}
-use Rattle.hx_text.specs.Spellings.{is_name, number_of}
+use Rattle.hx_text.specs.Spellings.{is_name}
 use Rattle.hx_text.specs.Lines.{is_space}
 use Rattle.hx_cluster.specs.declared.description.Spec.{Spec}
 use Rattle.hx_cluster.specs.declared.happenings.Placed.{Placed}

@@ -1,5 +1,5 @@
 -- What participants do: they fetch, are delivered messages, and take, write and acknowledge them.
-use Rattle.std.specs.Prelude.{ℕ, ◌+◌, Bool, true, false, not, ◌==◌, ◌&&◌, ◌||◌, List, [], ◌∷◌, ◌++◌, map, filter, find, length, Option, None, Some, if◌then◌else◌, nat_lt}
+use Rattle.std.specs.Prelude.{◌+◌, Bool, true, false, not, ◌==◌, ◌&&◌, List, [], ◌∷◌, ◌++◌, map, filter, find, length, Option, None, Some, if◌then◌else◌, nat_lt}
 use Rattle.hx_lists.specs.Lists.{sort_by}
 use Rattle.hx_ids.specs.declared.InstanceId.{InstanceId}
 use Rattle.hx_ids.specs.declared.SessionId.{SessionId}
@@ -16,8 +16,8 @@ use Rattle.hx_print.specs.declared.Note.TheVariants as notes
 use Rattle.hx_print.specs.Texts.{accept_text}
 use Rattle.hx_replicas.specs.declared.DeliverFault.{DeliverFault}
 use Rattle.hx_replicas.specs.declared.DeliverFault.TheVariants as faults
-use Rattle.hx_replicas.specs.Participants.{Participant, Slot, slot_of, deliver_fault, accept, accepted_by, accepted_all, makes, hand_out, runs_handler, with_run, finish, put_back, adopt}
-use Rattle.hx_sim.specs.World.{World, Job, Handlers, Voice, happen, note, say_if_loud, participant_of, with_participant, answer_of, rest_of}
+use Rattle.hx_replicas.specs.Participants.{slot_of, deliver_fault, accept, accepted_by, accepted_all, makes, hand_out, runs_handler, with_run, finish, put_back, adopt}
+use Rattle.hx_sim.specs.World.{World, Job, Voice, happen, note, say_if_loud, participant_of, with_participant, answer_of, rest_of}
 
 -- the open jobs of an instance, by number
 abbrev pub is_job_of : InstanceId → Job → Bool

@@ -7,7 +7,6 @@ use Rattle.hx_ids.specs.declared.ControllerId.{ControllerId}
 use Rattle.hx_ids.specs.declared.ResourceId.{ResourceId}
 use Rattle.hx_ids.specs.declared.PartId.{PartId}
 use Rattle.hx_ids.specs.declared.StateId.{StateId}
-use Rattle.hx_ids.specs.declared.SessionId.{SessionId}
 use Rattle.hx_model.specs.declared.ModelParts.{ModelParts}
 use Rattle.hx_cluster.specs.declared.description.Spec.{Spec}
 use Rattle.hx_cluster.specs.declared.description.Resource.{Resource}
@@ -15,18 +14,16 @@ use Rattle.hx_cluster.specs.declared.state.Cluster.{Cluster}
 use Rattle.hx_cluster.specs.declared.planning.Report.{Report}
 use Rattle.hx_cluster.specs.declared.happenings.Admin.{Admin}
 use Rattle.hx_cluster.specs.declared.happenings.Admin.TheVariants as steps
-use Rattle.hx_cluster.specs.declared.happenings.Did.{Did}
 use Rattle.hx_cluster.specs.declared.happenings.Did.TheVariants as dids
 use Rattle.hx_cluster.specs.declared.happenings.StepFault.{StepFault}
 use Rattle.hx_cluster.specs.declared.happenings.Outcome.TheVariants as outcomes
 use Rattle.hx_cluster.specs.declared.happenings.Seen.{Seen}
 use Rattle.hx_cluster.specs.declared.happenings.Event.{Event}
 use Rattle.hx_cluster.specs.declared.happenings.Event.TheVariants as events
-use Rattle.hx_cluster.specs.Ends.{part_eq, parts_of}
+use Rattle.hx_cluster.specs.Ends.{part_eq}
 use Rattle.hx_cluster.specs.Steps.{refusal_of, did_of, newest}
 use Rattle.hx_cluster.specs.Reads.{live_shown}
 use Rattle.hx_print.specs.declared.Note.TheVariants as notes
-use Rattle.hx_print.specs.declared.Word.{Word}
 use Rattle.hx_print.specs.declared.Word.TheVariants as words
 use Rattle.hx_print.specs.Texts.{view_line, view_of_part, viewed_parts, route_text, summary_text, settle_text, history_full_text}
 use Rattle.hx_script.specs.declared.ReadKind.{ReadKind}
@@ -37,7 +34,7 @@ use Rattle.hx_script.specs.declared.Line.{Line}
 use Rattle.hx_script.specs.NewIdeals.{bare_ideal}
 use Rattle.hx_control.specs.declared.PassOutcome.{PassOutcome}
 use Rattle.hx_control.specs.declared.PassOutcome.TheVariants as ends
-use Rattle.hx_sim.specs.World.{World, Voice, Handlers, Told, opening_world, happen, note, say, turn_of, with_turn}
+use Rattle.hx_sim.specs.World.{World, Voice, Told, opening_world, happen, note, say, turn_of, with_turn}
 use Rattle.hx_sim.specs.Turns.{do_begin, do_live, do_mail, do_states, do_ideals, do_send, do_post, do_pass, is_at, shown_sessions, say_entries, is_sent}
 use Rattle.hx_sim.specs.Jobs.{adopt_in, do_fetch, do_deliver, do_take, do_write, do_ack, do_work}
 

@@ -1,16 +1,13 @@
 -- A controller's turn: begin, the reads, the dispatch of the plan, and the post.
-use Rattle.std.specs.Prelude.{ℕ, ◌+◌, Bool, true, false, not, ◌==◌, ◌&&◌, ◌||◌, List, [], ◌∷◌, ◌++◌, map, length, Option, None, Some, if◌then◌else◌, unwrap_or, nat_lt}
+use Rattle.std.specs.Prelude.{ℕ, ◌+◌, Bool, true, false, not, ◌==◌, ◌&&◌, ◌||◌, List, [], ◌∷◌, ◌++◌, map, length, None, Some, if◌then◌else◌, unwrap_or, nat_lt}
 use Rattle.std.specs.List.{list_all}
 use Rattle.hx_lists.specs.Lists.{count, sort_by}
-use Rattle.hx_ids.specs.declared.InstanceId.{InstanceId}
 use Rattle.hx_ids.specs.declared.ControllerId.{ControllerId}
 use Rattle.hx_ids.specs.declared.SessionId.{SessionId}
 use Rattle.hx_cluster.specs.declared.planning.View.{View}
 use Rattle.hx_cluster.specs.declared.planning.Plan.{Plan}
-use Rattle.hx_cluster.specs.declared.planning.Report.{Report}
 use Rattle.hx_cluster.specs.declared.planning.Entry.{Entry}
 use Rattle.hx_cluster.specs.declared.planning.Target.{Target}
-use Rattle.hx_cluster.specs.declared.planning.Full.{Full}
 use Rattle.hx_cluster.specs.declared.planning.Finding.{Finding}
 use Rattle.hx_cluster.specs.declared.planning.Finding.TheVariants as findings
 use Rattle.hx_cluster.specs.declared.state.Row.{Row}
@@ -30,7 +27,7 @@ use Rattle.hx_print.specs.Texts.{sent_text, waiting_text, moved_text, settled_te
 use Rattle.hx_control.specs.declared.PassOutcome.{PassOutcome}
 use Rattle.hx_control.specs.declared.PassOutcome.TheVariants as ends
 use Rattle.hx_pass.specs.Plans.{plan}
-use Rattle.hx_sim.specs.World.{World, Turn, Voice, idle_turn, when, happen, note, say, say_if_loud, turn_of, with_turn}
+use Rattle.hx_sim.specs.World.{World, Turn, Voice, idle_turn, when, happen, note, say, turn_of, with_turn}
 
 -- a turn goes to another word
 abbrev pub go_to : World → ControllerId → Word → World

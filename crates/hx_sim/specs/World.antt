@@ -1,9 +1,7 @@
 -- The plain world in which a script is done, and the ways in which it changes: an event happens, a line is said, or the history is full.
-use Rattle.std.specs.Prelude.{ℕ, ◌+◌, Bool, true, false, ◌==◌, List, [], ◌∷◌, ◌++◌, map, filter, find, Option, None, Some, if◌then◌else◌, unwrap_or, slice_get, slice_set, slice_index_or, nat_lt, nat_le, replicate, length}
-use Rattle.std.specs.List.{list_any}
+use Rattle.std.specs.Prelude.{ℕ, ◌+◌, Bool, true, false, List, [], ◌∷◌, ◌++◌, Option, None, if◌then◌else◌, slice_set, slice_index_or, nat_lt, replicate, length}
 use Rattle.hx_ids.specs.declared.InstanceId.{InstanceId}
 use Rattle.hx_ids.specs.declared.ControllerId.{ControllerId}
-use Rattle.hx_ids.specs.declared.MsgId.{MsgId}
 use Rattle.hx_ids.specs.declared.PartId.{PartId}
 use Rattle.hx_cluster.specs.declared.description.Spec.{Spec}
 use Rattle.hx_cluster.specs.declared.description.Failure.{Failure}
