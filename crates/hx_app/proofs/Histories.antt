@@ -73,9 +73,6 @@ ack_goes c last m d = one (can_ack c m.session m.id) refl
 write_goes : (c : Cluster) (last : Option ℕ) (m : Message) → IsInDemo c last → Goes c last (write_items c m)
 write_goes c last m d = one (can_write c m.session m.id) refl
   where
-    e : Event
-    e = events.Write m.session m.id outcomes.Ok
-
     one : (b : Bool) → can_write c m.session m.id ≡ b
         → Goes c last (if b then Happens (events.Write m.session m.id outcomes.Ok) ∷ ack_items (next c (events.Write m.session m.id outcomes.Ok)) m else [])
     one true is =

@@ -1,5 +1,5 @@
 -- What a pass proposes and posts names instances, parts and states of the demo.
-use Rattle.std.proofs.Common.{◌≡◌, ℕ, ◌==◌, Bool, true, false, List, [], ◌∷◌, ◌++◌, take, zero, suc, Option, None, Some, refl, ◌∙◌, arith}
+use Rattle.std.proofs.Common.{◌≡◌, ℕ, ◌==◌, Bool, true, false, List, [], ◌∷◌, ◌++◌, take, zero, suc, Option, None, Some, refl, subst, ◌∙◌, arith}
 use Rattle.std.specs.Prelude.{if◌then◌else◌, IfSome, is_some}
 use Rattle.std.specs.List.{list_all, filter_map, cons_option}
 use Rattle.std.specs.Option.{option_map, option_and_then}
@@ -18,8 +18,11 @@ use Rattle.hx_cluster.specs.declared.happenings.Seen.{Seen}
 use Rattle.hx_cluster.specs.Ends.{shown_of, session_in, state_of, row_of, message_of, is_row}
 use Rattle.hx_cluster.specs.Reads.{live_shown, instance_before}
 use Rattle.hx_safe.proofs.Counting.{all-append, all-map, all-insert, all-find}
-use Rattle.hx_app.specs.Demo.{dropped, offline, online}
-use Rattle.hx_app.specs.DemoPlan.{standing, step_from, proposal_to, proposal_of, proposal_on, proposals_to, part_at, part_proposals, demo_proposals, preferences, is_wanted, room_online}
+use Rattle.hx_model.specs.Model.{has_state}
+use Rattle.hx_hops.specs.Hops.{hop}
+use Rattle.hx_safe.proofs.Models.{state_same}
+use Rattle.hx_app.specs.Demo.{dropped, offline, online, online_offline}
+use Rattle.hx_app.specs.DemoPlan.{standing, goal_of, hop_from, proposal_to, proposal_of, proposal_on, proposals_to, part_at, part_proposals, demo_proposals, preferences, is_wanted, room_online}
 use Rattle.hx_app.specs.FirstPath.{seen_at, seen_of_part, seen_now}
 use Rattle.hx_app.proofs.InDemo.{IsInDemo, has_demo_state, has_demo_instance, has_demo_part, is_demo_proposal, is_demo_seen}
 
@@ -64,27 +67,37 @@ good_if false q e = tt
 good_to : (goal : StateId) (s : SessionId) (p : PartId) (from to : StateId) → has_demo_part p ≡ true → has_demo_state from ≡ true → has_demo_state to ≡ true → IsGood (proposal_to goal s p (Some from) (Some to))
 good_to goal s p from to part e w = good_if (to.0 == goal.0) (record { session = s; part = p; from = from; to = to }) (grind (arith, part, e, w))
 
-good_step : (goal : StateId) (s : SessionId) (p : PartId) (from : Option StateId) (wanted : Bool) → has_demo_part p ≡ true → IsGood (proposal_to goal s p from (step_from from wanted))
+-- the next state of a replica on its way
+good_hop : (goal : StateId) (s : SessionId) (p : PartId) (t : StateId) (wanted : Bool) → has_demo_part p ≡ true → has_state online_offline t ≡ true → IsGood (proposal_to goal s p (Some t) (hop online_offline t (goal_of wanted)))
+good_hop goal s p t wanted part has = one (online.0 == t.0) refl
+  where
+    P : StateId → Type 0
+    P u = IsGood (proposal_to goal s p (Some u) (hop online_offline u (goal_of wanted)))
+
+    from_online : (wanted : Bool) → IsGood (proposal_to goal s p (Some online) (hop online_offline online (goal_of wanted)))
+    from_online true = tt
+    from_online false = good_to goal s p online offline part refl refl
+
+    from_offline : (wanted : Bool) → IsGood (proposal_to goal s p (Some offline) (hop online_offline offline (goal_of wanted)))
+    from_offline true = good_to goal s p offline online part refl refl
+    from_offline false = good_to goal s p offline dropped part refl refl
+
+    one : (b : Bool) → (online.0 == t.0) ≡ b → IsGood (proposal_to goal s p (Some t) (hop online_offline t (goal_of wanted)))
+    one true is = subst P (state_same online t is) (from_online wanted)
+    one false is = subst P (state_same offline t (grind (arith, nat_tests, has, is))) (from_offline wanted)
+
+good_step : (goal : StateId) (s : SessionId) (p : PartId) (from : Option StateId) (wanted : Bool) → has_demo_part p ≡ true → IsGood (proposal_to goal s p from (hop_from from wanted))
 good_step goal s p None wanted part = tt
-good_step goal s p (Some t) true part = up (t.0 == offline.0) refl
+good_step goal s p (Some t) wanted part = one (has_state online_offline t) refl
   where
-    up : (b : Bool) → (t.0 == offline.0) ≡ b → IsGood (proposal_to goal s p (Some t) (if b then Some online else None))
-    up true is = good_to goal s p t online part (grind (arith, nat_tests, is)) refl
-    up false is = tt
-good_step goal s p (Some t) false part = down (t.0 == online.0) refl (t.0 == offline.0) refl
-  where
-    down : (a : Bool) → (t.0 == online.0) ≡ a → (b : Bool) → (t.0 == offline.0) ≡ b → IsGood (proposal_to goal s p (Some t) (if a then Some offline else if b then Some dropped else None))
-    down true is b at = good_to goal s p t offline part (grind (arith, nat_tests, is)) refl
-    down false is true at = good_to goal s p t dropped part (grind (arith, nat_tests, at)) refl
-    down false is false at = tt
+    one : (b : Bool) → has_state online_offline t ≡ b → IsGood (proposal_to goal s p (Some t) (if b then hop online_offline t (goal_of wanted) else None))
+    one true is = good_hop goal s p t wanted part is
+    one false is = tt
 
 good_proposal : (view : View) (goal : StateId) (p : PartId) (wanted : Bool) (s : SessionId) → has_demo_part p ≡ true → IsGood (proposal_of view goal p wanted s)
 good_proposal view goal p wanted s part = idle (is_some (message_of view.mail s p))
   where
-    from : Option StateId
-    from = standing (state_of view.rows s p) wanted
-
-    idle : (b : Bool) → IsGood (if b then None else proposal_to goal s p (standing (state_of view.rows s p) wanted) (step_from (standing (state_of view.rows s p) wanted) wanted))
+    idle : (b : Bool) → IsGood (if b then None else proposal_to goal s p (standing (state_of view.rows s p) wanted) (hop_from (standing (state_of view.rows s p) wanted) wanted))
     idle true = tt
     idle false = good_step goal s p (standing (state_of view.rows s p) wanted) wanted part
 

@@ -1,5 +1,5 @@
 -- What a pass plans for the demo: two replicas of each part online, on the first live instances of its preference list.
-use Rattle.std.specs.Prelude.{ℕ, ◌-◌, Bool, true, false, ◌==◌, List, [], ◌∷◌, ◌++◌, take, Option, None, Some, is_some, if◌then◌else◌, nat_lt}
+use Rattle.std.specs.Prelude.{ℕ, ◌-◌, Bool, ◌==◌, List, [], ◌∷◌, ◌++◌, take, Option, None, Some, is_some, if◌then◌else◌, nat_lt}
 use Rattle.std.specs.List.{before_first, filter_map}
 use Rattle.std.specs.Option.{option_and_then}
 use Rattle.hx_lists.specs.Lists.{count}
@@ -7,10 +7,12 @@ use Rattle.hx_ids.specs.declared.StateId.{StateId}
 use Rattle.hx_ids.specs.declared.SessionId.{SessionId}
 use Rattle.hx_ids.specs.declared.InstanceId.{InstanceId}
 use Rattle.hx_ids.specs.declared.PartId.{PartId}
+use Rattle.hx_model.specs.Model.{has_state}
+use Rattle.hx_hops.specs.Hops.{hop}
 use Rattle.hx_cluster.specs.declared.happenings.Proposal.{Proposal}
 use Rattle.hx_cluster.specs.declared.planning.View.{View}
 use Rattle.hx_cluster.specs.Ends.{session_in, state_of, message_of, has_end}
-use Rattle.hx_app.specs.Demo.{dropped, offline, online, instances_of}
+use Rattle.hx_app.specs.Demo.{dropped, offline, online, online_offline, instances_of}
 
 -- the preference list of a part, and how many replicas it has
 abbrev pub preferences : ℕ → List InstanceId
@@ -31,11 +33,13 @@ abbrev pub standing : Option StateId → Bool → Option StateId
 standing (Some t) wanted = Some t
 standing None wanted = if wanted then Some offline else None
 
--- the step of a replica: up where it is wanted, and else down and out
-abbrev pub step_from : Option StateId → Bool → Option StateId
-step_from None wanted = None
-step_from (Some t) true = if t.0 == offline.0 then Some online else None
-step_from (Some t) false = if t.0 == online.0 then Some offline else if t.0 == offline.0 then Some dropped else None
+-- its next state on the way there: online where it is wanted, and else out
+abbrev pub goal_of : Bool → StateId
+goal_of wanted = if wanted then online else dropped
+
+abbrev pub hop_from : Option StateId → Bool → Option StateId
+hop_from None wanted = None
+hop_from (Some t) wanted = if has_state online_offline t then hop online_offline t (goal_of wanted) else None
 
 -- the proposal of a session's replica for one transition, where no message of it is under way
 abbrev pub proposal_to : StateId → SessionId → PartId → Option StateId → Option StateId → Option Proposal
@@ -47,7 +51,7 @@ proposal_to goal s p None None = None
 abbrev pub proposal_of : View → StateId → PartId → Bool → SessionId → Option Proposal
 proposal_of view goal p wanted s =
     let from = standing (state_of view.rows s p) wanted in
-    if is_some (message_of view.mail s p) then None else proposal_to goal s p from (step_from from wanted)
+    if is_some (message_of view.mail s p) then None else proposal_to goal s p from (hop_from from wanted)
 
 abbrev pub part_at : ℕ → PartId
 part_at index = record { resource = record { 0 = 0 }; index = index }

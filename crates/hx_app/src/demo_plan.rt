@@ -1,10 +1,12 @@
 //! What a pass plans for the demo.
 ghost use Rattle.std.specs.Prelude.{◌≡◌, IfOk};
-ghost use Rattle.hx_app.specs.DemoPlan.{preferences, live_before, is_wanted, standing, step_from, proposal_to, proposal_of, part_at, proposal_on, proposals_to, count_online, part_proposals, demo_proposals};
+ghost use Rattle.hx_app.specs.Demo.{online_offline, built_in};
+ghost use Rattle.hx_app.specs.DemoPlan.{preferences, live_before, is_wanted, standing, goal_of, hop_from, proposal_to, proposal_of, part_at, proposal_on, proposals_to, count_online, part_proposals, demo_proposals};
 
 use hx_cluster::{Proposal, View, has_end, message_on, state_on};
+use hx_hops::Hops;
 use hx_ids::{InstanceId, PartId, ResourceId, SessionId, StateId};
-use hx_model::DROPPED;
+use hx_model::{DROPPED, Model};
 use hx_print::session_in;
 use std::alloc::{AllocError, Global};
 
@@ -57,17 +59,21 @@ fn standing(state: Option<StateId>, wanted: bool) -> Option<StateId>
     }
 }
 
-/// The next state of a replica: up where it is wanted, and else down and out.
-fn step_from(state: Option<StateId>, wanted: bool) -> Option<StateId>
-    ensures { result ≡ step_from state wanted }
+/// Where a replica is to go.
+fn goal_of(wanted: bool) -> StateId
+    ensures { result ≡ goal_of wanted }
+{
+    if wanted { ONLINE } else { DROPPED }
+}
+
+/// The next state of a replica on its way there.
+fn hop_from(hops: &Hops, state: Option<StateId>, wanted: bool) -> Option<StateId>
+    requires { hops.now ≡ online_offline }
+    ensures { result ≡ hop_from state wanted }
 {
     let from = state?;
-    if wanted {
-        if from == OFFLINE { Some(ONLINE) } else { None }
-    } else if from == ONLINE {
-        Some(OFFLINE)
-    } else if from == OFFLINE {
-        Some(DROPPED)
+    if from == ONLINE || from == OFFLINE {
+        hops.hop(from, goal_of(wanted))
     } else {
         None
     }
@@ -102,19 +108,21 @@ fn proposal_to(
 
 /// The proposal for a session's replica, where no message of it is under way.
 fn proposal_of(
+    hops: &Hops,
     view: &View,
     goal: StateId,
     part: PartId,
     wanted: bool,
     session: SessionId,
 ) -> Option<Proposal>
+    requires { hops.now ≡ online_offline }
     ensures { result ≡ proposal_of view.now goal part wanted session }
 {
     if message_on(view.mail.as_slice(), session, part).is_some() {
         return None;
     }
     let from = standing(state_on(view.rows.as_slice(), session, part), wanted);
-    proposal_to(goal, session, part, from, step_from(from, wanted))
+    proposal_to(goal, session, part, from, hop_from(hops, from, wanted))
 }
 
 /// A part of the demo's resource.
@@ -127,13 +135,20 @@ pub(crate) fn part_at(index: u32) -> PartId
     }
 }
 
-fn proposal_on(view: &View, goal: StateId, index: u32, instance: InstanceId) -> Option<Proposal>
+fn proposal_on(
+    hops: &Hops,
+    view: &View,
+    goal: StateId,
+    index: u32,
+    instance: InstanceId,
+) -> Option<Proposal>
+    requires { hops.now ≡ online_offline }
     ensures { result ≡ proposal_on view.now goal index instance }
 {
     match session_in(view.live.as_slice(), instance) {
         Some(session) => {
             let wanted = is_wanted(view, index, instance);
-            proposal_of(view, goal, part_at(index), wanted, session)
+            proposal_of(hops, view, goal, part_at(index), wanted, session)
         }
         None => None,
     }
@@ -142,15 +157,17 @@ fn proposal_on(view: &View, goal: StateId, index: u32, instance: InstanceId) -> 
 /// The proposals that lead to a state, in order of preference.
 fn proposals_to(
     alloc: Global,
+    hops: &Hops,
     view: &View,
     goal: StateId,
     index: u32,
 ) -> Result<Vec<Proposal>, AllocError>
+    requires { hops.now ≡ online_offline }
     ensures { IfOk result (λ proposals. proposals.items ≡ proposals_to view.now goal index) }
 {
     preferences(index)
         .iter()
-        .filter_map(|instance| proposal_on(view, goal, index, *instance))
+        .filter_map(|instance| proposal_on(hops, view, goal, index, *instance))
         .collect(alloc)
 }
 
@@ -167,25 +184,51 @@ fn count_online(view: &View, part: PartId) -> usize
 }
 
 /// A part's proposals in rank order.
-fn part_proposals(alloc: Global, view: &View, index: u32) -> Result<Vec<Proposal>, AllocError>
+fn part_proposals(
+    alloc: Global,
+    hops: &Hops,
+    view: &View,
+    index: u32,
+) -> Result<Vec<Proposal>, AllocError>
+    requires { hops.now ≡ online_offline }
     ensures { IfOk result (λ proposals. proposals.items ≡ part_proposals view.now index) }
 {
     let room = REPLICAS.saturating_sub(count_online(view, part_at(index)));
-    let mut proposals = proposals_to(alloc, view, ONLINE, index)?;
+    let mut proposals = proposals_to(alloc, hops, view, ONLINE, index)?;
     proposals.truncate(room);
-    let down = proposals_to(alloc, view, OFFLINE, index)?;
+    let down = proposals_to(alloc, hops, view, OFFLINE, index)?;
     proposals.extend_from_slice(&down)?;
-    let out = proposals_to(alloc, view, DROPPED, index)?;
+    let out = proposals_to(alloc, hops, view, DROPPED, index)?;
     proposals.extend_from_slice(&out)?;
     Ok(proposals)
 }
 
+/// The shortest ways through each model, in the order of the models.
+pub(crate) fn hops_of(alloc: Global, models: &[Model]) -> Result<Vec<Hops>, AllocError>
+    ensures { IfOk result (λ hops. hops.items ≡ models.now) }
+{
+    let mut hops = Vec::new(alloc);
+    for model in models {
+        hops.push(Hops::build(alloc, model)?)?;
+    }
+    Ok(hops)
+}
+
+/// The place of the model of the demo's resource among the models.
+const MODEL: usize = 1;
+
 /// The proposals of a pass.
-pub(crate) fn demo_proposals(alloc: Global, view: &View) -> Result<Vec<Proposal>, AllocError>
+pub(crate) fn demo_proposals(
+    alloc: Global,
+    hops: &[Hops],
+    view: &View,
+) -> Result<Vec<Proposal>, AllocError>
+    requires { hops.now ≡ built_in }
     ensures { IfOk result (λ proposals. proposals.items ≡ demo_proposals view.now) }
 {
-    let mut proposals = part_proposals(alloc, view, 0)?;
-    let others = part_proposals(alloc, view, 1)?;
+    let hops = &hops[MODEL];
+    let mut proposals = part_proposals(alloc, hops, view, 0)?;
+    let others = part_proposals(alloc, hops, view, 1)?;
     proposals.extend_from_slice(&others)?;
     Ok(proposals)
 }

@@ -3,13 +3,14 @@ ghost use Rattle.std.specs.Prelude.{◌≡◌, ◌++◌, IfOk, OnOk};
 ghost use Rattle.hx_cluster.specs.Steps.{opening};
 ghost use Rattle.hx_print.specs.Texts.{row_seen, view_of_part, view_line, view_text};
 ghost use Rattle.hx_app.specs.Brings.{Brings};
-ghost use Rattle.hx_app.specs.Demo.{demo};
+ghost use Rattle.hx_app.specs.Demo.{built_in, demo};
 ghost use Rattle.hx_app.specs.FirstPath.{what_items, line_items, script_text};
 
 use crate::demo::make_demo;
-use crate::demo_plan::part_at;
+use crate::demo_plan::{hops_of, part_at};
 use crate::world::{join, lead, pass, print, work};
 use hx_cluster::{Cluster, Event, Spec};
+use hx_hops::Hops;
 use hx_ids::{InstanceId, PartId, SessionId, StateId};
 use hx_print::{print_seen, resource_name};
 use hx_script::{Line, What};
@@ -72,18 +73,20 @@ fn view(alloc: Global, spec: &Spec, cluster: &Cluster, page: &mut Page) -> Resul
 fn what(
     alloc: Global,
     spec: &Spec,
+    hops: &[Hops],
     cluster: &mut Cluster,
     number: u32,
     what: &What,
     page: &mut Page,
 ) -> Result<(), AllocError>
-    requires { cluster.old.resources ≡ demo.resources }
+    requires resources { cluster.old.resources ≡ demo.resources }
+    requires hops { hops.now ≡ built_in }
     ensures { OnOk result (Brings spec.now (what_items spec.now cluster.old number what.now) cluster.old cluster.new page.old page.new) }
 {
     match what {
         What::Join(instance) => join(alloc, spec, cluster, number, *instance, page),
         What::Lead(controller) => lead(alloc, spec, cluster, number, *controller, page),
-        What::Pass(controller) => pass(alloc, spec, cluster, number, *controller, page),
+        What::Pass(controller) => pass(alloc, spec, hops, cluster, number, *controller, page),
         What::Work(instance) => work(alloc, spec, cluster, *instance, page),
         What::View => view(alloc, spec, cluster, page),
         _ => Ok(()),
@@ -94,16 +97,18 @@ fn what(
 fn line(
     alloc: Global,
     spec: &Spec,
+    hops: &[Hops],
     cluster: &mut Cluster,
     line: &Line,
     page: &mut Page,
 ) -> Result<(), AllocError>
-    requires { cluster.old.resources ≡ demo.resources }
+    requires resources { cluster.old.resources ≡ demo.resources }
+    requires hops { hops.now ≡ built_in }
     ensures { OnOk result (Brings spec.now (line_items spec.now cluster.old line.now) cluster.old cluster.new page.old page.new) }
 {
     print(alloc, spec, cluster, &Event::Line(line.number), page)?;
     cluster.line = Some(line.number);
-    what(alloc, spec, cluster, line.number, &line.what, page)
+    what(alloc, spec, hops, cluster, line.number, &line.what, page)
 }
 
 /// Does a script on the demo, and prints it.
@@ -111,10 +116,11 @@ pub(crate) fn script_page(alloc: Global, lines: &[Line]) -> Result<Page, AllocEr
     ensures { IfOk result (λ page. page ≡ script_text demo (opening demo) lines.now) }
 {
     let spec = make_demo(alloc)?;
+    let hops = hops_of(alloc, spec.models.as_slice())?;
     let mut cluster = Cluster::at_opening(alloc, &spec)?;
     let mut page = Page::new(alloc);
     for next in lines {
-        line(alloc, &spec, &mut cluster, next, &mut page)?;
+        line(alloc, &spec, &hops, &mut cluster, next, &mut page)?;
     }
     view(alloc, &spec, &cluster, &mut page)?;
     Ok(page)

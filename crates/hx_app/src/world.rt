@@ -8,6 +8,7 @@ ghost use Rattle.hx_cluster.specs.Reads.{mail_shown, states_shown};
 ghost use Rattle.hx_cluster.specs.Events.{dispatched_of};
 ghost use Rattle.hx_print.specs.Texts.{entry_text, names_of, roll_of, note_text};
 ghost use Rattle.hx_app.specs.Brings.{Brings, HasRoom};
+ghost use Rattle.hx_app.specs.Demo.{built_in};
 ghost use Rattle.hx_app.specs.FirstPath.{Happens, step_items, reads, view_now, seen_at, seen_of_part, seen_now, is_sent, outcome_text, turn_items, pass_items, ack_items, write_items, take_items, run_items, work_items};
 
 use crate::demo_plan::{demo_proposals, part_at};
@@ -15,6 +16,7 @@ use hx_cluster::{
     Admin, Begun, Cluster, Event, Live, Message, Outcome, Placed, Proposal, Resource, Row, Seen,
     Spec, StepFault, View,
 };
+use hx_hops::Hops;
 use hx_ids::{ControllerId, Epoch, InstanceId, PartId, PassNo, SessionId};
 use hx_lists::Seq;
 use hx_print::{Note, Roll, print_event, print_note, print_sent, print_settled, print_waiting};
@@ -364,17 +366,19 @@ fn post(
 fn turn(
     alloc: Global,
     spec: &Spec,
+    hops: &[Hops],
     cluster: &mut Cluster,
     controller: ControllerId,
     begun: Begun,
     page: &mut Page,
 ) -> Result<(), AllocError>
+    requires { hops.now ≡ built_in }
     ensures { OnOk result (Brings spec.now (turn_items cluster.old controller begun) cluster.old cluster.new page.old page.new) }
 {
     let view = view_now(alloc, cluster)?;
     let events = reads(alloc, controller, begun.pass, view.live.as_slice())?;
     print_reads(alloc, spec, cluster, &events, page)?;
-    let proposals = demo_proposals(alloc, &view)?;
+    let proposals = demo_proposals(alloc, hops, &view)?;
     let rows = seen_now(alloc, cluster)?;
     let sent = dispatch(alloc, spec, cluster, controller, begun, &proposals, page)?;
     print_outcome(controller, proposals.len(), sent, view.mail.len(), page)?;
@@ -385,11 +389,13 @@ fn turn(
 pub(crate) fn pass(
     alloc: Global,
     spec: &Spec,
+    hops: &[Hops],
     cluster: &mut Cluster,
     line: u32,
     controller: ControllerId,
     page: &mut Page,
 ) -> Result<(), AllocError>
+    requires { hops.now ≡ built_in }
     ensures { OnOk result (Brings spec.now (pass_items spec.now cluster.old line controller) cluster.old cluster.new page.old page.new) }
 {
     if !cluster.is_leader(controller) {
@@ -400,7 +406,7 @@ pub(crate) fn pass(
     let roll = roll_of(alloc, cluster)?;
     let begun = hx_calls::begin(cluster, controller);
     print_event(&Event::Begin(controller, begun), &roll, spec, page)?;
-    turn(alloc, spec, cluster, controller, begun, page)
+    turn(alloc, spec, hops, cluster, controller, begun, page)
 }
 
 /// The acknowledgement of a message, where it may be acknowledged.
