@@ -1,0 +1,97 @@
+//! What words ask for.
+ghost use Rattle.std.specs.Prelude.{◌≡◌, ◌⊎◌, ◌≤◌, ◌<◌, ◌^◌, map, Ok, Err, codes, IfOk, IfErr};
+ghost use Rattle.std.specs.String.{string_bytes};
+ghost use Rattle.clap.specs.Matches.{found_of, first_value, one_text};
+ghost use Rattle.clap.specs.Walk.{rows_of};
+ghost use Rattle.hx_words.specs.Tasks.{number_in, mode_named, mode_in, MeetsRanges, task_of, answer_to, asked_by};
+
+use crate::options::command_line;
+use crate::{RunMode, Task, Words, WordsFault};
+use clap::ArgMatches;
+use clap::error::ErrorKind;
+use std::alloc::Global;
+
+/// The mode that a text names.
+fn mode_named(text: &str) -> Option<RunMode>
+    ensures { result ≡ mode_named text.now }
+{
+    if text == "sim" {
+        Some(RunMode::Sim)
+    } else {
+        None
+    }
+}
+
+/// The mode of the option, or the default.
+fn mode_in(matches: &ArgMatches) -> Option<RunMode>
+    ensures { result ≡ mode_in (first_value (found_of matches.now) (codes "mode")) }
+{
+    match matches.get_str("mode") {
+        Some(text) => mode_named(text),
+        None => Some(RunMode::Sim),
+    }
+}
+
+/// The number of an option, or its default.
+fn number_in(matches: &ArgMatches, name: &str, least: u64, most: u64, default: u64) -> u64
+    requires low { least ≤ default }
+    requires high { default ≤ most }
+    ensures value { result ≡ number_in least most default (one_text (found_of matches.now) name.now) }
+    ensures low { least ≤ result }
+    ensures high { result ≤ most }
+{
+    match matches.get_one::<u64>(name) {
+        Some(n) if least <= n && n <= most => n,
+        _ => default,
+    }
+}
+
+/// The task of the options that were read.
+fn task_of(matches: &ArgMatches) -> Result<Words, WordsFault>
+    ensures value { result ≡ task_of (rows_of (found_of matches.now)) }
+    ensures ranges { IfOk result MeetsRanges }
+{
+    let Some(mode) = mode_in(matches) else {
+        return Err(WordsFault::Refused);
+    };
+    let lanes = number_in(matches, "lanes", 1, 16, 4) as u32;
+    let rounds = number_in(matches, "rounds", 0, 1000, 10) as u32;
+    let seed = number_in(matches, "seed", 0, u64::MAX, 1);
+    let size = number_in(matches, "size", 1, 256, 64) as u32;
+    Ok(Words::Run(Task {
+        mode,
+        lanes,
+        rounds,
+        seed,
+        size,
+    }))
+}
+
+/// What words ask for where the command line stops at an error.
+fn answer_to(kind: ErrorKind) -> Result<Words, WordsFault>
+    ensures value { result ≡ answer_to kind }
+    ensures ranges { IfOk result MeetsRanges }
+{
+    match kind {
+        ErrorKind::DisplayHelp => Ok(Words::Help),
+        ErrorKind::DisplayVersion => Ok(Words::Version),
+        ErrorKind::OutOfMemory => Err(WordsFault::OutOfMemory),
+        _ => Err(WordsFault::Refused),
+    }
+}
+
+/// What the words of a command line ask for. The first is the program's name.
+///
+/// Help and the version are asked for where a request for them stands before any fault. Words that are
+/// refused may tell of want of memory in place of their fault.
+pub fn read_words(alloc: Global, words: &[String]) -> Result<Words, WordsFault>
+    ensures ok { IfOk result (λ asked. asked_by (map string_bytes words.now) ≡ Ok asked) }
+    ensures ranges { IfOk result MeetsRanges }
+    ensures err { IfErr result (λ e. (e ≡ WordsFault.OutOfMemory) ⊎ (asked_by (map string_bytes words.now) ≡ Err e)) }
+{
+    let command = command_line(alloc)?;
+    match command.try_get_matches_from(words) {
+        Ok(matches) => task_of(&matches),
+        Err(error) => answer_to(error.kind()),
+    }
+}
