@@ -3,3 +3,4 @@ pub mod EachFault
 pub mod Inputs
 pub mod Chains
 pub mod Sizes
+pub mod Faultless

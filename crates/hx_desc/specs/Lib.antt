@@ -4,3 +4,4 @@ pub mod ResourceForm
 pub mod FailureForm
 pub mod Demo
 pub mod Description
+pub mod Faultless

@@ -2,7 +2,9 @@
 #![tactic(auto)]
 
 mod failures;
+mod lists;
 mod models;
+mod modes;
 mod resources;
 mod rules;
 mod states;

@@ -4,6 +4,7 @@ ghost use Rattle.std.specs.List.{list_any};
 ghost use Rattle.serde_json.specs.View.{view};
 ghost use Rattle.hx_model.specs.Model.{is_between};
 ghost use Rattle.hx_forms.specs.Reading.{Reads};
+ghost use Rattle.hx_desc.specs.Faultless.{AreFew};
 ghost use Rattle.hx_desc.specs.ModelForm.{built_in, ends_of, source_of, target_of, initial_in, transition_in, transitions_in, kind_of, model_in, models_in};
 
 use crate::states::{StatesForm, is_dropped, is_error, state_of};
@@ -192,7 +193,7 @@ impl ItemForm for ModelForm {
 
     ghost found = { λ _ table d. model_in table d };
 
-    ghost room = { λ _ more table. (length table.states + 16 * more ≤ 256) × (length table.names + more ≤ 256) };
+    ghost kept = { λ _ more table. (length table.states + 16 * more ≤ 256) × (length table.names + more ≤ 256) × (length table.names ≡ length table.models) };
 
     fn read_next(
         &self,
@@ -250,7 +251,7 @@ impl Form for ModelsForm {
 
     ghost found = { λ _ d. models_in d };
 
-    ghost known = { λ _ table. length table.states ≤ 256 };
+    ghost known = { λ _ table. AreFew table };
 
     fn read(self, alloc: Global, value: &Value) -> Result<ModelTable, DescRefusal> {
         let values = array_up_to(alloc, MOST_MODELS, value)?;

@@ -1,15 +1,32 @@
-//! Resources, and instances by their names.
-ghost use Rattle.std.specs.Prelude.{◌≡◌};
+//! Resources.
+ghost use Rattle.std.specs.Prelude.{◌≡◌, ◌+◌, ◌<◌, ◌≤◌, [], length};
 ghost use Rattle.hx_cluster.specs.Ends.{parts_of as parts_of_in};
 ghost use Rattle.serde_json.specs.View.{view};
 ghost use Rattle.hx_forms.specs.Reading.{Reads};
-ghost use Rattle.hx_desc.specs.ResourceForm.{instance_in};
+ghost use Rattle.hx_desc.specs.Faultless.{AreFew};
+ghost use Rattle.hx_desc.specs.ResourceForm.{instance_in, model_id_in, resource_in, resources_in};
 
+use crate::lists::instance;
+use crate::modes::{ModeForm, ideal, lists, maps};
+use crate::tables::{ModelTable, ResourceTable};
 use hx_cluster::Resource;
-use hx_forms::{DescKind, DescRefusal, Form, place};
-use hx_ids::{InstanceId, Names, ResourceId};
+use hx_forms::{
+    DescKind, DescRefusal, Form, ItemForm, NewName, Object, SmallNumber, array_up_to, place,
+    read_all,
+};
+use hx_ids::{InstanceId, ModelId, Names, ResourceId};
+use hx_lists::Seq;
 use serde_json::Value;
 use std::alloc::Global;
+
+/// The most resources that a description has.
+const MOST_RESOURCES: usize = 256;
+
+/// How many replicas a partition may have.
+const REPLICAS: SmallNumber = SmallNumber { low: 1, high: 64 };
+
+/// How many partitions a resource may have.
+const PARTITIONS: SmallNumber = SmallNumber { low: 1, high: 1024 };
 
 /// An instance by its name.
 #[derive(Clone, Copy)]
@@ -23,8 +40,17 @@ impl Form for InstanceForm<'_> {
     ghost found = { λ form d. instance_in form.instances.now d };
 
     fn read(self, alloc: Global, value: &Value) -> Result<InstanceId, DescRefusal> {
-        let place = place(alloc, DescKind::UnknownInstance, self.instances, value)?;
-        Ok(InstanceId(place))
+        instance(alloc, self.instances, value)
+    }
+}
+
+/// A table without resources.
+pub(crate) fn no_resources(alloc: Global) -> ResourceTable
+    ensures { result ≡ record { names = []; resources = [] } }
+{
+    ResourceTable {
+        names: Names::new(alloc),
+        resources: Seq::new(alloc),
     }
 }
 
@@ -35,5 +61,107 @@ pub(crate) fn parts_of(resources: &[Resource], resource: ResourceId) -> u32
     match resources.get(resource.0 as usize) {
         Some(resource) => resource.ideal.parts(),
         None => 0,
+    }
+}
+
+/// A model by its name.
+#[derive(Clone, Copy)]
+struct ModelIdForm<'a> {
+    names: &'a Names,
+    ghost few: { length names.now ≤ 256 },
+}
+
+impl Form for ModelIdForm<'_> {
+    type Output = ModelId;
+
+    ghost found = { λ form d. model_id_in form.names.now d };
+
+    ghost known = { λ form id. id.0 < length form.names.now };
+
+    fn read(self, alloc: Global, value: &Value) -> Result<ModelId, DescRefusal> {
+        let place = place(alloc, DescKind::UnknownModel, self.names, value)?;
+        Ok(ModelId(place as u8))
+    }
+}
+
+/// A resource, over the instances and the models.
+#[derive(Clone, Copy)]
+struct ResourceForm<'a> {
+    instances: &'a Names,
+    models: &'a ModelTable,
+    ghost few: { AreFew models.now },
+}
+
+impl ItemForm for ResourceForm<'_> {
+    type Items = ResourceTable;
+
+    ghost found = { λ form table d. resource_in form.instances.now form.models.now table d };
+
+    ghost kept = { λ _ more table. length table.names + more ≤ 256 };
+
+    fn read_next(
+        &self,
+        alloc: Global,
+        table: ResourceTable,
+        value: &Value,
+    ) -> Result<ResourceTable, DescRefusal> {
+        let (instances, states) = (self.instances, &self.models.states);
+        let ResourceTable {
+            mut names,
+            mut resources,
+        } = table;
+        let keys = [
+            "name",
+            "model",
+            "replicas",
+            "partitions",
+            "mode",
+            "lists",
+            "maps",
+        ];
+        let object = Object::read(alloc, &keys, value)?;
+        let name = object.required("name", NewName { names: &names })?;
+        let model = ModelIdForm {
+            names: &self.models.names,
+        };
+        let id = object.required("model", model)?;
+        let replicas = object.required("replicas", REPLICAS)?;
+        let parts = object.required("partitions", PARTITIONS)?;
+        let mode = object.required("mode", ModeForm)?;
+        let lists = lists(alloc, &object, mode, parts, instances)?;
+        let model = &self.models.models.as_slice()[id.0 as usize];
+        let maps = maps(alloc, &object, mode, parts, instances, states, model)?;
+        let resource = Resource {
+            name: names.len(),
+            model: id,
+            ideal: ideal(replicas, parts, mode, lists, maps, instances, model),
+            dropped: false,
+        };
+        names.intern(name.as_str())?;
+        resources.push(resource)?;
+        Ok(ResourceTable { names, resources })
+    }
+}
+
+/// All resources.
+#[derive(Clone, Copy)]
+pub(crate) struct ResourcesForm<'a> {
+    pub(crate) instances: &'a Names,
+    pub(crate) models: &'a ModelTable,
+    ghost few: { AreFew models.now },
+}
+
+impl Form for ResourcesForm<'_> {
+    type Output = ResourceTable;
+
+    ghost found = { λ form d. resources_in form.instances.now form.models.now d };
+
+    fn read(self, alloc: Global, value: &Value) -> Result<ResourceTable, DescRefusal> {
+        let values = array_up_to(alloc, MOST_RESOURCES, value)?;
+        let form = ResourceForm {
+            instances: self.instances,
+            models: self.models,
+        };
+        read_all(alloc, &form, no_resources(alloc), values)
     }
 }

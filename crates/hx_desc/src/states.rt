@@ -67,7 +67,7 @@ pub(crate) fn is_dropped(name: &str) -> bool
 }
 
 /// The place of a name, or the one that it gets as the last.
-fn place_after(names: &Names, name: &str) -> u32
+pub(crate) fn place_after(names: &Names, name: &str) -> u32
     ensures { result ≡ place_after names.now name.now }
 {
     match names.find(name) {
@@ -120,7 +120,7 @@ impl ItemForm for StateForm {
 
     ghost found = { λ _ table d. state_in table d };
 
-    ghost room = { λ _ more table. length table.names + more ≤ 256 };
+    ghost kept = { λ _ more table. length table.names + more ≤ 256 };
 
     fn read_next(
         &self,

@@ -39,9 +39,9 @@ pub fn read_all<F: ItemForm>(
     mut items: F::Items,
     values: &[Value],
 ) -> Result<F::Items, DescRefusal>
-    requires { F.room form.now (length values.now) items }
+    requires { F.kept form.now (length values.now) items }
     ensures read { Reads result (read_all (F.found form.now) items (map view values.now)) }
-    ensures room { IfOk result (F.room form.now 0) }
+    ensures kept { IfOk result (F.kept form.now 0) }
 {
     for (place, value) in values.iter().enumerate() {
         items = match form.read_next(alloc, items, value) {

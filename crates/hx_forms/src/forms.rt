@@ -33,8 +33,8 @@ pub trait ItemForm {
 
     ghost found: { Self → Self.Items → Data → Found Self.Items };
 
-    // What holds of the items where so many more may come.
-    ghost room: { Self → ℕ → Self.Items → Type 0 } = { λ _ _ _. ⊤ };
+    // What holds of the items while so many more may come.
+    ghost kept: { Self → ℕ → Self.Items → Type 0 } = { λ _ _ _. ⊤ };
 
     fn read_next(
         &self,
@@ -42,9 +42,9 @@ pub trait ItemForm {
         items: Self::Items,
         value: &Value,
     ) -> Result<Self::Items, DescRefusal>
-        requires { (more : ℕ) × room self.now (more + 1) items }
+        requires { (more : ℕ) × kept self.now (more + 1) items }
         ensures read { Reads result (found self.now items (view value.now)) }
-        ensures room { (more : ℕ) → room self.now (more + 1) items → IfOk result (room self.now more) };
+        ensures kept { (more : ℕ) → kept self.now (more + 1) items → IfOk result (kept self.now more) };
 }
 
 /// A number of 64 bits from a least to a most.

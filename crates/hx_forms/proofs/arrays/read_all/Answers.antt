@@ -6,4 +6,4 @@ read_next-requires g c =
     let n = length c.args.values.now in
     let more = n - (c.loop-place.place + 1) in
     let one_more : n - c.loop-place.place ≡ more + 1 = omega arith in
-    (more, subst (λ (m : ℕ). g.F.ItemForm.room c.args.form.now m c.loop-place.items) one_more c.loop-place.invariant.room)
+    (more, subst (λ (m : ℕ). g.F.ItemForm.kept c.args.form.now m c.loop-place.items) one_more c.loop-place.invariant.kept)
