@@ -11,6 +11,7 @@ use Rattle.hx_cluster.specs.declared.description.Scope.TheVariants as scopes
 use Rattle.hx_script.specs.declared.What.TheVariants as asks
 use Rattle.hx_script.specs.declared.Line.{Line}
 use Rattle.hx_script.specs.Grammar.{script_of}
+use Rattle.hx_sim.specs.Scripts.{sim_history, summary_of}
 use Rattle.hx_desc.specs.Description.{input_spec}
 use Rattle.hx_genwork.specs.Made.{made, script}
 
@@ -103,3 +104,8 @@ made_description = refl
 pub made_script : script_of (lines_of script) the_spec ≡ Ok (the_lines, the_spec)
 unfolding digits
 made_script = refl
+
+-- its run: each of twelve instances is drained once, and 23 messages are sent
+pub made_run : summary_of (sim_history the_spec the_lines) ≡ codes "= summary sent 23 ok 23 failed 0 sessions 12 ended 0\n"
+unfolding digits
+made_run = refl
