@@ -19,3 +19,4 @@ mod FailedSettle
 mod History
 mod Settling
 mod UnreadableLog
+mod LogLines
