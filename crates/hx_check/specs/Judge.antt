@@ -1,6 +1,6 @@
 -- The judge of logs: an entry is lawful where the cluster answers so, the call is the next of its turn, the proposals are those of the
 -- plan, and the message was fetched. Else the first of these that doesn't hold is the cause.
-use Rattle.std.specs.Prelude.{ℕ, Bool, true, false, not, ◌==◌, ◌&&◌, List, [], ◌∷◌, ◌++◌, length, Option, None, Some, Result, Ok, Err, if◌then◌else◌, codes, decimal}
+use Rattle.std.specs.Prelude.{◌≡◌, ℕ, Bool, true, false, not, ◌==◌, ◌&&◌, List, [], ◌∷◌, ◌++◌, length, Option, None, Some, Result, Ok, Err, if◌then◌else◌, codes, decimal}
 use Rattle.std.specs.List.{list_any}
 use Rattle.std.specs.Cmp.Lexicographic.{pointwise}
 use Rattle.hx_ids.specs.declared.PassNo.{PassNo}
@@ -15,11 +15,15 @@ use Rattle.hx_cluster.specs.declared.happenings.Event.{Event}
 use Rattle.hx_cluster.specs.declared.happenings.Event.TheVariants as events
 use Rattle.hx_cluster.specs.Ends.{part_eq}
 use Rattle.hx_cluster.specs.Messages.{has_id}
+use Rattle.hx_cluster.specs.Steps.{opening}
+use Rattle.hx_cluster.specs.Events.{replay}
+use Rattle.hx_pass.specs.Lawful.{IsLawful}
 use Rattle.hx_pass.specs.Plans.{plan}
 use Rattle.hx_pass.specs.Turns.{Turn, Call, Live, Mail, States, Ideals, Send, Post}
 use Rattle.hx_script.specs.declared.log.LogEntry.{LogEntry}
 use Rattle.hx_script.specs.declared.log.LogLine.{LogLine}
 use Rattle.hx_script.specs.Logs.{log_of}
+use Rattle.hx_script.specs.LogEntries.{entry_told_by}
 use Rattle.hx_check.specs.declared.Cause.{Cause}
 use Rattle.hx_check.specs.declared.Cause.TheVariants as causes
 use Rattle.hx_check.specs.declared.Verdict.{Verdict}
@@ -99,6 +103,10 @@ event_of (Err cause) = None
 
 abbrev pub next_event : Spec → List Event → LogLine → Option Event
 next_event spec h l = event_of (judged_entry spec (standing_of spec h) l.entry)
+
+-- which event that is, in words on histories: the history stays lawful with it, and its text tells the entry
+abbrev pub IsNext : Spec → List Event → LogLine → Event → Type 0
+IsNext spec h l e = IsLawful spec (h ++ e ∷ []) × (entry_told_by (replay (opening spec) h) e ≡ l.entry)
 
 -- a walk along a log: what the history so far leaves, that history, and where it ended by a fault
 pub record Walk : Type 0 where
