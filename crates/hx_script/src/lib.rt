@@ -91,3 +91,6 @@ pub struct Line {
     pub number: u32,
     pub what: What,
 }
+
+#[cfg(test)]
+mod tests;
