@@ -4,3 +4,5 @@ pub mod Inputs
 pub mod Chains
 pub mod Sizes
 pub mod Faultless
+pub mod Sorting
+pub mod Whole

@@ -1,6 +1,8 @@
 //! Failures to come.
-ghost use Rattle.std.specs.Prelude.{◌≡◌};
+ghost use Rattle.std.specs.Prelude.{◌≡◌, [], codes};
 ghost use Rattle.serde_json.specs.View.{view};
+ghost use Rattle.hx_forms.specs.Found.{optional};
+ghost use Rattle.hx_forms.specs.Members.{members_of};
 ghost use Rattle.hx_forms.specs.Reading.{Reads};
 ghost use Rattle.hx_desc.specs.FailureForm.{resource_id_in, part_in, turn_in, turn_of, failure_in, failures_in};
 
@@ -125,9 +127,9 @@ impl ItemForm for FailureForm<'_> {
 
 /// All failures.
 #[derive(Clone, Copy)]
-pub(crate) struct FailuresForm<'a> {
-    pub(crate) instances: &'a Names,
-    pub(crate) table: &'a ResourceTable,
+struct FailuresForm<'a> {
+    instances: &'a Names,
+    table: &'a ResourceTable,
 }
 
 impl Form for FailuresForm<'_> {
@@ -143,4 +145,20 @@ impl Form for FailuresForm<'_> {
         };
         read_all(alloc, &form, Seq::new(alloc), values)
     }
+}
+
+/// The failures of a description, over its instances and resources.
+pub(crate) fn failures(
+    alloc: Global,
+    object: &Object,
+    instances: &Names,
+    table: &ResourceTable,
+) -> Result<Seq<Failure>, DescRefusal>
+    ensures { Reads result (optional (codes "failures") [] (failures_in instances.now table.now) (members_of object.now)) }
+{
+    object.optional(
+        "failures",
+        Seq::new(alloc),
+        FailuresForm { instances, table },
+    )
 }

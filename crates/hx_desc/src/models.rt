@@ -1,8 +1,10 @@
 //! State models.
-ghost use Rattle.std.specs.Prelude.{◌≡◌, ◌*◌, ◌+◌, ◌≤◌, length, option_map, IfOk};
+ghost use Rattle.std.specs.Prelude.{◌≡◌, ◌*◌, ◌+◌, ◌≤◌, length, option_map, codes, IfOk};
 ghost use Rattle.std.specs.List.{list_any};
 ghost use Rattle.serde_json.specs.View.{view};
 ghost use Rattle.hx_model.specs.Model.{is_between};
+ghost use Rattle.hx_forms.specs.Found.{optional};
+ghost use Rattle.hx_forms.specs.Members.{members_of};
 ghost use Rattle.hx_forms.specs.Reading.{Reads};
 ghost use Rattle.hx_desc.specs.Faultless.{AreFew};
 ghost use Rattle.hx_desc.specs.ModelForm.{built_in, ends_of, source_of, target_of, initial_in, transition_in, transitions_in, kind_of, model_in, models_in};
@@ -244,7 +246,7 @@ impl ItemForm for ModelForm {
 
 /// The models of a description, behind the built-in ones.
 #[derive(Clone, Copy)]
-pub(crate) struct ModelsForm;
+struct ModelsForm;
 
 impl Form for ModelsForm {
     type Output = ModelTable;
@@ -257,4 +259,12 @@ impl Form for ModelsForm {
         let values = array_up_to(alloc, MOST_MODELS, value)?;
         read_all(alloc, &ModelForm, built_in(alloc)?, values)
     }
+}
+
+/// The models of a description, with the built-in ones.
+pub(crate) fn models(alloc: Global, object: &Object) -> Result<ModelTable, DescRefusal>
+    ensures read { Reads result (optional (codes "models") built_in models_in (members_of object.now)) }
+    ensures few { IfOk result AreFew }
+{
+    object.optional("models", built_in(alloc)?, ModelsForm)
 }

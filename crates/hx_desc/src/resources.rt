@@ -1,7 +1,9 @@
 //! Resources.
-ghost use Rattle.std.specs.Prelude.{◌≡◌, ◌+◌, ◌<◌, ◌≤◌, [], length};
+ghost use Rattle.std.specs.Prelude.{◌≡◌, ◌+◌, ◌<◌, ◌≤◌, [], length, codes};
 ghost use Rattle.hx_cluster.specs.Ends.{parts_of as parts_of_in};
 ghost use Rattle.serde_json.specs.View.{view};
+ghost use Rattle.hx_forms.specs.Found.{optional};
+ghost use Rattle.hx_forms.specs.Members.{members_of};
 ghost use Rattle.hx_forms.specs.Reading.{Reads};
 ghost use Rattle.hx_desc.specs.Faultless.{AreFew};
 ghost use Rattle.hx_desc.specs.ResourceForm.{instance_in, model_id_in, resource_in, resources_in};
@@ -45,7 +47,7 @@ impl Form for InstanceForm<'_> {
 }
 
 /// A table without resources.
-pub(crate) fn no_resources(alloc: Global) -> ResourceTable
+fn no_resources(alloc: Global) -> ResourceTable
     ensures { result ≡ record { names = []; resources = [] } }
 {
     ResourceTable {
@@ -145,9 +147,9 @@ impl ItemForm for ResourceForm<'_> {
 
 /// All resources.
 #[derive(Clone, Copy)]
-pub(crate) struct ResourcesForm<'a> {
-    pub(crate) instances: &'a Names,
-    pub(crate) models: &'a ModelTable,
+struct ResourcesForm<'a> {
+    instances: &'a Names,
+    models: &'a ModelTable,
     ghost few: { AreFew models.now },
 }
 
@@ -164,4 +166,21 @@ impl Form for ResourcesForm<'_> {
         };
         read_all(alloc, &form, no_resources(alloc), values)
     }
+}
+
+/// The resources of a description, over its instances and models.
+pub(crate) fn resources(
+    alloc: Global,
+    object: &Object,
+    instances: &Names,
+    models: &ModelTable,
+) -> Result<ResourceTable, DescRefusal>
+    requires { AreFew models.now }
+    ensures { Reads result (optional (codes "resources") (record { names = []; resources = [] }) (resources_in instances.now models.now) (members_of object.now)) }
+{
+    object.optional(
+        "resources",
+        no_resources(alloc),
+        ResourcesForm { instances, models },
+    )
 }

@@ -1,6 +1,8 @@
 //! Throttle rules.
-ghost use Rattle.std.specs.Prelude.{◌≡◌, ◌≤◌, length};
+ghost use Rattle.std.specs.Prelude.{◌≡◌, ◌≤◌, [], length, codes};
 ghost use Rattle.serde_json.specs.View.{view};
+ghost use Rattle.hx_forms.specs.Found.{optional};
+ghost use Rattle.hx_forms.specs.Members.{members_of};
 ghost use Rattle.hx_forms.specs.Reading.{Reads};
 ghost use Rattle.hx_desc.specs.RuleForm.{scope_in, end_in, transition_of, rule_in, rules_in};
 
@@ -119,8 +121,8 @@ impl ItemForm for RuleForm<'_> {
 
 /// All rules.
 #[derive(Clone, Copy)]
-pub(crate) struct RulesForm<'a> {
-    pub(crate) states: &'a Names,
+struct RulesForm<'a> {
+    states: &'a Names,
     ghost few: { length states.now ≤ 256 },
 }
 
@@ -136,4 +138,16 @@ impl Form for RulesForm<'_> {
         };
         read_all(alloc, &form, Seq::new(alloc), values)
     }
+}
+
+/// The throttle rules of a description, over the names of all states.
+pub(crate) fn rules(
+    alloc: Global,
+    object: &Object,
+    states: &Names,
+) -> Result<Seq<Rule>, DescRefusal>
+    requires { length states.now ≤ 256 }
+    ensures { Reads result (optional (codes "throttles") [] (rules_in states.now) (members_of object.now)) }
+{
+    object.optional("throttles", Seq::new(alloc), RulesForm { states })
 }

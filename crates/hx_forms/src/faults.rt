@@ -102,6 +102,16 @@ impl Path {
         })
     }
 
+    /// The path from the whole description, which the value is.
+    fn in_description(&self, alloc: Global) -> Result<Path, AllocError>
+        ensures { IfOk result (λ path. path ≡ codes "$" ++ self.now) }
+    {
+        let inner = self.as_str();
+        Ok(Path {
+            text: format!(in alloc; "${inner}")?,
+        })
+    }
+
     /// The text.
     pub fn as_str(&self) -> &str
         ensures { result.now ≡ self.now }
@@ -163,6 +173,22 @@ impl DescRefusal {
             return DescRefusal::OutOfMemory;
         };
         match fault.path.in_member(alloc, name) {
+            Ok(path) => DescRefusal::Fault(DescFault {
+                kind: fault.kind,
+                path,
+            }),
+            Err(_) => DescRefusal::OutOfMemory,
+        }
+    }
+
+    /// The refusal of a whole description, which this one's value is.
+    pub fn in_description(self, alloc: Global) -> DescRefusal
+        ensures { IsWithin (codes "$") self result }
+    {
+        let DescRefusal::Fault(fault) = self else {
+            return DescRefusal::OutOfMemory;
+        };
+        match fault.path.in_description(alloc) {
             Ok(path) => DescRefusal::Fault(DescFault {
                 kind: fault.kind,
                 path,

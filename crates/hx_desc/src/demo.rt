@@ -1,0 +1,71 @@
+//! The demo, which one line stands for.
+ghost use Rattle.std.specs.Prelude.{◌≡◌, [], ◌∷◌, IfOk};
+ghost use Rattle.hx_ideal.specs.declared.Mode.TheVariants.{Semi};
+ghost use Rattle.hx_desc.specs.Demo.{demo, instances_of};
+
+use crate::models::built_in;
+use hx_cluster::{Resource, Spec};
+use hx_ideal::{Ideal, Mode};
+use hx_ids::{InstanceId, ModelId, Names};
+use hx_lists::Seq;
+use std::alloc::{AllocError, Global};
+
+/// A list of three instances.
+fn list(alloc: Global, first: u32, second: u32, third: u32) -> Result<Seq<InstanceId>, AllocError>
+    ensures { IfOk result (λ list. list ≡ instances_of (first ∷ second ∷ third ∷ [])) }
+{
+    let mut list = Seq::new(alloc);
+    list.push(InstanceId(first))?;
+    list.push(InstanceId(second))?;
+    list.push(InstanceId(third))?;
+    Ok(list)
+}
+
+/// Two partitions of two replicas, on three instances.
+fn ideal(alloc: Global) -> Result<Ideal, AllocError>
+    ensures { IfOk result (λ ideal. ideal ≡ record { replicas = 2; parts = 2; mode = Semi (instances_of (0 ∷ 1 ∷ 2 ∷ []) ∷ instances_of (1 ∷ 2 ∷ 0 ∷ []) ∷ []) }) }
+{
+    let mut lists = Seq::new(alloc);
+    lists.push(list(alloc, 0, 1, 2)?)?;
+    lists.push(list(alloc, 1, 2, 0)?)?;
+    Ok(Ideal::check(2, 2, Mode::Semi(lists), 3, &[]).unwrap())
+}
+
+/// Names of three instances.
+fn instances(alloc: Global) -> Result<Names, AllocError>
+    ensures { IfOk result (λ names. names ≡ demo.instances) }
+{
+    let mut names = Names::new(alloc);
+    names.intern("n1")?;
+    names.intern("n2")?;
+    names.intern("n3")?;
+    Ok(names)
+}
+
+/// The description of the demo.
+pub(crate) fn demo(alloc: Global) -> Result<Spec, AllocError>
+    ensures { IfOk result (λ spec. spec ≡ demo) }
+{
+    let models = built_in(alloc)?;
+    let mut resource_names = Names::new(alloc);
+    resource_names.intern("db")?;
+    let mut resources = Seq::new(alloc);
+    resources.push(Resource {
+        name: 0,
+        model: ModelId(1),
+        ideal: ideal(alloc)?,
+        dropped: false,
+    })?;
+    Ok(Spec {
+        instances: instances(alloc)?,
+        states: models.states,
+        resource_names,
+        model_names: models.names,
+        models: models.models,
+        controllers: 2,
+        timeout: 30,
+        rules: Seq::new(alloc),
+        resources,
+        failures: Seq::new(alloc),
+    })
+}
