@@ -10,3 +10,6 @@ pub use passes::{begin, publish, raise_pass};
 pub use proposals::{dispatch, dispatch_on, place_all_on, place_on};
 pub use reads::{fetch, read_ideals, read_live, read_mail, read_states};
 pub use runs::{ack, take, write, write_on};
+
+#[cfg(test)]
+mod tests;
