@@ -29,3 +29,6 @@ pub use planning::{
 pub use readers::{message_on, state_on};
 pub use refusals::{MOST_RESOURCES, is_flag_of, refuses_on};
 pub use state::{Cluster, Message, Row};
+
+#[cfg(test)]
+mod tests;
