@@ -58,3 +58,6 @@ pub enum Note {
     NoJob,
     SessionEnded,
 }
+
+#[cfg(test)]
+mod tests;
