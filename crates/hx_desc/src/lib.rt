@@ -15,3 +15,6 @@ mod tables;
 
 pub use hx_forms::{DescFault, DescKind, DescRefusal, Path};
 pub use reading::read;
+
+#[cfg(test)]
+mod tests;
