@@ -3,6 +3,7 @@ pub mod EachFault
 pub mod Inputs
 pub mod Chains
 pub mod Sizes
+pub mod Few
 pub mod Faultless
 pub mod Sorting
 pub mod Whole
