@@ -1,29 +1,42 @@
--- The status and the text that answer an input.
-use Rattle.std.specs.Prelude.{ℕ, List, ◌++◌, Option, None, Some, codes, decimal}
+-- The status and the text that answer words and an input.
+use Rattle.std.specs.Prelude.{ℕ, List, ◌++◌, Result, Ok, Err, codes, decimal}
 use Rattle.hx_cluster.specs.Steps.{opening}
-use Rattle.hx_text.specs.Lines.{lines_of}
-use Rattle.hx_app.specs.Demo.{demo}
+use Rattle.hx_words.specs.Usage.{usage_text, version_text}
 use Rattle.hx_app.specs.FirstPath.{script_text}
-use Rattle.hx_app.specs.Input.{demo_script, refused_from, lines_from}
+use Rattle.hx_app.specs.KindNames.{desc_kind_name, script_kind_name}
+use Rattle.hx_app.specs.declared.input.Scenario.{Scenario}
+use Rattle.hx_app.specs.declared.input.NotBuilt.TheVariants as unbuilt
+use Rattle.hx_app.specs.declared.input.InputFault.{InputFault}
+use Rattle.hx_app.specs.declared.input.InputFault.TheVariants as faults
+use Rattle.hx_app.specs.Input.{scenario_of}
 
 pub record Answer : Type 0 where
   pub status : ℕ
   pub text : List ℕ
 
--- a line that isn't done so far is named; else all are done
-abbrev pub refused_or : Option ℕ → List (List ℕ) → Answer
-refused_or None lines = record { status = 0; text = script_text demo (opening demo) (lines_from 1 lines) }
-refused_or (Some n) lines = record { status = 4; text = codes "script " ++ decimal n ++ codes " not-built\n" }
+-- an input that isn't run
+abbrev pub fault_answer : InputFault → Answer
+fault_answer (faults.Description f) = record { status = 3; text = codes "description " ++ desc_kind_name f.kind ++ codes " " ++ f.path ++ codes "\n" }
+fault_answer (faults.Script f) = record { status = 4; text = codes "script " ++ decimal f.line ++ codes " " ++ script_kind_name f.kind ++ codes "\n" }
+fault_answer (faults.NotBuilt unbuilt.Description) = record { status = 3; text = codes "description not-built $\n" }
+fault_answer (faults.NotBuilt (unbuilt.Line n)) = record { status = 4; text = codes "script " ++ decimal n ++ codes " not-built\n" }
 
-abbrev pub script_answer : Option (List ℕ) → Answer
-script_answer None = record { status = 3; text = codes "description not-built $\n" }
-script_answer (Some script) = refused_or (refused_from 1 (lines_of script)) (lines_of script)
+-- one that is
+abbrev pub answer_by : Result Scenario InputFault → Answer
+answer_by (Ok s) = record { status = 0; text = script_text s.spec (opening s.spec) s.lines }
+answer_by (Err f) = fault_answer f
 
 -- the answer to an input that was read
 abbrev pub answer_of : List ℕ → Answer
-answer_of bytes = script_answer (demo_script bytes)
+answer_of bytes = answer_by (scenario_of bytes)
 
 -- the other answers
+abbrev pub usage : Answer
+usage = record { status = 0; text = usage_text }
+
+abbrev pub version : Answer
+version = record { status = 0; text = version_text }
+
 abbrev pub words_refused : Answer
 words_refused = record { status = 2; text = codes "words refused\n" }
 

@@ -1,20 +1,24 @@
 -- What happens in the run of a script, and that it is safe.
-use Rattle.std.specs.Prelude.{ℕ, List}
+use Rattle.std.specs.Prelude.{ℕ, List, IfOk}
+use Rattle.hx_cluster.specs.declared.description.Spec.{Spec}
 use Rattle.hx_cluster.specs.declared.happenings.Event.{Event}
 use Rattle.hx_cluster.specs.Steps.{opening}
 use Rattle.hx_cluster.specs.Events.{IsLegal}
 use Rattle.hx_cluster.specs.Safe.{SafeAlong}
-use Rattle.hx_text.specs.Lines.{lines_of}
-use Rattle.hx_app.specs.Demo.{demo}
+use Rattle.hx_app.specs.declared.input.Scenario.{Scenario}
 use Rattle.hx_app.specs.FirstPath.{script_events}
-use Rattle.hx_app.specs.Input.{lines_from}
+use Rattle.hx_app.specs.Input.{scenario_of}
 
 -- the events of a script's lines, in order
-abbrev pub history_of : List ℕ → List Event
-history_of script = script_events demo (opening demo) (lines_from 1 (lines_of script))
+abbrev pub history_of : Scenario → List Event
+history_of s = script_events s.spec (opening s.spec) s.lines
 
 -- each event may happen where it stands, and each cluster is safe, before the first event and after each: its bounds and throttles
 -- are kept, and its messages, rows and sessions are well formed
-pub record IsSafeHistory (h : List Event) : Type 0 where
-  pub legal : IsLegal (opening demo) h
-  pub safe : SafeAlong (opening demo) h
+pub record IsSafeHistory (spec : Spec) (h : List Event) : Type 0 where
+  pub legal : IsLegal (opening spec) h
+  pub safe : SafeAlong (opening spec) h
+
+-- what happens in the run of an input
+abbrev pub IsSafeRun : List ℕ → Type 0
+IsSafeRun bytes = IfOk (scenario_of bytes) (λ s. IsSafeHistory s.spec (history_of s))

@@ -2,6 +2,7 @@ pub mod Demo
 pub mod DemoPlan
 pub mod FirstPath
 pub mod Input
+pub mod KindNames
 pub mod History
 pub mod Answers
 pub mod Runs

@@ -1,10 +1,13 @@
 -- What a run promises: for each status when it comes, and what was written.
-use Rattle.std.specs.Prelude.{◌≡◌, ◌⊎◌, ℕ, ◌<◌, ◌≤◌, Bool, true, ◌==◌, ◌||◌, List, length, take, Option, IfSome}
+use Rattle.std.specs.Prelude.{◌≡◌, ◌⊎◌, ℕ, ◌<◌, ◌≤◌, Bool, true, ◌==◌, ◌||◌, List, length, take, Option, IfSome, Result, Ok, Err}
 use Rattle.std.specs.Io.KnownBytes.{Appends, IsAtEnd}
 use Rattle.hx_io.specs.Faults.{Rose}
-use Rattle.hx_app.specs.Input.{demo_script}
-use Rattle.hx_app.specs.History.{history_of, IsSafeHistory}
-use Rattle.hx_app.specs.Answers.{answer_of, words_refused, read_fault, too_long}
+use Rattle.hx_words.specs.declared.Words.{Words}
+use Rattle.hx_words.specs.declared.Words.TheVariants as asks
+use Rattle.hx_words.specs.declared.WordsFault.{WordsFault}
+use Rattle.hx_words.specs.declared.WordsFault.TheVariants as faults
+use Rattle.hx_app.specs.History.{IsSafeRun}
+use Rattle.hx_app.specs.Answers.{Answer, answer_of, usage, version, words_refused, read_fault, too_long}
 
 -- the most bytes that are read
 abbrev pub most_bytes : ℕ
@@ -23,10 +26,6 @@ pub record IsAnswered (old new : Ends) (status : ℕ) (bytes : List ℕ) : Type 
   pub answers : (answer_of bytes).status ≡ status
   pub text : Appends old.got new.got (answer_of bytes).text
   pub end : IsAtEnd new.left
-
--- what happened in the run of an input is legal, and safe before and after each event
-abbrev pub IsSafeRun : List ℕ → Type 0
-IsSafeRun bytes = IfSome (demo_script bytes) (λ script. IsSafeHistory (history_of script))
 
 -- the text that a run may have to write: of its input, or of a source that failed, or of an input that is too long
 abbrev pub IsDefined : Ends → Ends → List ℕ → Type 0
@@ -54,11 +53,20 @@ pub record Runs (old new : Ends) (status : ℕ) : Type 0 where
   pub source_later : old.source_faults ≤ new.source_faults
   pub sink_later : old.sink_faults ≤ new.sink_faults
 
--- words that are refused: nothing is read
-pub record RefusesWords (old new : Ends) (status : ℕ) : Type 0 where
-  pub known : ((status == 2) || (status == 6)) ≡ true
-  pub refused : status ≡ 2 → Appends old.got new.got words_refused.text
-  pub write_fault : status ≡ 6 → Rose old.sink_faults new.sink_faults × WroteFront old new words_refused.text
+-- an answer to the words alone: nothing is read
+pub record Tells (answer : Answer) (old new : Ends) (status : ℕ) : Type 0 where
+  pub known : ((status == answer.status) || (status == 6) || (status == 7)) ≡ true
+  pub whole : status ≡ answer.status → Appends old.got new.got answer.text
+  pub write_fault : status ≡ 6 → Rose old.sink_faults new.sink_faults × WroteFront old new answer.text
+  pub no_memory : status ≡ 7 → new.got ≡ old.got
   pub left : new.left ≡ old.left
   pub source : new.source_faults ≡ old.source_faults
   pub sink_later : old.sink_faults ≤ new.sink_faults
+
+-- what the words ask for is done. For want of memory nothing is read or written
+abbrev pub RunsWords : Ends → Ends → ℕ → Result Words WordsFault → Type 0
+RunsWords old new status (Ok (asks.Run task)) = Runs old new status
+RunsWords old new status (Ok asks.Help) = Tells usage old new status
+RunsWords old new status (Ok asks.Version) = Tells version old new status
+RunsWords old new status (Err faults.Refused) = Tells words_refused old new status
+RunsWords old new status (Err faults.OutOfMemory) = (status ≡ 7) × (new ≡ old)

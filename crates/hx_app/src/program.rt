@@ -1,42 +1,22 @@
 //! The run of the program: it reads a description and a script, and writes what comes of them.
-ghost use Rattle.std.specs.Prelude.{◌≡◌, ◌<◌, ◌≤◌, length, Some, IfOk};
-ghost use Rattle.hx_app.specs.Answers.{answer_of, script_answer as script_answer_of};
-ghost use Rattle.hx_app.specs.Runs.{Runs, RefusesWords};
+ghost use Rattle.std.specs.Prelude.{◌≡◌, ◌<◌, ◌≤◌, length, map, IfOk};
+ghost use Rattle.std.specs.String.{string_bytes};
+ghost use Rattle.hx_words.specs.Tasks.{HasRanges, asked_by};
+ghost use Rattle.hx_app.specs.Answers.{fault_answer, answer_of};
+ghost use Rattle.hx_app.specs.Runs.{Runs, RunsWords};
 ghost use Rattle.hx_app.specs.Writes.{Writes, AnswersAs};
 
-use crate::input::{Refused, demo_script, script_lines};
+use crate::input::{InputFault, InputRefusal, NotBuilt, read_scenario};
+use crate::kind_names::{desc_kind_name, script_kind_name};
 use crate::script::script_page;
+use hx_desc::DescFault;
 use hx_io::{ReadFault, Sink, Source, read_all, write_all};
+use hx_script::ScriptFault;
 use hx_text::{Page, Piece};
+use hx_words::{Task, Words, WordsFault, read_words, usage, version};
 use std::alloc::{AllocError, Global};
 use std::sync::Wait;
 use std::thread::Threads;
-
-/// What a run does with its input.
-#[derive(Clone, Copy, Debug, PartialEq, Eq)]
-pub enum RunMode {
-    /// It does a script, and prints what comes of each line.
-    Sim,
-    /// It does a script on threads, and prints the log.
-    Live,
-    /// It judges a log.
-    Check,
-    /// It does a script of its own making, and prints the summary.
-    Gen,
-}
-
-/// What a run is asked for.
-#[derive(Clone, Copy, Debug, PartialEq, Eq)]
-pub struct Task {
-    pub mode: RunMode,
-    /// How many lanes run jobs, from 1 to 16.
-    pub lanes: u32,
-    /// How many rounds are done on threads, up to 1,000.
-    pub rounds: u32,
-    pub seed: u64,
-    /// How many partitions a made input has, from 1 to 256.
-    pub size: u32,
-}
 
 /// How a run ended: 0 where its work was done.
 #[derive(Clone, Copy, Debug, PartialEq, Eq)]
@@ -45,6 +25,11 @@ pub struct Status(pub u8);
 /// The most bytes that are read.
 const MOST_BYTES: usize = 16_777_216;
 
+/// The status of an input whose description isn't run, and of one whose script isn't.
+const DESCRIPTION_REFUSED: u8 = 3;
+
+const SCRIPT_REFUSED: u8 = 4;
+
 /// A status with its text.
 #[derive(Drop)]
 struct Reply {
@@ -52,39 +37,89 @@ struct Reply {
     text: Page,
 }
 
-/// The answer of a script that names a line, or of one that is done.
-fn script_answer(alloc: Global, script: &[u8]) -> Result<Reply, AllocError>
-    ensures { IfOk result (AnswersAs (script_answer_of (Some script.now))) }
+/// The answer to an input that isn't run.
+fn refused(alloc: Global, fault: &InputFault) -> Result<Reply, AllocError>
+    ensures { IfOk result (AnswersAs (fault_answer fault.now)) }
 {
-    match script_lines(alloc, script) {
-        Ok(lines) => Ok(Reply {
-            status: 0,
-            text: script_page(alloc, &lines)?,
-        }),
-        Err(Refused::NotBuilt(line)) => {
-            let mut text = Page::new(alloc);
+    match fault {
+        InputFault::Description(fault) => description_refused(alloc, fault),
+        InputFault::Script(fault) => script_refused(alloc, fault),
+        InputFault::NotBuilt(part) => not_built(alloc, *part),
+    }
+}
+
+fn description_refused(alloc: Global, fault: &DescFault) -> Result<Reply, AllocError>
+    ensures { IfOk result (AnswersAs (fault_answer (InputFault.Description fault.now))) }
+{
+    let mut text = Page::new(alloc);
+    text.push_all(&[
+        Piece::Text("description "),
+        Piece::Text(desc_kind_name(fault.kind)),
+        Piece::Text(" "),
+        Piece::Text(fault.path.as_str()),
+        Piece::Text("\n"),
+    ])?;
+    Ok(Reply {
+        status: DESCRIPTION_REFUSED,
+        text,
+    })
+}
+
+fn script_refused(alloc: Global, fault: &ScriptFault) -> Result<Reply, AllocError>
+    ensures { IfOk result (AnswersAs (fault_answer (InputFault.Script fault.now))) }
+{
+    let mut text = Page::new(alloc);
+    text.push_all(&[
+        Piece::Text("script "),
+        Piece::Number(fault.line as u64),
+        Piece::Text(" "),
+        Piece::Text(script_kind_name(fault.kind)),
+        Piece::Text("\n"),
+    ])?;
+    Ok(Reply {
+        status: SCRIPT_REFUSED,
+        text,
+    })
+}
+
+fn not_built(alloc: Global, part: NotBuilt) -> Result<Reply, AllocError>
+    ensures { IfOk result (AnswersAs (fault_answer (InputFault.NotBuilt part))) }
+{
+    let mut text = Page::new(alloc);
+    match part {
+        NotBuilt::Description => {
+            text.push_str("description not-built $\n")?;
+            Ok(Reply {
+                status: DESCRIPTION_REFUSED,
+                text,
+            })
+        }
+        NotBuilt::Line(line) => {
             text.push_all(&[
                 Piece::Text("script "),
                 Piece::Number(line as u64),
                 Piece::Text(" not-built\n"),
             ])?;
-            Ok(Reply { status: 4, text })
+            Ok(Reply {
+                status: SCRIPT_REFUSED,
+                text,
+            })
         }
-        Err(Refused::OutOfMemory) => Err(AllocError),
     }
 }
 
 /// The answer to an input.
 fn answer(alloc: Global, bytes: &[u8]) -> Result<Reply, AllocError>
+    requires { length bytes.now ≤ 16777216 }
     ensures { IfOk result (AnswersAs (answer_of bytes.now)) }
 {
-    match demo_script(bytes) {
-        Some(script) => script_answer(alloc, script),
-        None => {
-            let mut text = Page::new(alloc);
-            text.push_str("description not-built $\n")?;
-            Ok(Reply { status: 3, text })
-        }
+    match read_scenario(alloc, bytes) {
+        Ok(scenario) => Ok(Reply {
+            status: 0,
+            text: script_page(alloc, &scenario.spec, scenario.lines.as_slice())?,
+        }),
+        Err(InputRefusal::Fault(fault)) => refused(alloc, &fault),
+        Err(InputRefusal::OutOfMemory) => Err(AllocError),
     }
 }
 
@@ -99,13 +134,8 @@ fn write<K: Sink>(status: u8, text: &[u8], out: &mut K) -> Status
 }
 
 /// Does a script.
-///
-/// It needs a mode that is built: so far that is `Sim`.
 pub fn run_script<S: Source, K: Sink>(alloc: Global, task: Task, src: &mut S, out: &mut K) -> Status
-    requires mode { task.mode ≡ RunMode.Sim }
-    requires lanes { (1 ≤ task.lanes) × (task.lanes ≤ 16) }
-    requires rounds { task.rounds ≤ 1000 }
-    requires size { (1 ≤ task.size) × (task.size ≤ 256) }
+    requires { HasRanges task }
     ensures { Runs
         (record { left = S.left src.old; got = K.got out.old; source_faults = S.faults src.old; sink_faults = K.faults out.old })
         (record { left = S.left src.new; got = K.got out.new; source_faults = S.faults src.new; sink_faults = K.faults out.new })
@@ -126,7 +156,7 @@ pub fn run_script<S: Source, K: Sink>(alloc: Global, task: Task, src: &mut S, ou
 
 /// Runs the program on its words, of which the first is its name.
 ///
-/// So far it takes no word behind its name, and uses nothing of the runtime.
+/// So far it uses nothing of the runtime.
 pub fn run<R: Threads + Wait + Sync, S: Source, K: Sink>(
     rt: &R,
     alloc: Global,
@@ -135,25 +165,18 @@ pub fn run<R: Threads + Wait + Sync, S: Source, K: Sink>(
     out: &mut K,
 ) -> Status
     requires { 0 < length words.now }
-    ensures script { length words.now ≡ 1 → Runs
+    ensures { RunsWords
         (record { left = S.left src.old; got = K.got out.old; source_faults = S.faults src.old; sink_faults = K.faults out.old })
         (record { left = S.left src.new; got = K.got out.new; source_faults = S.faults src.new; sink_faults = K.faults out.new })
-        result.0 }
-    ensures words { 1 < length words.now → RefusesWords
-        (record { left = S.left src.old; got = K.got out.old; source_faults = S.faults src.old; sink_faults = K.faults out.old })
-        (record { left = S.left src.new; got = K.got out.new; source_faults = S.faults src.new; sink_faults = K.faults out.new })
-        result.0 }
+        result.0
+        (asked_by (map string_bytes words.now)) }
 {
     let _ = rt;
-    if words.len() > 1 {
-        return write(2, b"words refused\n", out);
+    match read_words(alloc, words) {
+        Ok(Words::Run(task)) => run_script(alloc, task, src, out),
+        Ok(Words::Help) => write(0, usage().as_bytes(), out),
+        Ok(Words::Version) => write(0, version().as_bytes(), out),
+        Err(WordsFault::Refused) => write(2, b"words refused\n", out),
+        Err(WordsFault::OutOfMemory) => Status(7),
     }
-    let task = Task {
-        mode: RunMode::Sim,
-        lanes: 4,
-        rounds: 10,
-        seed: 1,
-        size: 64,
-    };
-    run_script(alloc, task, src, out)
 }

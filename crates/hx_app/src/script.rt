@@ -6,7 +6,6 @@ ghost use Rattle.hx_app.specs.Brings.{Brings};
 ghost use Rattle.hx_app.specs.Demo.{built_in, demo};
 ghost use Rattle.hx_app.specs.FirstPath.{what_items, line_items, script_text};
 
-use crate::demo::make_demo;
 use crate::demo_plan::{hops_of, part_at};
 use crate::world::{join, lead, pass, print, work};
 use hx_cluster::{Cluster, Event, Spec};
@@ -112,16 +111,16 @@ fn line(
 }
 
 /// Does a script on the demo, and prints it.
-pub(crate) fn script_page(alloc: Global, lines: &[Line]) -> Result<Page, AllocError>
-    ensures { IfOk result (λ page. page ≡ script_text demo (opening demo) lines.now) }
+pub(crate) fn script_page(alloc: Global, spec: &Spec, lines: &[Line]) -> Result<Page, AllocError>
+    requires { spec.now ≡ demo }
+    ensures { IfOk result (λ page. page ≡ script_text spec.now (opening spec.now) lines.now) }
 {
-    let spec = make_demo(alloc)?;
     let hops = hops_of(alloc, spec.models.as_slice())?;
-    let mut cluster = Cluster::at_opening(alloc, &spec)?;
+    let mut cluster = Cluster::at_opening(alloc, spec)?;
     let mut page = Page::new(alloc);
     for next in lines {
-        line(alloc, &spec, &hops, &mut cluster, next, &mut page)?;
+        line(alloc, spec, &hops, &mut cluster, next, &mut page)?;
     }
-    view(alloc, &spec, &cluster, &mut page)?;
+    view(alloc, spec, &cluster, &mut page)?;
     Ok(page)
 }

@@ -8,5 +8,5 @@ use Rattle.hx_app.proofs.script.script_page.Given as goal
 abbrev pub invariant-loop-next : goal.invariant-loop-next
 invariant-loop-next l = record {
   resources : l.cluster.resources ≡ demo.resources;
-  text : l.page ++ script_text demo l.cluster (drop l.next-index l.lines) ≡ script_text demo (opening demo) l.lines;
+  text : l.page ++ script_text l.spec l.cluster (drop l.next-index l.lines) ≡ script_text l.spec (opening l.spec) l.lines;
 }

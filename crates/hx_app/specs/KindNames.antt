@@ -1,0 +1,57 @@
+-- How the faults of descriptions and scripts are named.
+use Rattle.std.specs.Prelude.{ℕ, List, codes}
+use Rattle.hx_script.specs.declared.faults.ScriptKind.{ScriptKind}
+use Rattle.hx_script.specs.declared.faults.ScriptKind.TheVariants as scripts
+use Rattle.hx_forms.specs.declared.faults.DescKind.{DescKind}
+use Rattle.hx_forms.specs.declared.faults.DescKind.TheVariants as kinds
+
+abbrev pub desc_kind_name : DescKind → List ℕ
+desc_kind_name kinds.NoSeparator = codes "no-separator"
+desc_kind_name kinds.BadJson = codes "bad-json"
+desc_kind_name kinds.Missing = codes "missing"
+desc_kind_name kinds.WrongType = codes "wrong-type"
+desc_kind_name kinds.UnknownKey = codes "unknown-key"
+desc_kind_name kinds.TooMany = codes "too-many"
+desc_kind_name kinds.TooFew = codes "too-few"
+desc_kind_name kinds.OutOfRange = codes "out-of-range"
+desc_kind_name kinds.BadName = codes "bad-name"
+desc_kind_name kinds.Twice = codes "twice"
+desc_kind_name kinds.BadBound = codes "bad-bound"
+desc_kind_name kinds.ZeroBound = codes "zero-bound"
+desc_kind_name kinds.ReservedState = codes "reserved-state"
+desc_kind_name kinds.BadTransition = codes "bad-transition"
+desc_kind_name kinds.UnknownState = codes "unknown-state"
+desc_kind_name kinds.UnknownModel = codes "unknown-model"
+desc_kind_name kinds.UnknownInstance = codes "unknown-instance"
+desc_kind_name kinds.UnknownResource = codes "unknown-resource"
+desc_kind_name kinds.SelfLoop = codes "self-loop"
+desc_kind_name kinds.TwiceTransition = codes "twice-transition"
+desc_kind_name kinds.InitialBounded = codes "initial-bounded"
+desc_kind_name kinds.NoDrop = codes "no-drop"
+desc_kind_name kinds.CantReach = codes "cant-reach"
+desc_kind_name kinds.CantLeave = codes "cant-leave"
+desc_kind_name kinds.BadScope = codes "bad-scope"
+desc_kind_name kinds.BadMode = codes "bad-mode"
+desc_kind_name kinds.HalfTransition = codes "half-transition"
+desc_kind_name kinds.WrongMode = codes "wrong-mode"
+desc_kind_name kinds.PartCount = codes "part-count"
+desc_kind_name kinds.TwiceInList = codes "twice-in-list"
+desc_kind_name kinds.NoPart = codes "no-part"
+desc_kind_name kinds.RunOrMake = codes "run-or-make"
+
+abbrev pub script_kind_name : ScriptKind → List ℕ
+script_kind_name scripts.NotUtf8 = codes "not-utf8"
+script_kind_name scripts.LineTooLong = codes "line-too-long"
+script_kind_name scripts.UnknownWord = codes "unknown-word"
+script_kind_name scripts.WordCount = codes "word-count"
+script_kind_name scripts.UnknownInstance = codes "unknown-instance"
+script_kind_name scripts.UnknownController = codes "unknown-controller"
+script_kind_name scripts.UnknownResource = codes "unknown-resource"
+script_kind_name scripts.UnknownModel = codes "unknown-model"
+script_kind_name scripts.UnknownState = codes "unknown-state"
+script_kind_name scripts.BadName = codes "bad-name"
+script_kind_name scripts.BadNumber = codes "bad-number"
+script_kind_name scripts.BadMessage = codes "bad-message"
+script_kind_name scripts.BadMode = codes "bad-mode"
+script_kind_name scripts.BadPair = codes "bad-pair"
+script_kind_name scripts.BadKind = codes "bad-kind"
