@@ -1,7 +1,7 @@
 //! The run of the program: it reads a description and a script, and writes what comes of them.
 ghost use Rattle.std.specs.Prelude.{◌≡◌, ◌<◌, ◌≤◌, length, map, IfOk};
 ghost use Rattle.std.specs.String.{string_bytes};
-ghost use Rattle.hx_words.specs.Tasks.{HasRanges, asked_by};
+ghost use Rattle.hx_words.specs.Tasks.{HasRanges, HoldsOfAsked};
 ghost use Rattle.hx_app.specs.Answers.{fault_answer, answer_of};
 ghost use Rattle.hx_app.specs.Runs.{Runs, RunsWords};
 ghost use Rattle.hx_app.specs.Writes.{Writes, AnswersAs};
@@ -165,11 +165,10 @@ pub fn run<R: Threads + Wait + Sync, S: Source, K: Sink>(
     out: &mut K,
 ) -> Status
     requires { 0 < length words.now }
-    ensures { RunsWords
+    ensures { HoldsOfAsked (map string_bytes words.now) (RunsWords
         (record { left = S.left src.old; got = K.got out.old; source_faults = S.faults src.old; sink_faults = K.faults out.old })
         (record { left = S.left src.new; got = K.got out.new; source_faults = S.faults src.new; sink_faults = K.faults out.new })
-        result.0
-        (asked_by (map string_bytes words.now)) }
+        result.0) }
 {
     let _ = rt;
     match read_words(alloc, words) {

@@ -188,11 +188,12 @@ level_one s leaf words has_subcommand below one_below =
     (or_one (settle_fault s.rules s.args_override_self end) _ (settle_one s.rules s.args_override_self end)
     (or_one (defaults_fault (settled s.rules end).rows s.rules) _ (defaults_one (settled s.rules end).rows s.rules) (check_one s (finished s.rules end) has_subcommand))))
 
-entered_one : (stop : Option (Text × List Text)) → IsOne (entered_fault (built command_line) stop)
-entered_one None = tt
-entered_one (Some p) = tt
+entered_one : (modes : ValueParser) (stop : Option (Text × List Text)) → IsOne (entered_fault (built (command_line modes)) stop)
+entered_one modes None = tt
+entered_one modes (Some p) = tt
 
-pub command_line_one : (words : List Text) → IsOne (fault_of command_line words)
-command_line_one words =
-    let stop = (walk (built command_line).top.rules [] nothing_held (argument_words (built command_line) words)).stopped in
-    level_one (built command_line).top refl (argument_words (built command_line) words) _ (entered_fault (built command_line) stop) (entered_one stop)
+pub command_line_one : (modes : ValueParser) (words : List Text) → IsOne (fault_of (command_line modes) words)
+command_line_one modes words =
+    let app = built (command_line modes) in
+    let stop = (walk app.top.rules [] nothing_held (argument_words app words)).stopped in
+    level_one app.top refl (argument_words app words) _ (entered_fault app stop) (entered_one modes stop)

@@ -19,10 +19,10 @@ fn value_option<'a>(alloc: Global, name: &'a str, parser: ValueParser<'a>) -> Ar
         .value_parser(parser)
 }
 
-fn mode_option<'a>(alloc: Global) -> Arg<'a>
-    ensures { rule_of result ≡ mode_rule }
+fn mode_option<'a>(alloc: Global, modes: ValueParser<'a>) -> Arg<'a>
+    ensures { rule_of result ≡ mode_rule modes.entry }
 {
-    value_option(alloc, "mode", ValueParser::String)
+    value_option(alloc, "mode", modes)
 }
 
 fn lanes_option<'a>(alloc: Global) -> Arg<'a>
@@ -49,12 +49,12 @@ fn size_option<'a>(alloc: Global) -> Arg<'a>
     value_option(alloc, "size", ValueParser::Unsigned(1, 256))
 }
 
-/// The command with all options.
-pub fn command_line<'a>(alloc: Global) -> Result<Command<'a>, AllocError>
-    ensures { IfOk result (λ c. app_of c ≡ command_line) }
+/// The command with all options. The mode is one that a parser takes.
+pub fn command_line<'a>(alloc: Global, modes: ValueParser<'a>) -> Result<Command<'a>, AllocError>
+    ensures { IfOk result (λ c. app_of c ≡ command_line modes.entry) }
 {
     let named = Command::new(alloc, "fodderca").version("0.1.0");
-    let with_mode = named.arg(mode_option(alloc))?;
+    let with_mode = named.arg(mode_option(alloc, modes))?;
     let with_lanes = with_mode.arg(lanes_option(alloc))?;
     let with_rounds = with_lanes.arg(rounds_option(alloc))?;
     let with_seed = with_rounds.arg(seed_option(alloc))?;

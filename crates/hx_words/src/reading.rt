@@ -1,13 +1,15 @@
 //! What words ask for.
-ghost use Rattle.std.specs.Prelude.{◌≡◌, ◌⊎◌, ◌≤◌, ◌<◌, ◌^◌, map, Ok, Err, codes, IfOk, IfErr};
+ghost use Rattle.std.specs.Prelude.{◌≡◌, ◌≤◌, map, codes, IfOk};
 ghost use Rattle.std.specs.String.{string_bytes};
 ghost use Rattle.clap.specs.Matches.{found_of, first_value, one_text};
 ghost use Rattle.clap.specs.Walk.{rows_of};
-ghost use Rattle.hx_words.specs.Tasks.{number_in, mode_named, mode_in, MeetsRanges, task_of, answer_to, asked_by};
+ghost use Rattle.hx_words.specs.CommandLine.{mode_names};
+ghost use Rattle.hx_words.specs.Tasks.{number_in, mode_named, mode_in, HasRanges, MeetsRanges, task_of, answer_to, HoldsOfAsked, IsAnswer};
 
 use crate::options::command_line;
 use crate::{RunMode, Task, Words, WordsFault};
 use clap::ArgMatches;
+use clap::builder::ValueParser;
 use clap::error::ErrorKind;
 use std::alloc::Global;
 
@@ -23,12 +25,12 @@ fn mode_named(text: &str) -> Option<RunMode>
 }
 
 /// The mode of the option, or the default.
-fn mode_in(matches: &ArgMatches) -> Option<RunMode>
+fn mode_in(matches: &ArgMatches) -> RunMode
     ensures { result ≡ mode_in (first_value (found_of matches.now) (codes "mode")) }
 {
     match matches.get_str("mode") {
-        Some(text) => mode_named(text),
-        None => Some(RunMode::Sim),
+        Some(text) => mode_named(text).unwrap_or(RunMode::Sim),
+        None => RunMode::Sim,
     }
 }
 
@@ -47,24 +49,21 @@ fn number_in(matches: &ArgMatches, name: &str, least: u64, most: u64, default: u
 }
 
 /// The task of the options that were read.
-fn task_of(matches: &ArgMatches) -> Result<Words, WordsFault>
+fn task_of(matches: &ArgMatches) -> Task
     ensures value { result ≡ task_of (rows_of (found_of matches.now)) }
-    ensures ranges { IfOk result MeetsRanges }
+    ensures ranges { HasRanges result }
 {
-    let Some(mode) = mode_in(matches) else {
-        return Err(WordsFault::Refused);
-    };
     let lanes = number_in(matches, "lanes", 1, 16, 4) as u32;
     let rounds = number_in(matches, "rounds", 0, 1000, 10) as u32;
     let seed = number_in(matches, "seed", 0, u64::MAX, 1);
     let size = number_in(matches, "size", 1, 256, 64) as u32;
-    Ok(Words::Run(Task {
-        mode,
+    Task {
+        mode: mode_in(matches),
         lanes,
         rounds,
         seed,
         size,
-    }))
+    }
 }
 
 /// What words ask for where the command line stops at an error.
@@ -80,18 +79,26 @@ fn answer_to(kind: ErrorKind) -> Result<Words, WordsFault>
     }
 }
 
+/// What words ask for, of a command with some modes.
+fn read_words_with(alloc: Global, modes: &[&str], words: &[String]) -> Result<Words, WordsFault>
+    requires { map (λ mode. mode.now) modes.now ≡ mode_names }
+    ensures asked { HoldsOfAsked (map string_bytes words.now) (IsAnswer result) }
+    ensures ranges { IfOk result MeetsRanges }
+{
+    let command = command_line(alloc, ValueParser::Names(modes))?;
+    match command.try_get_matches_from(words) {
+        Ok(matches) => Ok(Words::Run(task_of(&matches))),
+        Err(error) => answer_to(error.kind()),
+    }
+}
+
 /// What the words of a command line ask for. The first is the program's name.
 ///
 /// Help and the version are asked for where a request for them stands before any fault. Words that are
 /// refused may tell of want of memory in place of their fault.
 pub fn read_words(alloc: Global, words: &[String]) -> Result<Words, WordsFault>
-    ensures ok { IfOk result (λ asked. asked_by (map string_bytes words.now) ≡ Ok asked) }
+    ensures asked { HoldsOfAsked (map string_bytes words.now) (IsAnswer result) }
     ensures ranges { IfOk result MeetsRanges }
-    ensures err { IfErr result (λ e. (e ≡ WordsFault.OutOfMemory) ⊎ (asked_by (map string_bytes words.now) ≡ Err e)) }
 {
-    let command = command_line(alloc)?;
-    match command.try_get_matches_from(words) {
-        Ok(matches) => task_of(&matches),
-        Err(error) => answer_to(error.kind()),
-    }
+    read_words_with(alloc, &["sim"], words)
 }
