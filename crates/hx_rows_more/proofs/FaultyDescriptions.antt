@@ -4,7 +4,7 @@ use Rattle.std.specs.Fmt.{digits}
 use Rattle.std.specs.Str.{is_utf8, chars}
 use Rattle.std.proofs.Common.{refl}
 use Rattle.serde_json.proofs.OnLiterals.{serde_json_on_literals}
-use Rattle.hx_desc.specs.declared.faults.DescKind.TheVariants as kinds
+use Rattle.hx_forms.specs.declared.faults.DescKind.TheVariants as kinds
 use Rattle.hx_desc.specs.Description.{input_spec}
 
 -- a text without its end
