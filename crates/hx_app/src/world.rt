@@ -298,7 +298,7 @@ fn dispatch(
     }
     let roll = roll_of(alloc, cluster)?;
     let copy = Seq::from_vec(Vec::from_slice(alloc, proposals)?);
-    let answer = hx_calls::dispatch(cluster, controller, begun.epoch, begun.pass, proposals)?;
+    let answer = hx_calls::dispatch(cluster, controller, proposals)?;
     let sent = count_sent(answer.placed.as_slice());
     let event = Event::Dispatch {
         c: controller,
@@ -359,7 +359,7 @@ fn post(
         rows: Seq::from_vec(Vec::from_slice(alloc, rows)?),
     };
     print(alloc, spec, cluster, &event, page)?;
-    hx_calls::publish(cluster, controller, epoch, rows)
+    hx_calls::publish(cluster, rows)
 }
 
 /// The rest of a turn that has begun.

@@ -5,7 +5,7 @@ ghost use Rattle.hx_cluster.specs.Events.{begun_of, next};
 ghost use Rattle.hx_cluster.specs.Messages.{next_pass};
 
 use hx_cluster::{Begun, Cluster, Event, Seen};
-use hx_ids::{ControllerId, Epoch, PassNo};
+use hx_ids::{ControllerId, PassNo};
 use hx_lists::Seq;
 use std::alloc::AllocError;
 
@@ -36,13 +36,8 @@ pub fn begin(cluster: &mut Cluster, controller: ControllerId) -> Begun
 }
 
 /// Posts rows in place of those that stand.
-pub fn publish(
-    cluster: &mut Cluster,
-    controller: ControllerId,
-    epoch: Epoch,
-    rows: &[Seen],
-) -> Result<(), AllocError>
-    ensures ok { OnOk result (cluster.new ≡ next cluster.old (Event.Post controller epoch rows.now)) }
+pub fn publish(cluster: &mut Cluster, rows: &[Seen]) -> Result<(), AllocError>
+    ensures ok { OnOk result (cluster.new ≡ record cluster.old { posted = rows.now }) }
     ensures err { OnErr result (cluster.new ≡ cluster.old) }
 {
     let alloc = cluster.allocator();

@@ -3,12 +3,12 @@ ghost use Rattle.std.specs.Prelude.{◌≡◌, ℕ, ◌+◌, ◌*◌, ◌^◌, �
 ghost use Rattle.hx_cluster.specs.Ends.{state_of, message_of, limit_at};
 ghost use Rattle.hx_cluster.specs.Reads.{pass_of};
 ghost use Rattle.hx_cluster.specs.Messages.{throttled_from, bounded, placed_idle, placed_of, after_placed, after_proposal, placed_all, after_proposals, next_pass, after_dispatch};
-ghost use Rattle.hx_cluster.specs.Events.{dispatched_of, next};
+ghost use Rattle.hx_cluster.specs.Events.{dispatched_of};
 ghost use Rattle.hx_cluster.specs.Apart.{with_rows};
 
 use crate::passes::raise_pass;
-use hx_cluster::{Cluster, Dispatched, Event, Message, Placed, Proposal, Row, count_on, state_on};
-use hx_ids::{ControllerId, Epoch, MsgId, PassNo};
+use hx_cluster::{Cluster, Dispatched, Message, Placed, Proposal, Row, count_on, state_on};
+use hx_ids::{ControllerId, MsgId};
 use hx_lists::Seq;
 use std::alloc::{AllocError, Global};
 
@@ -197,14 +197,12 @@ pub fn dispatch_on(
 pub fn dispatch(
     cluster: &mut Cluster,
     controller: ControllerId,
-    epoch: Epoch,
-    pass: PassNo,
     proposals: &[Proposal],
 ) -> Result<Dispatched, AllocError>
     requires pass { (pass_of cluster.old controller).0 < 2 ^ 63 }
     requires room { (cluster.old.next_msg + length proposals.now < 2 ^ 63) × (cluster.old.change + length proposals.now < 2 ^ 63) }
     ensures answer { IfOk result (λ answer. answer ≡ dispatched_of cluster.old controller proposals.now) }
-    ensures after { IfOk result (λ answer. cluster.new ≡ next cluster.old (Event.Dispatch controller epoch pass proposals.now answer)) }
+    ensures after { OnOk result (cluster.new ≡ after_dispatch cluster.old controller proposals.now) }
     ensures err { OnErr result (cluster.new ≡ cluster.old) }
 {
     let rows = cluster.rows.take_all();

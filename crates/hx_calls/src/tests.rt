@@ -44,22 +44,31 @@ fn part(index: u32) -> PartId {
 fn names(alloc: Global, words: &[&str]) -> Result<Names, AllocError> {
     let mut names = Names::new(alloc);
     for word in words {
-        if names.len() < 9 {
+        if names.len() < u32::MAX {
             names.intern(word)?;
         }
     }
     Ok(names)
 }
 
+/// A model whose initial state is OFFLINE.
+fn checked(
+    alloc: Global,
+    states: &[(StateId, Bound)],
+    transitions: &[(StateId, StateId)],
+) -> Result<Model, Fail> {
+    let parts = ModelParts {
+        states: Seq::from_vec(Vec::from_slice(alloc, states)?),
+        initial: OFFLINE,
+        transitions: Seq::from_vec(Vec::from_slice(alloc, transitions)?),
+    };
+    Ok(Model::check(parts).ok().ok_or("a fault")?)
+}
+
 fn model(alloc: Global) -> Result<Model, Fail> {
     let states = [(ONLINE, Bound::Replicas), (OFFLINE, Bound::Free)];
     let transitions = [(OFFLINE, ONLINE), (ONLINE, OFFLINE), (OFFLINE, DROPPED)];
-    let parts = ModelParts {
-        states: Seq::from_vec(Vec::from_slice(alloc, &states)?),
-        initial: OFFLINE,
-        transitions: Seq::from_vec(Vec::from_slice(alloc, &transitions)?),
-    };
-    Ok(Model::check(parts).ok().ok_or("a fault")?)
+    checked(alloc, &states, &transitions)
 }
 
 /// Two replicas of each of some partitions.
@@ -123,7 +132,7 @@ fn answer(cluster: &mut Cluster, step: &Admin) -> Result<Did, StepFault> {
 /// What the first pass of the controller answers.
 fn propose(cluster: &mut Cluster, proposals: &[Proposal]) -> Result<Dispatched, AllocError> {
     if has_room(cluster) && proposals.len() < 99 {
-        dispatch(cluster, C1, Epoch(1), PassNo(1), proposals)
+        dispatch(cluster, C1, proposals)
     } else {
         Err(AllocError)
     }
@@ -250,6 +259,13 @@ fn outcomes_reach_their_rows(rt: HostRuntime) -> Result<(), Fail> {
     Ok(())
 }
 
+fn reset(index: u32) -> Admin {
+    Admin::Reset {
+        instance: N1,
+        part: part(index),
+    }
+}
+
 #[test]
 fn a_replica_in_error_is_reset(rt: HostRuntime) -> Result<(), Fail> {
     let mut cluster = opening(rt.alloc())?;
@@ -260,10 +276,6 @@ fn a_replica_in_error_is_reset(rt: HostRuntime) -> Result<(), Fail> {
     propose(&mut cluster, &[to_online(1, 0), to_online(1, 1)])?;
     assert_eq!(rt; run(&mut cluster, MsgId(1), Outcome::Ok)?, true);
     assert_eq!(rt; run(&mut cluster, MsgId(2), Outcome::Failed)?, true);
-    let reset = |index: u32| Admin::Reset {
-        instance: N1,
-        part: part(index),
-    };
     let table = [
         (
             reset(0),
@@ -366,7 +378,7 @@ fn controllers_and_participants_read(rt: HostRuntime) -> Result<(), Fail> {
         part: part(0),
         state: ONLINE,
     }];
-    publish(&mut cluster, C1, Epoch(1), &seen)?;
+    publish(&mut cluster, &seen)?;
     assert_eq!(rt; cluster.posted.as_slice(), seen.as_slice());
     Ok(())
 }
