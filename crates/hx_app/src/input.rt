@@ -3,12 +3,11 @@ ghost use Rattle.std.specs.Prelude.{◌≡◌, ◌-◌, ◌^◌, ◌<◌, ◌≤
 ghost use Rattle.hx_text.specs.Lines.{lines_of};
 ghost use Rattle.hx_script.specs.Parsing.{IsReadable};
 ghost use Rattle.hx_desc.specs.Demo.{demo};
-ghost use Rattle.hx_desc.specs.Description.{is_demo};
 ghost use Rattle.hx_app.specs.Input.{text_fault, script_in, is_built, first_unbuilt, line_past, lower, not_built_of, scenario_of};
 ghost use Rattle.hx_app.specs.Refusals.{Refuses, IsTextFault, RefusesScript};
 
 use hx_cluster::Spec;
-use hx_desc::{DescFault, DescRefusal, read};
+use hx_desc::{DescFault, DescRefusal, is_demo, read};
 use hx_lists::Seq;
 use hx_script::{Line, ScriptFault, ScriptKind, ScriptRefusal, What, parse};
 use hx_text::{Lines, TextFault, cut, split_lines};
@@ -163,13 +162,6 @@ fn lower(a: Option<u32>, b: Option<u32>) -> Option<u32>
         (Some(a), None) => Some(a),
         (None, b) => b,
     }
-}
-
-/// Whether a description is the demo's: its one line, with the line's end.
-fn is_demo(description: &[u8]) -> bool
-    ensures { result ≡ is_demo description.now }
-{
-    description == b"builtin demo\n".as_slice() || description == b"builtin demo\r\n".as_slice()
 }
 
 /// What isn't built of a valid input.

@@ -1,4 +1,3 @@
-pub mod RoundRobin
 pub mod Wants
 pub mod Goals
 pub mod Targets

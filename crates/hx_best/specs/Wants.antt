@@ -11,7 +11,7 @@ use Rattle.hx_cluster.specs.declared.description.Resource.{Resource}
 use Rattle.hx_cluster.specs.declared.planning.View.{View}
 use Rattle.hx_cluster.specs.Steps.{is_drained}
 use Rattle.hx_cluster.specs.Reads.{instance_before}
-use Rattle.hx_best.specs.RoundRobin.{round_robin_list}
+use Rattle.hx_place.specs.RoundRobin.{round_robin_list}
 
 -- the shown sessions, in order of instance
 abbrev pub by_instance : List (SessionId × InstanceId) → List (SessionId × InstanceId)

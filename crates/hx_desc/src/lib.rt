@@ -14,7 +14,7 @@ mod states;
 mod tables;
 
 pub use hx_forms::{DescFault, DescKind, DescRefusal, Path};
-pub use reading::read;
+pub use reading::{is_demo, read};
 
 #[cfg(test)]
 mod tests;

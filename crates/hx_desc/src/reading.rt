@@ -94,7 +94,7 @@ fn read_json(alloc: Global, bytes: &[u8]) -> Result<Spec, DescRefusal>
 }
 
 /// Whether a description is the line that stands for the demo.
-fn is_demo(bytes: &[u8]) -> bool
+pub fn is_demo(bytes: &[u8]) -> bool
     ensures { result ≡ is_demo bytes.now }
 {
     bytes == b"builtin demo\n".as_slice() || bytes == b"builtin demo\r\n".as_slice()

@@ -1,12 +1,10 @@
 -- Histories that follow a script: each line is taken in order, and done once or refused before the next is taken.
-use Rattle.std.specs.Prelude.{ℕ, Bool, true, false, ◌==◌, ◌&&◌, ◌||◌, List, [], ◌∷◌, Option, None, Some, option_map, is_some, if◌then◌else◌}
+use Rattle.std.specs.Prelude.{ℕ, Bool, true, false, ◌==◌, ◌&&◌, ◌||◌, List, [], ◌∷◌, Some, is_some, if◌then◌else◌}
 use Rattle.std.specs.List.{list_any}
 use Rattle.std.specs.Cmp.Lexicographic.{pointwise}
 use Rattle.std.specs.Option.{option_eq, option_map_or}
 use Rattle.hx_ids.specs.declared.InstanceId.{InstanceId}
 use Rattle.hx_ids.specs.declared.StateId.{StateId}
-use Rattle.hx_ids.specs.declared.ResourceId.{ResourceId}
-use Rattle.hx_ids.specs.declared.PartId.{PartId}
 use Rattle.hx_ideal.specs.declared.Mode.{Mode}
 use Rattle.hx_ideal.specs.declared.Mode.TheVariants as modes
 use Rattle.hx_ideal.specs.IdealState.{IdealState}
@@ -17,12 +15,12 @@ use Rattle.hx_cluster.specs.declared.happenings.Admin.TheVariants as steps
 use Rattle.hx_cluster.specs.declared.happenings.Event.{Event}
 use Rattle.hx_cluster.specs.declared.happenings.Event.TheVariants as events
 use Rattle.hx_cluster.specs.Ends.{part_eq}
-use Rattle.hx_cluster.specs.Steps.{opening, refusal_of, newest, is_empty_list}
+use Rattle.hx_cluster.specs.Steps.{opening, refusal_of, is_empty_list}
 use Rattle.hx_cluster.specs.Events.{next}
 use Rattle.hx_script.specs.declared.What.{What}
 use Rattle.hx_script.specs.declared.What.TheVariants as asks
 use Rattle.hx_script.specs.declared.Line.{Line}
-use Rattle.hx_script.specs.NewIdeals.{bare_ideal}
+use Rattle.hx_script.specs.Asked.{step_asked}
 
 -- whether steps are the same
 abbrev pub same_instance : InstanceId → InstanceId → Bool
@@ -56,28 +54,6 @@ same_step (steps.Lead k) (steps.Lead j) = k.0 == j.0
 same_step (steps.Stop k) (steps.Stop j) = k.0 == j.0
 same_step (steps.Start k) (steps.Start j) = k.0 == j.0
 same_step a b = false
-
--- the step that a line asks for, where its resource's name names a resource
-abbrev pub part_at : ℕ → ResourceId → PartId
-part_at index r = record { resource = r; index = index }
-
-abbrev pub step_asked : Cluster → What → Option Admin
-step_asked c (asks.Join i) = Some (steps.Join i)
-step_asked c (asks.Beat i) = Some (steps.Beat i)
-step_asked c (asks.Drain i) = Some (steps.Drain i)
-step_asked c (asks.Undrain i) = Some (steps.Undrain i)
-step_asked c (asks.Tick n) = Some (steps.Tick n)
-step_asked c (asks.Expire i) = Some (steps.End i)
-step_asked c (asks.Die i) = Some (steps.End i)
-step_asked c (asks.Add name model replicas parts mode) = Some (steps.Add name model (bare_ideal replicas parts mode))
-step_asked c (asks.Drop name) = option_map (λ r. steps.Drop r) (newest c name)
-step_asked c (asks.List name index list) = option_map (λ r. steps.SetList (part_at index r) list) (newest c name)
-step_asked c (asks.Map name index map) = option_map (λ r. steps.SetMap (part_at index r) map) (newest c name)
-step_asked c (asks.Reset i name index) = option_map (λ r. steps.Reset i (part_at index r)) (newest c name)
-step_asked c (asks.Lead k) = Some (steps.Lead k)
-step_asked c (asks.Stop k) = Some (steps.Stop k)
-step_asked c (asks.Start k) = Some (steps.Start k)
-step_asked c _ = None
 
 -- whether a line asks for a step at all
 abbrev pub asks_step : What → Bool

@@ -5,3 +5,4 @@ pub mod Parsing
 pub mod Logs
 pub mod LogEntries
 pub mod NewIdeals
+pub mod Asked

@@ -31,7 +31,7 @@ use Rattle.hx_script.specs.declared.ReadKind.TheVariants as kinds
 use Rattle.hx_script.specs.declared.What.{What}
 use Rattle.hx_script.specs.declared.What.TheVariants as asks
 use Rattle.hx_script.specs.declared.Line.{Line}
-use Rattle.hx_script.specs.NewIdeals.{bare_ideal}
+use Rattle.hx_script.specs.Asked.{part_at, step_asked}
 use Rattle.hx_control.specs.declared.PassOutcome.{PassOutcome}
 use Rattle.hx_control.specs.declared.PassOutcome.TheVariants as ends
 use Rattle.hx_sim.specs.World.{World, Voice, Told, opening_world, happen, note, say, turn_of, with_turn}
@@ -46,16 +46,10 @@ stepped v w step None = happen w (events.Admin step (did_of w.cluster step))
 abbrev pub do_step : Voice → World → Admin → World
 do_step v w step = stepped v w step (refusal_of w.cluster step)
 
--- a step on the newest resource of a name
-abbrev pub step_on : Voice → World → (ResourceId → Admin) → Option ResourceId → World
-step_on v w step None = note v w notes.NoResource
-step_on v w step (Some r) = do_step v w (step r)
-
-abbrev pub do_step_on : Voice → World → ℕ → (ResourceId → Admin) → World
-do_step_on v w name step = step_on v w step (newest w.cluster name)
-
-abbrev pub part_at : ResourceId → ℕ → PartId
-part_at r index = record { resource = r; index = index }
+-- the step that a line asks for, if it names a resource that there is
+abbrev pub do_asked : Voice → World → Option Admin → World
+do_asked v w None = note v w notes.NoResource
+do_asked v w (Some step) = do_step v w step
 
 -- a session dies: it ends, and where it did its participant stops
 abbrev pub died : Voice → World → InstanceId → Option StepFault → World
@@ -159,7 +153,7 @@ say_route w p t instances = say w (1 + length instances) (route_text w.spec w.cl
 
 abbrev pub route_on : Voice → World → ℕ → StateId → Option ResourceId → World
 route_on v w index t None = note v w notes.NoResource
-route_on v w index t (Some r) = say_route w (part_at r index) t (routed w.cluster.posted (part_at r index) t)
+route_on v w index t (Some r) = say_route w (part_at index r) t (routed w.cluster.posted (part_at index r) t)
 
 abbrev pub do_route : Voice → World → ℕ → ℕ → StateId → World
 do_route v w name index t = route_on v w index t (newest w.cluster name)
@@ -213,22 +207,7 @@ do_summary w = say w 1 (summary_of w.history)
 
 -- what a line does
 abbrev pub do_what : Voice → World → What → World
-do_what v w (asks.Join i) = do_step v w (steps.Join i)
-do_what v w (asks.Beat i) = do_step v w (steps.Beat i)
-do_what v w (asks.Drain i) = do_step v w (steps.Drain i)
-do_what v w (asks.Undrain i) = do_step v w (steps.Undrain i)
-do_what v w (asks.Tick n) = do_step v w (steps.Tick n)
-do_what v w (asks.Expire i) = do_step v w (steps.End i)
 do_what v w (asks.Die i) = do_die v w i
-do_what v w (asks.Add name model replicas parts mode) =
-    do_step v w (steps.Add name model (bare_ideal replicas parts mode))
-do_what v w (asks.Drop name) = do_step_on v w name (λ r. steps.Drop r)
-do_what v w (asks.List name part list) = do_step_on v w name (λ r. steps.SetList (part_at r part) list)
-do_what v w (asks.Map name part map) = do_step_on v w name (λ r. steps.SetMap (part_at r part) map)
-do_what v w (asks.Reset i name part) = do_step_on v w name (λ r. steps.Reset i (part_at r part))
-do_what v w (asks.Lead k) = do_step v w (steps.Lead k)
-do_what v w (asks.Stop k) = do_step v w (steps.Stop k)
-do_what v w (asks.Start k) = do_step v w (steps.Start k)
 do_what v w (asks.Begin k) = do_begin v w k
 do_what v w (asks.Read k kind) = do_read v w k kind
 do_what v w (asks.Send k) = if is_at w k words.Send then do_send v w k else out_of_turn v w k
@@ -244,6 +223,7 @@ do_what v w asks.Settle = do_settle v w
 do_what v w asks.View = do_view w
 do_what v w (asks.Route name part state) = do_route v w name part state
 do_what v w asks.Summary = do_summary w
+do_what v w what = do_asked v w (step_asked w.cluster what)
 
 -- a line is recorded as taken, then done
 abbrev pub do_line : World → Line → World

@@ -1,7 +1,7 @@
 -- A controller's turn: begin, the reads, the dispatch of the plan, and the post.
-use Rattle.std.specs.Prelude.{ℕ, ◌+◌, Bool, true, false, not, ◌==◌, ◌&&◌, ◌||◌, List, [], ◌∷◌, ◌++◌, map, length, None, Some, if◌then◌else◌, unwrap_or, nat_lt}
+use Rattle.std.specs.Prelude.{ℕ, ◌+◌, Bool, true, false, not, ◌==◌, ◌||◌, List, [], ◌∷◌, ◌++◌, map, length, None, Some, if◌then◌else◌, nat_lt}
 use Rattle.std.specs.List.{list_all}
-use Rattle.hx_lists.specs.Lists.{count, sort_by}
+use Rattle.hx_lists.specs.Lists.{count}
 use Rattle.hx_ids.specs.declared.ControllerId.{ControllerId}
 use Rattle.hx_ids.specs.declared.SessionId.{SessionId}
 use Rattle.hx_cluster.specs.declared.planning.View.{View}
@@ -10,13 +10,10 @@ use Rattle.hx_cluster.specs.declared.planning.Entry.{Entry}
 use Rattle.hx_cluster.specs.declared.planning.Target.{Target}
 use Rattle.hx_cluster.specs.declared.planning.Finding.{Finding}
 use Rattle.hx_cluster.specs.declared.planning.Finding.TheVariants as findings
-use Rattle.hx_cluster.specs.declared.state.Row.{Row}
 use Rattle.hx_cluster.specs.declared.happenings.Placed.{Placed}
 use Rattle.hx_cluster.specs.declared.happenings.Placed.TheVariants as placings
 use Rattle.hx_cluster.specs.declared.happenings.Dispatched.{Dispatched}
-use Rattle.hx_cluster.specs.declared.happenings.Seen.{Seen}
 use Rattle.hx_cluster.specs.declared.happenings.Event.TheVariants as events
-use Rattle.hx_cluster.specs.Ends.{part_before, part_eq, instance_in}
 use Rattle.hx_cluster.specs.Steps.{is_leader}
 use Rattle.hx_cluster.specs.Reads.{live_shown, mail_shown, states_shown, ideals_shown, nothing_shown}
 use Rattle.hx_cluster.specs.Events.{begun_of, dispatched_of, is_epoch, is_pass, is_proposable, is_postable}
@@ -27,6 +24,7 @@ use Rattle.hx_print.specs.Texts.{sent_text, waiting_text, moved_text, settled_te
 use Rattle.hx_control.specs.declared.PassOutcome.{PassOutcome}
 use Rattle.hx_control.specs.declared.PassOutcome.TheVariants as ends
 use Rattle.hx_pass.specs.Plans.{plan}
+use Rattle.hx_pass.specs.Turns.{posted_of}
 use Rattle.hx_sim.specs.World.{World, Turn, Voice, idle_turn, when, happen, note, say, turn_of, with_turn}
 
 -- a turn goes to another word
@@ -151,16 +149,7 @@ do_send v w k =
     if is_epoch w.cluster (turn_of w k).begun.epoch then send_plan v w k (plan_of w k)
     else note v (go_to w k words.Begin) (notes.Fenced w.cluster.epoch)
 
--- post: the rows of the view with their instances, by part, then instance
-abbrev pub seen_before : Seen → Seen → Bool
-seen_before a b = part_before a.part b.part || (part_eq a.part b.part && nat_lt a.instance.0 b.instance.0)
-
-abbrev pub seen_of : View → Row → Seen
-seen_of v r = record { instance = unwrap_or (instance_in v.live r.session) (record { 0 = 0 }); part = r.part; state = r.state }
-
-abbrev pub posted_of : View → List Seen
-posted_of v = sort_by seen_before (map (seen_of v) v.rows)
-
+-- post: the rows of the view
 abbrev pub do_post : Voice → World → ControllerId → World
 do_post v w k =
     if not (is_epoch w.cluster (turn_of w k).begun.epoch) then note v (go_to w k words.Begin) (notes.Fenced w.cluster.epoch)

@@ -1,7 +1,0 @@
--- Instances that take the parts of a resource in turn.
-use Rattle.std.specs.Prelude.{ℕ, ◌+◌, ◌*◌, ◌%◌, List, map, min}
-use Rattle.hx_lists.specs.Lists.{numbers_below}
-
--- the instances of a part, by their places among all: as many as there are replicas, each part from where the one before it ended
-abbrev pub round_robin_list : ℕ → ℕ → ℕ → List ℕ
-round_robin_list instances replicas p = let k = min replicas instances in map (λ j. (p * k + j) % instances) (numbers_below k)
