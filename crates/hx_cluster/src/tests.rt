@@ -34,44 +34,54 @@ fn part_of(resource: ResourceId) -> PartId {
 fn names(alloc: Global, words: &[&str]) -> Result<Names, AllocError> {
     let mut names = Names::new(alloc);
     for word in words {
-        if names.len() < 9 {
+        if names.len() < u32::MAX {
             names.intern(word)?;
         }
     }
     Ok(names)
 }
 
+/// A model whose initial state is OFFLINE.
+fn checked(
+    alloc: Global,
+    states: &[(StateId, Bound)],
+    transitions: &[(StateId, StateId)],
+) -> Result<Model, Fail> {
+    let parts = ModelParts {
+        states: Seq::from_vec(Vec::from_slice(alloc, states)?),
+        initial: OFFLINE,
+        transitions: Seq::from_vec(Vec::from_slice(alloc, transitions)?),
+    };
+    Ok(Model::check(parts).ok().ok_or("a fault")?)
+}
+
 fn model(alloc: Global) -> Result<Model, Fail> {
     let states = [(ONLINE, Bound::Replicas), (OFFLINE, Bound::Free)];
     let transitions = [(OFFLINE, ONLINE), (ONLINE, OFFLINE), (OFFLINE, DROPPED)];
-    let parts = ModelParts {
-        states: Seq::from_vec(Vec::from_slice(alloc, &states)?),
-        initial: OFFLINE,
-        transitions: Seq::from_vec(Vec::from_slice(alloc, &transitions)?),
-    };
-    Ok(Model::check(parts).ok().ok_or("a fault")?)
+    checked(alloc, &states, &transitions)
+}
+
+/// Two replicas of each of some partitions.
+fn ideal(mode: Mode, parts: u32, instances: u32) -> Result<Ideal, Fail> {
+    Ok(
+        Ideal::check(2, parts, mode, instances, &[])
+            .ok()
+            .ok_or("a fault")?,
+    )
 }
 
 /// One partition with an empty list.
 fn semi(alloc: Global) -> Result<Ideal, Fail> {
     let mut lists = Seq::new(alloc);
     lists.push(Seq::new(alloc))?;
-    Ok(
-        Ideal::check(2, 1, Mode::Semi(lists), 2, &[])
-            .ok()
-            .ok_or("a fault")?,
-    )
+    ideal(Mode::Semi(lists), 1, 2)
 }
 
 /// One partition with an empty map.
 fn custom(alloc: Global) -> Result<Ideal, Fail> {
     let mut maps = Seq::new(alloc);
     maps.push(Seq::new(alloc))?;
-    Ok(
-        Ideal::check(2, 1, Mode::Custom(maps), 2, &[])
-            .ok()
-            .ok_or("a fault")?,
-    )
+    ideal(Mode::Custom(maps), 1, 2)
 }
 
 /// Two instances, two controllers, and a resource with one partition. Sessions end after 30 ticks.

@@ -5,13 +5,13 @@ use Rattle.hx_cluster.specs.declared.planning.View.{View}
 use Rattle.hx_cluster.specs.declared.planning.Finding.TheVariants as findings
 use Rattle.hx_pass.specs.Plans.{plan}
 use Rattle.hx_pass.specs.Views.{is_well_formed}
-use Rattle.hx_pass.proofs.Examples.{n, s, master, slave, models, resource, row, target, candidate}
+use Rattle.hx_pass.proofs.Examples.{n, s, master, slave, models, resource, row_in, target, candidate}
 
 abbrev view : View
 view = record {
   live = (s 1, n 0) ∷ (s 2, n 1) ∷ [];
   mail = [];
-  rows = row 1 0 master ∷ row 2 0 slave ∷ [];
+  rows = row_in 1 0 master ∷ row_in 2 0 slave ∷ [];
   ideals = record {
     resources = resource 0 2 1 (modes.Custom (((n 0, master) ∷ (n 1, master) ∷ []) ∷ [])) ∷ [];
     drained = false ∷ false ∷ false ∷ [];

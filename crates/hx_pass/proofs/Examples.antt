@@ -56,8 +56,8 @@ resource model replicas parts mode =
 abbrev pub db : ℕ → PartId
 db k = record { resource = record { 0 = 0 }; index = k }
 
-abbrev pub row : ℕ → ℕ → StateId → Row
-row i k t = record { session = s i; part = db k; state = t }
+abbrev pub row_in : ℕ → ℕ → StateId → Row
+row_in i k t = record { session = s i; part = db k; state = t }
 
 -- session number i is of instance number i - 1
 abbrev pub target : ℕ → ℕ → ℕ → Option StateId → StateId → ℕ → Target

@@ -13,7 +13,7 @@ use std::test::Fail;
 fn names(alloc: Global, words: &[&str]) -> Result<Names, AllocError> {
     let mut names = Names::new(alloc);
     for word in words {
-        if names.len() < 100 {
+        if names.len() < u32::MAX {
             names.intern(word)?;
         }
     }
@@ -55,12 +55,13 @@ const PART: PartId = PartId {
 };
 
 /// The resource `db`.
-fn small_resource() -> Result<Resource, Fail> {
-    let ideal = Ideal::check(1, 1, Mode::Full, 3, &[StateId(2)]).map_err(|_| "no ideal")?;
+fn small_resource(parts: u32, states: &[StateId]) -> Result<Resource, Fail> {
     Ok(Resource {
         name: 0,
         model: ModelId(0),
-        ideal,
+        ideal: Ideal::check(1, parts, Mode::Full, 3, states)
+            .ok()
+            .ok_or("a fault")?,
         dropped: false,
     })
 }
@@ -87,7 +88,7 @@ fn words_stand_after_spaces(rt: HostRuntime) -> Result<(), Fail> {
 fn names_are_found(rt: HostRuntime) -> Result<(), Fail> {
     let spec = small_spec(rt.alloc())?;
     let roll = small_roll(rt.alloc())?;
-    let resources = [small_resource()?];
+    let resources = [small_resource(1, &[StateId(2)])?];
     let named = name_of_resource(&spec, roll.resources.as_slice(), ResourceId(1));
     assert_eq!(rt; named, "db");
     assert_eq!(rt;

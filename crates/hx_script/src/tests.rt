@@ -8,7 +8,7 @@ use std::test::Fail;
 fn names(alloc: Global, words: &[&str]) -> Result<Names, AllocError> {
     let mut names = Names::new(alloc);
     for word in words {
-        if names.len() < 100 {
+        if names.len() < u32::MAX {
             names.intern(word)?;
         }
     }

@@ -27,7 +27,7 @@ fn names_are_told_by_the_grammar(rt: HostRuntime) -> Result<(), Fail> {
     for (text, want) in [
         ("n1", true),
         ("Z", true),
-        ("a_b.c-D9", true),
+        ("aB_c.d-9", true),
         (most, true),
         (more, false),
         ("", false),
