@@ -1,5 +1,5 @@
 -- Events: which may happen, and what they make of a cluster.
-use Rattle.std.specs.Prelude.{◌≡◌, ℕ, ◌+◌, Bool, true, false, not, ◌==◌, ◌&&◌, List, [], ◌∷◌, length, Option, None, Some, nat_lt}
+use Rattle.std.specs.Prelude.{◌≡◌, ℕ, ◌+◌, Bool, true, false, not, ◌==◌, ◌&&◌, List, [], ◌∷◌, length, Option, None, Some, is_none, nat_lt}
 use Rattle.std.specs.List.{list_all}
 use Rattle.hx_ids.specs.declared.StateId.{StateId}
 use Rattle.hx_ids.specs.declared.ControllerId.{ControllerId}
@@ -19,7 +19,8 @@ use Rattle.hx_cluster.specs.declared.happenings.Event.TheVariants as events
 use Rattle.hx_cluster.specs.Ends.{is_live, parts_of}
 use Rattle.hx_cluster.specs.Steps.{refusal_of, after, did_of, is_in_range, has_instance, has_controller, is_leader, session_of}
 use Rattle.hx_cluster.specs.Reads.{pass_of, messages_for}
-use Rattle.hx_cluster.specs.Messages.{placed_all, after_dispatch, next_pass, pending_of, after_take, after_write, after_ack}
+use Rattle.hx_cluster.specs.Messages.{placed_all, after_dispatch, next_pass, after_take, after_write, after_ack}
+use Rattle.hx_cluster.specs.Marks.{take_refusal, write_refusal, ack_refusal}
 
 -- the answer of begin
 abbrev pub begun_of : Cluster → ControllerId → Begun
@@ -29,21 +30,17 @@ begun_of c k = record { epoch = c.epoch; pass = record { 0 = (pass_of c k).0 + 1
 abbrev pub dispatched_of : Cluster → ControllerId → List Proposal → Dispatched
 dispatched_of c k qs = record { change = c.change; placed = placed_all (next_pass c k) qs }
 
--- the cluster after an event
+-- the cluster after an event. The reads and a fetch change nothing
 abbrev pub next : Cluster → Event → Cluster
 next c (events.Admin step did) = after c step
 next c (events.Line n) = record c { line = Some n }
 next c (events.Begin k begun) = next_pass c k
-next c (events.Live k pass) = c
-next c (events.Mail k pass s) = c
-next c (events.States k pass s) = c
-next c (events.Ideals k pass) = c
 next c (events.Dispatch k epoch pass proposals answer) = after_dispatch c k proposals
 next c (events.Post k epoch rows) = record c { posted = rows }
-next c (events.Fetch i s n) = c
 next c (events.Take s id) = after_take c s id
 next c (events.Write s id outcome) = after_write c s id outcome
 next c (events.Ack s id) = after_ack c s id
+next c _ = c
 
 -- a part exists, and a state has a name
 abbrev pub has_part : Cluster → PartId → Bool
@@ -70,27 +67,15 @@ is_pass c k pass = has_controller c k && ((pass_of c k).0 == pass.0)
 abbrev pub is_epoch : Cluster → Epoch → Bool
 is_epoch c epoch = c.epoch.0 == epoch.0
 
--- the marks of a pending message
-abbrev pub is_untaken : Option Message → Bool
-is_untaken None = false
-is_untaken (Some m) = not m.taken
-
-abbrev pub is_open : Option Message → Bool
-is_open None = false
-is_open (Some m) = m.taken && not m.written
-
-abbrev pub is_done : Option Message → Bool
-is_done None = false
-is_done (Some m) = m.written
-
+-- a message is taken, written and acknowledged where nothing refuses it
 abbrev pub can_take : Cluster → SessionId → MsgId → Bool
-can_take c s id = is_live c.live s && is_untaken (pending_of c s id)
+can_take c s id = is_none (take_refusal c s id)
 
 abbrev pub can_write : Cluster → SessionId → MsgId → Bool
-can_write c s id = is_live c.live s && is_open (pending_of c s id)
+can_write c s id = is_none (write_refusal c s id)
 
 abbrev pub can_ack : Cluster → SessionId → MsgId → Bool
-can_ack c s id = is_live c.live s && is_done (pending_of c s id)
+can_ack c s id = is_none (ack_refusal c s id)
 
 -- the event may happen, with this answer: its ids are in range, nothing refuses it, and the answer is the one that it gets
 abbrev pub IsStep : Cluster → Event → Type 0

@@ -18,7 +18,7 @@ use Rattle.hx_cluster.specs.declared.happenings.Placed.{Placed}
 use Rattle.hx_cluster.specs.declared.happenings.Placed.TheVariants as placings
 use Rattle.hx_cluster.specs.declared.happenings.Outcome.{Outcome}
 use Rattle.hx_cluster.specs.declared.happenings.Outcome.TheVariants as outcomes
-use Rattle.hx_cluster.specs.Ends.{part_before, is_row, message_of, state_of, is_live, shown_of, model_of, limit_at, count_of, matches, key_of, load_of}
+use Rattle.hx_cluster.specs.Ends.{part_eq, part_before, is_row, message_of, state_of, is_live, shown_of, model_of, limit_at, count_of, matches, key_of, load_of}
 use Rattle.hx_cluster.specs.Steps.{is_dropped, is_flag}
 
 -- where a replica stands: an absent one counts as at the initial state of its model
@@ -77,16 +77,21 @@ message_from c id q = record {
   written = false;
 }
 
+-- two messages are the same but for their marks
+abbrev pub is_same : Message → Message → Bool
+is_same a b =
+    (a.id.0 == b.id.0) && (a.session.0 == b.session.0) && part_eq a.part b.part && (a.from.0 == b.from.0) && (a.to.0 == b.to.0)
+    && (a.initial.0 == b.initial.0) && (a.epoch.0 == b.epoch.0)
+
+-- the message that an answer sends, if it sends one
+abbrev pub sent_by : Cluster → Proposal → Placed → List Message
+sent_by c q (placings.Sent id) = message_from c id q ∷ []
+sent_by c q _ = []
+
 -- the cluster after an answer: only one that is sent changes it
 abbrev pub after_placed : Cluster → Proposal → Placed → Cluster
 after_placed c q (placings.Sent id) = record c { mail = c.mail ++ message_from c id q ∷ []; next_msg = c.next_msg + 1; change = c.change + 1 }
-after_placed c q placings.Ended = c
-after_placed c q placings.ResourceDropped = c
-after_placed c q (placings.Busy id) = c
-after_placed c q (placings.WrongFrom has) = c
-after_placed c q placings.Illegal = c
-after_placed c q (placings.OverBound count bound) = c
-after_placed c q (placings.OverThrottle rule load limit) = c
+after_placed c q _ = c
 
 abbrev pub after_proposal : Cluster → Proposal → Cluster
 after_proposal c q = after_placed c q (placed_of c q)
@@ -99,6 +104,11 @@ placed_all c (q ∷ qs) = placed_of c q ∷ placed_all (after_proposal c q) qs
 abbrev pub after_proposals : Cluster → List Proposal → Cluster
 after_proposals c [] = c
 after_proposals c (q ∷ qs) = after_proposals (after_proposal c q) qs
+
+-- the messages that they become
+abbrev pub sent_all : Cluster → List Proposal → List Message
+sent_all c [] = []
+sent_all c (q ∷ qs) = sent_by c q (placed_of c q) ++ sent_all (after_proposal c q) qs
 
 -- a controller's next pass
 abbrev pub raised_pass : Cluster → ControllerId → Option (Bool × PassNo) → Cluster

@@ -20,9 +20,9 @@ use Rattle.hx_cluster.specs.Steps.{is_of, is_down, is_error}
 use Rattle.hx_cluster.specs.Messages.{standing_of}
 use Rattle.hx_cluster.specs.Events.{has_part, next}
 
--- no part has more replicas with a state among their ends than the state's limit
-abbrev pub IsBounded : Cluster → Type 0
-IsBounded c = (p : PartId) (t : StateId) (limit : ℕ) → limit_at c p t ≡ Some limit → count_of c p t ≤ limit
+-- no part has more replicas with a state among their ends than are allowed, for each state for which a number is given
+abbrev pub IsBoundedBy : (PartId → StateId → Option ℕ) → Cluster → Type 0
+IsBoundedBy allowed c = (p : PartId) (t : StateId) (most : ℕ) → allowed p t ≡ Some most → count_of c p t ≤ most
 
 -- no throttle is passed
 abbrev pub IsThrottled : Cluster → Type 0
@@ -79,12 +79,19 @@ pub record HasSessions (c : Cluster) : Type 0 where
   pub beats : beats_rise 0 c.live c.clock ≡ true
   pub leader : leader_is_up c c.leader ≡ true
 
-pub record IsSafe (c : Cluster) : Type 0 where
-  pub bounded : IsBounded c
+pub record IsSafeBy (allowed : PartId → StateId → Option ℕ) (c : Cluster) : Type 0 where
+  pub bounded : IsBoundedBy allowed c
   pub throttled : IsThrottled c
   pub mail : HasMail c
   pub rows : HasRows c
   pub sessions : HasSessions c
+
+-- what is allowed is the state's limit
+abbrev pub IsBounded : Cluster → Type 0
+IsBounded c = IsBoundedBy (limit_at c) c
+
+abbrev pub IsSafe : Cluster → Type 0
+IsSafe c = IsSafeBy (limit_at c) c
 
 -- it holds before each event and after the last
 abbrev pub SafeAlong : Cluster → List Event → Type 0

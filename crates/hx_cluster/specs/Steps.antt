@@ -7,6 +7,7 @@ use Rattle.hx_ids.specs.Expiry.{expired}
 use Rattle.hx_ids.specs.declared.InstanceId.{InstanceId}
 use Rattle.hx_ids.specs.declared.StateId.{StateId}
 use Rattle.hx_ids.specs.declared.ResourceId.{ResourceId}
+use Rattle.hx_ids.specs.declared.ModelId.{ModelId}
 use Rattle.hx_ids.specs.declared.ControllerId.{ControllerId}
 use Rattle.hx_ids.specs.declared.PassNo.{PassNo}
 use Rattle.hx_ids.specs.declared.SessionId.{SessionId}
@@ -121,14 +122,12 @@ ideal_fault None = None
 ideal_fault (Some f) = Some (faults.Ideal f)
 
 abbrev pub is_semi : Mode → Bool
-is_semi modes.Full = false
 is_semi (modes.Semi lists) = true
-is_semi (modes.Custom maps) = false
+is_semi _ = false
 
 abbrev pub is_custom : Mode → Bool
-is_custom modes.Full = false
-is_custom (modes.Semi lists) = false
 is_custom (modes.Custom maps) = true
+is_custom _ = false
 
 -- a list or a map of a part is refused where the resource is dropped, has another mode or lacks the part, or by its own fault
 abbrev pub edit_fault : (Mode → Bool) → PartId → Option IdealFault → Option Resource → Option StepFault
@@ -234,6 +233,10 @@ with_down c k down = marked_down c k down (slice_get c.controllers k.0)
 abbrev pub without_leader : ControllerId → Cluster → Cluster
 without_leader k c = if is_leader k c.leader then record c { leader = None; epoch = record { 0 = c.epoch.0 + 1 } } else c
 
+-- a resource as it is added
+abbrev pub new_resource : ℕ → ModelId → IdealState → Resource
+new_resource name model ideal = record { name = name; model = model; ideal = ideal; dropped = false }
+
 -- the cluster after a step that isn't refused
 abbrev pub after : Cluster → Admin → Cluster
 after c (steps.Join i) = record c {
@@ -247,7 +250,7 @@ after c (steps.Tick n) = without_all (record c { clock = c.clock + n }) (ended_b
 after c (steps.Drain i) = record c { instances = slice_set c.instances i.0 true; change = c.change + 1 }
 after c (steps.Undrain i) = record c { instances = slice_set c.instances i.0 false; change = c.change + 1 }
 after c (steps.Add name model ideal) = record c {
-  resources = c.resources ++ (record { name = name; model = model; ideal = ideal; dropped = false }) ∷ [];
+  resources = c.resources ++ new_resource name model ideal ∷ [];
   change = c.change + 1;
 }
 after c (steps.Drop r) = with_resource c r (λ x. record x { dropped = true })
@@ -261,19 +264,10 @@ after c (steps.Start k) = with_down c k false
 -- its answer
 abbrev pub did_of : Cluster → Admin → Did
 did_of c (steps.Join i) = dids.Joined (record { 0 = c.next_session })
-did_of c (steps.End i) = dids.Done
-did_of c (steps.Beat i) = dids.Done
 did_of c (steps.Tick n) = dids.Ended (ended_by c n)
-did_of c (steps.Drain i) = dids.Done
-did_of c (steps.Undrain i) = dids.Done
 did_of c (steps.Add name model ideal) = dids.Added (record { 0 = length c.resources })
-did_of c (steps.Drop r) = dids.Done
-did_of c (steps.SetList p list) = dids.Done
-did_of c (steps.SetMap p map) = dids.Done
-did_of c (steps.Reset i p) = dids.Done
 did_of c (steps.Lead k) = dids.Leads c.epoch
-did_of c (steps.Stop k) = dids.Done
-did_of c (steps.Start k) = dids.Done
+did_of c _ = dids.Done
 
 -- the ids of a step are in range, and an added resource has only empty lists or maps
 abbrev pub has_instance : Cluster → InstanceId → Bool

@@ -9,34 +9,20 @@ use Rattle.hx_cluster.specs.declared.happenings.Event.TheVariants as events
 abbrev pub step_weight : Admin → ℕ
 step_weight (steps.Join i) = 2
 step_weight (steps.End i) = 0
-step_weight (steps.Beat i) = 1
-step_weight (steps.Tick n) = 1
-step_weight (steps.Drain i) = 1
-step_weight (steps.Undrain i) = 1
 step_weight (steps.Add name model ideal) = 1 + ideal.parts
-step_weight (steps.Drop r) = 1
 step_weight (steps.SetList p list) = 1 + length list
 step_weight (steps.SetMap p map) = 1 + length map
-step_weight (steps.Reset i p) = 1
-step_weight (steps.Lead k) = 1
-step_weight (steps.Stop k) = 1
-step_weight (steps.Start k) = 1
+step_weight _ = 1
 
 -- an event: a dispatch also pays for the take, the write and the acknowledgement of each message
 abbrev pub weight_of : Event → ℕ
 weight_of (events.Admin step did) = step_weight step
-weight_of (events.Line n) = 1
-weight_of (events.Begin k begun) = 1
-weight_of (events.Live k pass) = 1
-weight_of (events.Mail k pass s) = 1
-weight_of (events.States k pass s) = 1
-weight_of (events.Ideals k pass) = 1
 weight_of (events.Dispatch k epoch pass proposals answer) = 1 + 4 * length proposals
 weight_of (events.Post k epoch rows) = 1 + length rows
-weight_of (events.Fetch i s n) = 1
 weight_of (events.Take s id) = 0
 weight_of (events.Write s id outcome) = 0
 weight_of (events.Ack s id) = 0
+weight_of _ = 1
 
 abbrev pub weight_of_all : List Event → ℕ
 weight_of_all [] = 0

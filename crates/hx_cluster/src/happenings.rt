@@ -152,6 +152,34 @@ pub enum Outcome {
     Failed,
 }
 
+/// Why a message isn't taken.
+#[derive(Clone, Copy, Debug, PartialEq, Eq)]
+pub enum TakeFault {
+    /// The session isn't live.
+    SessionEnded,
+    NoMessage,
+    AlreadyTaken,
+}
+
+/// Why an outcome isn't written.
+#[derive(Clone, Copy, Debug, PartialEq, Eq)]
+pub enum WriteRefusal {
+    /// The session isn't live.
+    SessionEnded,
+    NoMessage,
+    NotTaken,
+    AlreadyWritten,
+}
+
+/// Why a message isn't acknowledged.
+#[derive(Clone, Copy, Debug, PartialEq, Eq)]
+pub enum AckFault {
+    /// The session isn't live.
+    SessionEnded,
+    NoMessage,
+    NotWritten,
+}
+
 /// A row of the external view.
 #[derive(Clone, Copy, Debug, PartialEq, Eq)]
 pub struct Seen {

@@ -6,6 +6,7 @@ mod description;
 mod edits;
 mod ends;
 mod happenings;
+mod marks;
 mod opening;
 mod planning;
 mod ranges;
@@ -19,7 +20,8 @@ pub use admin::admin_on;
 pub use description::{Failure, Resource, Rule, Scope, Spec};
 pub use ends::{count_on, has_end};
 pub use happenings::{
-    Admin, Begun, Did, Dispatched, Event, History, Mail, Outcome, Placed, Proposal, Seen, StepFault,
+    AckFault, Admin, Begun, Did, Dispatched, Event, History, Mail, Outcome, Placed, Proposal, Seen,
+    StepFault, TakeFault, WriteRefusal,
 };
 pub use hx_ids::Live;
 pub use opening::{copied_models, copied_resources};

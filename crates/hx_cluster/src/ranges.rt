@@ -2,13 +2,13 @@
 ghost use Rattle.std.specs.Prelude.{◌≡◌, ℕ, ◌+◌, ◌^◌, ◌<◌, ◌≤◌, ◌↔◌, ◌==◌, ◌&&◌, IsTrue, not, length, nat_lt, nat_le};
 ghost use Rattle.std.specs.List.{list_all};
 ghost use Rattle.hx_cluster.specs.Steps.{has_instance, has_resource, has_controller, is_empty_list as is_empty_list_of, is_bare_mode as is_bare_mode_of, is_bare as is_bare_of, is_in_range};
-ghost use Rattle.hx_cluster.specs.Events.{has_part, has_state_name, is_proposable, is_postable, can_take, can_write, can_ack};
+ghost use Rattle.hx_cluster.specs.Events.{has_part, has_state_name, is_proposable, is_postable};
 ghost use Rattle.hx_cluster.specs.Numbered.{IsNumbered};
 
 use crate::happenings::{Admin, Proposal, Seen};
 use crate::state::Cluster;
 use hx_ideal::{Ideal, Mode};
-use hx_ids::{ControllerId, InstanceId, ModelId, MsgId, PartId, ResourceId, SessionId, StateId};
+use hx_ids::{ControllerId, InstanceId, ModelId, PartId, ResourceId, StateId};
 use hx_lists::Seq;
 
 impl Cluster {
@@ -98,36 +98,6 @@ impl Cluster {
         ensures { result ≡ is_postable self.now row.now }
     {
         self.has_instance(row.instance) && self.has_part(row.part) && self.has_state_name(row.state)
-    }
-
-    /// Whether a session may take a message.
-    pub fn can_take(&self, session: SessionId, id: MsgId) -> bool
-        ensures { result ≡ can_take self.now session id }
-    {
-        match self.pending_of(session, id) {
-            Some(message) => self.is_live(session) && !message.taken,
-            None => false,
-        }
-    }
-
-    /// Whether a session may write the outcome of a message.
-    pub fn can_write(&self, session: SessionId, id: MsgId) -> bool
-        ensures { result ≡ can_write self.now session id }
-    {
-        match self.pending_of(session, id) {
-            Some(message) => self.is_live(session) && message.taken && !message.written,
-            None => false,
-        }
-    }
-
-    /// Whether a session may acknowledge a message.
-    pub fn can_ack(&self, session: SessionId, id: MsgId) -> bool
-        ensures { result ≡ can_ack self.now session id }
-    {
-        match self.pending_of(session, id) {
-            Some(message) => self.is_live(session) && message.written,
-            None => false,
-        }
     }
 }
 

@@ -59,3 +59,15 @@ pub record AreNew (one two : List ℕ) : Type 0 where
   pub two_error : bytes_eq two (codes "ERROR") ≡ false
   pub one_dropped : bytes_eq one (codes "DROPPED") ≡ false
   pub two_dropped : bytes_eq two (codes "DROPPED") ≡ false
+
+-- the names of states and of models with which every description begins, and those models
+abbrev pub builtin_states : List (List ℕ)
+builtin_states =
+    codes "ERROR" ∷ codes "DROPPED" ∷ codes "MASTER" ∷ codes "SLAVE" ∷ codes "OFFLINE" ∷ codes "ONLINE" ∷ codes "LEADER" ∷ codes "STANDBY" ∷ []
+
+abbrev pub builtin_names : List (List ℕ)
+builtin_names = codes "MasterSlave" ∷ codes "OnlineOffline" ∷ codes "LeaderStandby" ∷ []
+
+abbrev pub builtin_models : List ModelParts
+builtin_models =
+    master_slave_parts builtin_states ∷ online_offline_parts builtin_states ∷ leader_standby_parts builtin_states ∷ []

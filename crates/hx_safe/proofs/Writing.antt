@@ -1,6 +1,6 @@
 -- An outcome that is written.
 use Rattle.std.proofs.Common.{◌≡◌, ℕ, ◌≤◌, ◌||◌, ◌&&◌, ◌==◌, not, Bool, true, false, List, ◌∷◌, length, filter, map, Option, Some, None, refl, sym, ap, ◌∙◌, subst, arith}
-use Rattle.std.specs.Prelude.{if◌then◌else◌}
+use Rattle.std.specs.Prelude.{is_none, if◌then◌else◌}
 use Rattle.std.specs.List.{list_any, list_all}
 use Rattle.std.proofs.lemmas.Bool.Decides.{nat_tests}
 use Rattle.hx_lists.specs.Lists.{count, insert_by}
@@ -15,10 +15,12 @@ use Rattle.hx_cluster.specs.declared.state.Message.{Message}
 use Rattle.hx_cluster.specs.declared.state.Cluster.{Cluster}
 use Rattle.hx_cluster.specs.declared.happenings.Outcome.{Outcome}
 use Rattle.hx_cluster.specs.declared.happenings.Outcome.TheVariants as outcomes
+use Rattle.hx_cluster.specs.declared.happenings.WriteRefusal.TheVariants as writes
 use Rattle.hx_cluster.specs.Ends.{part_eq, is_row, is_message, is_live, sessions_of, message_of, state_of, message_at, has_end, limit_at, model_of, replicas_of}
 use Rattle.hx_cluster.specs.Steps.{is_flag, is_error}
 use Rattle.hx_cluster.specs.Messages.{has_id, pending_of, as_written, row_before, restated, row_put, state_after, flags_after, written_of, after_write}
-use Rattle.hx_cluster.specs.Events.{has_part, is_open, can_write}
+use Rattle.hx_cluster.specs.Marks.{write_fault}
+use Rattle.hx_cluster.specs.Events.{has_part, can_write}
 use Rattle.hx_cluster.specs.Safe.{is_row_written, is_pending, is_kept}
 use Rattle.hx_safe.proofs.Counting.{count-le, count-filter, count-map, count-none, count-insert, all-le, all-map, all-filter, all-filter_more, all-insert, all-both, all-find, all-single, find-passes, find-single}
 use Rattle.hx_safe.proofs.Models.{good_model}
@@ -200,8 +202,16 @@ kept_written c s id m outcome k found taken =
         grind (arith, w, same)
 
 pub kept_write : (c : Cluster) (s : SessionId) (id : MsgId) (outcome : Outcome) → IsKept c → can_write c s id ≡ true → IsKept (after_write c s id outcome)
-kept_write c s id outcome k can = one (pending_of c s id) refl (grind (arith, can))
+kept_write c s id outcome k can = one (is_live c.live s) (pending_of c s id) refl can
   where
-    one : (o : Option Message) → pending_of c s id ≡ o → is_open o ≡ true → IsKept (written_of c s id outcome o)
-    one None is e = k
-    one (Some m) is e = kept_written c s id m outcome k is (grind (arith, e))
+    taken_if : (live taken written : Bool)
+        → is_none (if live then (if not taken then Some writes.NotTaken else if written then Some writes.AlreadyWritten else None) else Some writes.SessionEnded) ≡ true
+        → taken ≡ true
+    taken_if false taken written e = cc
+    taken_if true false written e = cc
+    taken_if true true written e = refl
+
+    one : (live : Bool) (o : Option Message) → pending_of c s id ≡ o → is_none (if live then write_fault o else Some writes.SessionEnded) ≡ true
+        → IsKept (written_of c s id outcome o)
+    one live None is e = k
+    one live (Some m) is e = kept_written c s id m outcome k is (taken_if live m.taken m.written e)
