@@ -1,2 +1,3 @@
 pub mod IdealState
 pub mod Faults
+pub mod ModeKinds

@@ -6,10 +6,12 @@ ghost use Rattle.hx_ideal.specs.IdealState.{lists_of, maps_of, with_list, with_m
 ghost use Rattle.hx_ideal.specs.Faults.{fault_of, list_fault as list_fault_of, map_fault as map_fault_of};
 
 mod faults;
+mod kinds;
 
 pub use faults::{list_fault, map_fault};
 use hx_ids::{InstanceId, StateId};
 use hx_lists::Seq;
+pub use kinds::ModeKind;
 use std::alloc::{AllocError, Global};
 use std::marker::Model;
 
