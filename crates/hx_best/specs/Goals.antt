@@ -1,5 +1,5 @@
 -- The state where a replica is to go.
-use Rattle.std.specs.Prelude.{ℕ, ◌-◌, Bool, false, not, ◌==◌, ◌&&◌, nat_lt, List, [], ◌∷◌, length, find, unwrap_or, if◌then◌else◌}
+use Rattle.std.specs.Prelude.{ℕ, ◌-◌, Bool, false, not, ◌==◌, ◌&&◌, ◌||◌, nat_lt, List, [], ◌∷◌, length, find, unwrap_or, if◌then◌else◌}
 use Rattle.std.specs.List.{list_any, before_first}
 use Rattle.std.specs.Option.{option_map_or}
 use Rattle.hx_lists.specs.Lists.{count}
@@ -61,6 +61,6 @@ goal models view r p s i =
     let m = model_at models r.model in
     let wants = wants_of view r p.index in
     if is_in_error view s p then (if is_asked view s p then m.initial else error)
-    else if not (is_wanted wants i) then dropped
+    else if r.dropped || not (is_wanted wants i) then dropped
     else if is_drained view.ideals.drained i then m.initial
     else wanted_goal m view r p wants i

@@ -1,5 +1,5 @@
 -- Where the replicas of a part are wanted.
-use Rattle.std.specs.Prelude.{ℕ, Bool, not, ◌==◌, List, [], map, filter, length, slice_get, slice_index_or, if◌then◌else◌}
+use Rattle.std.specs.Prelude.{ℕ, Bool, not, ◌==◌, List, [], map, filter, length, slice_get, slice_index_or}
 use Rattle.std.specs.List.{list_any, filter_map, position_or_len}
 use Rattle.hx_lists.specs.Lists.{sort_by}
 use Rattle.hx_ids.specs.declared.InstanceId.{InstanceId}
@@ -36,9 +36,9 @@ wants_in modes.Full view replicas p = Listed (in_turn (open_instances view) repl
 wants_in (modes.Semi lists) view replicas p = Listed (slice_index_or lists p [])
 wants_in (modes.Custom maps) view replicas p = Mapped (slice_index_or maps p [])
 
--- what is wanted of a part: nothing where its resource is dropped
+-- what is wanted of a part. A dropped resource keeps its lists and maps
 abbrev pub wants_of : View → Resource → ℕ → Wants
-wants_of view r p = if r.dropped then Listed [] else wants_in r.ideal.mode view r.ideal.replicas p
+wants_of view r p = wants_in r.ideal.mode view r.ideal.replicas p
 
 -- whether a replica is wanted on an instance, and the place that it has in the list
 abbrev pub is_wanted : Wants → InstanceId → Bool

@@ -1,0 +1,3 @@
+pub mod Controllers
+pub mod Steps
+pub mod OfBoard

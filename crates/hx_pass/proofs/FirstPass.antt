@@ -61,11 +61,11 @@ legal : IsLegal (opening spec) history
 legal = ((refl, refl, refl), ((refl, refl, refl), ((refl, refl, refl), (refl, (refl, (refl, (refl, ((refl, refl, refl, refl), ((refl, refl, refl), ((refl, refl, refl), (refl, tt)))))))))))
 
 proper : IsProperAlong spec [] history
-proper = (tt, (tt, (tt, ((refl, refl), ((refl, refl), ((refl, refl), ((refl, refl), (((refl, refl), refl, refl), ((refl, refl, refl), (tt, (refl, tt)))))))))))
+proper = (tt, (tt, (tt, (refl, (refl, (refl, (refl, ((refl, refl, refl), ((refl, refl, refl), (tt, (refl, tt)))))))))))
 
 lawful : IsLawful spec history
 lawful = (legal, proper)
 
 -- states before mail aren't due
 not_states : IsProper spec (take 4 history) (events.States c1 p1 (s 1)) → ⊥
-not_states h = let due = h.0 in cc
+not_states h = cc

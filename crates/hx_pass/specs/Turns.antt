@@ -1,9 +1,11 @@
 -- A controller's turn, as a history tells it.
-use Rattle.std.specs.Prelude.{Bool, ◌==◌, ◌&&◌, ◌||◌, nat_lt, List, [], ◌∷◌, ◌++◌, drop, map, unwrap_or, if◌then◌else◌}
+use Rattle.std.specs.Prelude.{Bool, true, false, ◌==◌, ◌&&◌, ◌||◌, nat_lt, List, [], ◌∷◌, ◌++◌, drop, map, unwrap_or, if◌then◌else◌}
 use Rattle.hx_lists.specs.Lists.{sort_by}
 use Rattle.hx_ids.specs.declared.ControllerId.{ControllerId}
 use Rattle.hx_ids.specs.declared.SessionId.{SessionId}
 use Rattle.hx_ids.specs.declared.InstanceId.{InstanceId}
+use Rattle.hx_ids.specs.declared.PassNo.{PassNo}
+use Rattle.hx_ids.specs.declared.Epoch.{Epoch}
 use Rattle.hx_cluster.specs.declared.description.Spec.{Spec}
 use Rattle.hx_cluster.specs.declared.planning.View.{View}
 use Rattle.hx_cluster.specs.declared.state.Row.{Row}
@@ -32,12 +34,37 @@ pub record Turn : Type 0 where
   pub begun : Begun
   pub view : View
 
--- no call is left
+-- no turn is under way
 abbrev pub idle_turn : Turn
-idle_turn = record { left = []; begun = record { epoch = record { 0 = 0 }; pass = record { 0 = 0 }; change = 0 }; view = nothing_shown }
+idle_turn = record {
+  left = [];
+  begun = record { epoch = record { 0 = 0 }; pass = record { 0 = 0 }; change = 0 };
+  view = nothing_shown;
+}
 
 abbrev pub begun_turn : Begun → Turn
 begun_turn begun = record { left = Live ∷ []; begun = begun; view = nothing_shown }
+
+-- whether calls are the same
+abbrev pub same_call : Call → Call → Bool
+same_call Live Live = true
+same_call (Mail s) (Mail t) = s.0 == t.0
+same_call (States s) (States t) = s.0 == t.0
+same_call Ideals Ideals = true
+same_call Send Send = true
+same_call Post Post = true
+same_call a b = false
+
+abbrev pub is_first : Call → List Call → Bool
+is_first call [] = false
+is_first call (first ∷ rest) = same_call first call
+
+-- a call is the next one of a turn, and has the numbers of its begin
+abbrev pub is_due : Turn → Call → PassNo → Bool
+is_due t call pass = is_first call t.left && (pass.0 == t.begun.pass.0)
+
+abbrev pub is_of_epoch : Turn → Epoch → Bool
+is_of_epoch t epoch = epoch.0 == t.begun.epoch.0
 
 -- which calls there are after live is known once it showed the sessions
 abbrev pub calls_after_live : List (SessionId × InstanceId) → List Call
@@ -50,24 +77,27 @@ with_live c t = record t { left = calls_after_live (live_shown c); view = record
 abbrev pub gone_on : Turn → View → Turn
 gone_on t view = record t { left = drop 1 t.left; view = view }
 
--- a controller's turn after an event. Only its own begin, reads, dispatch and post change it
+-- a call that isn't due leaves the turn idle
+abbrev pub if_due : Bool → Turn → Turn
+if_due due t = if due then t else idle_turn
+
+-- a controller's turn after an event. Only its own begin and calls change it, and the post ends it
 abbrev pub when_own : ControllerId → ControllerId → Turn → Turn → Turn
 when_own k j t after = if j.0 == k.0 then after else t
 
 abbrev pub turn_after : Cluster → ControllerId → Turn → Event → Turn
 turn_after c k t (events.Begin j begun) = when_own k j t (begun_turn begun)
-turn_after c k t (events.Live j pass) = when_own k j t (with_live c t)
-turn_after c k t (events.Mail j pass s) = when_own k j t (gone_on t (record t.view { mail = t.view.mail ++ mail_shown c s }))
-turn_after c k t (events.States j pass s) = when_own k j t (gone_on t (record t.view { rows = t.view.rows ++ states_shown c s }))
-turn_after c k t (events.Ideals j pass) = when_own k j t (gone_on t (record t.view { ideals = ideals_shown c }))
-turn_after c k t (events.Dispatch j epoch pass proposals answer) = when_own k j t (gone_on t t.view)
-turn_after c k t (events.Post j epoch rows) = when_own k j t (gone_on t t.view)
-turn_after c k t (events.Admin step did) = t
-turn_after c k t (events.Line n) = t
-turn_after c k t (events.Fetch i s n) = t
-turn_after c k t (events.Take s id) = t
-turn_after c k t (events.Write s id outcome) = t
-turn_after c k t (events.Ack s id) = t
+turn_after c k t (events.Live j pass) = when_own k j t (if_due (is_due t Live pass) (with_live c t))
+turn_after c k t (events.Mail j pass s) =
+    when_own k j t (if_due (is_due t (Mail s) pass) (gone_on t (record t.view { mail = t.view.mail ++ mail_shown c s })))
+turn_after c k t (events.States j pass s) =
+    when_own k j t (if_due (is_due t (States s) pass) (gone_on t (record t.view { rows = t.view.rows ++ states_shown c s })))
+turn_after c k t (events.Ideals j pass) =
+    when_own k j t (if_due (is_due t Ideals pass) (gone_on t (record t.view { ideals = ideals_shown c })))
+turn_after c k t (events.Dispatch j epoch pass proposals answer) =
+    when_own k j t (if_due (is_due t Send pass && is_of_epoch t epoch) (gone_on t t.view))
+turn_after c k t (events.Post j epoch rows) = when_own k j t idle_turn
+turn_after c k t _ = t
 
 abbrev pub turn_from : Cluster → ControllerId → Turn → List Event → Turn
 turn_from c k t [] = t

@@ -3,6 +3,10 @@
 
 use hx_ids::{MsgId, SessionId, StateId};
 
+mod slots;
+
+pub use slots::Work;
+
 /// Why a message is not accepted.
 #[derive(Clone, Copy, Debug, PartialEq, Eq)]
 pub enum DeliverFault {

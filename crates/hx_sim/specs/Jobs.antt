@@ -1,5 +1,6 @@
--- What participants do: they fetch, are delivered messages, and take, write and acknowledge them.
-use Rattle.std.specs.Prelude.{◌+◌, Bool, true, false, not, ◌==◌, ◌&&◌, List, [], ◌∷◌, ◌++◌, map, filter, find, length, Option, None, Some, if◌then◌else◌, nat_lt}
+-- What participants do in a world: they fetch, are delivered messages, and take, write and acknowledge them.
+use Rattle.std.specs.Prelude.{ℕ, ◌+◌, Bool, true, false, not, ◌==◌, ◌&&◌, List, [], ◌∷◌, ◌++◌, map, filter, find, length, Option, None, Some, is_some, option_map, if◌then◌else◌, nat_lt}
+use Rattle.std.specs.Option.{option_eq}
 use Rattle.hx_lists.specs.Lists.{sort_by}
 use Rattle.hx_ids.specs.declared.InstanceId.{InstanceId}
 use Rattle.hx_ids.specs.declared.SessionId.{SessionId}
@@ -14,10 +15,12 @@ use Rattle.hx_cluster.specs.Events.{can_take, can_write, can_ack}
 use Rattle.hx_print.specs.declared.Note.{Note}
 use Rattle.hx_print.specs.declared.Note.TheVariants as notes
 use Rattle.hx_print.specs.Texts.{accept_text}
+use Rattle.hx_handler.specs.Counts.{count_up, tried_of}
 use Rattle.hx_replicas.specs.declared.DeliverFault.{DeliverFault}
 use Rattle.hx_replicas.specs.declared.DeliverFault.TheVariants as faults
-use Rattle.hx_replicas.specs.Participants.{slot_of, deliver_fault, accept, accepted_by, accepted_all, makes, hand_out, runs_handler, with_run, finish, put_back, adopt}
-use Rattle.hx_sim.specs.World.{World, Job, Voice, happen, note, say_if_loud, participant_of, with_participant, answer_of, rest_of}
+use Rattle.hx_replicas.specs.Participants.{Participant, slot_of, deliver_fault, accept, accepted_by, accepted_all, makes, leaves_error, made_ready, hand_out, finish, adopt}
+use Rattle.hx_sim.specs.World.{Job, State, participant_of, with_participant, with_jobs, with_bag, answer_of, answered}
+use Rattle.hx_sim.specs.Runs.{Deed, Voice, done, and_then, make, happen, note, say_if_loud, for_each}
 
 -- the open jobs of an instance, by number
 abbrev pub is_job_of : InstanceId → Job → Bool
@@ -29,41 +32,40 @@ is_job i id j = is_job_of i j && (j.message.id.0 == id.0)
 abbrev pub job_before : Job → Job → Bool
 job_before a b = nat_lt a.message.id.0 b.message.id.0
 
-abbrev pub jobs_of : World → InstanceId → List Job
-jobs_of w i = sort_by job_before (filter (is_job_of i) w.jobs)
+abbrev pub jobs_of : InstanceId → State → List Job
+jobs_of i x = sort_by job_before (filter (is_job_of i) x.world.jobs)
 
-abbrev pub job_of : World → InstanceId → MsgId → Option Job
-job_of w i id = find (is_job i id) w.jobs
+abbrev pub job_of : InstanceId → MsgId → State → Option Job
+job_of i id x = find (is_job i id) x.world.jobs
 
-abbrev pub without_job : World → InstanceId → MsgId → World
-without_job w i id = record w { jobs = filter (λ j. not (is_job i id j)) w.jobs }
+abbrev pub with_job : Job → State → State
+with_job j x = with_jobs (x.world.jobs ++ j ∷ []) x
+
+abbrev pub without_job : InstanceId → MsgId → State → State
+without_job i id x = with_jobs (filter (λ j. not (is_job i id j)) x.world.jobs) x
 
 abbrev pub as_written_job : InstanceId → MsgId → Job → Job
 as_written_job i id j = if is_job i id j then record j { is_written = true } else j
 
-abbrev pub with_written : World → InstanceId → MsgId → World
-with_written w i id = record w { jobs = map (as_written_job i id) w.jobs }
+abbrev pub with_written : InstanceId → MsgId → State → State
+with_written i id x = with_jobs (map (as_written_job i id) x.world.jobs) x
 
--- a job ends by its outcome
-abbrev pub end_job : World → Job → World
-end_job w j = without_job (with_participant w j.instance (finish (participant_of w j.instance) j.message j.outcome)) j.instance j.message.id
+-- a job ends by its outcome, and its handler goes back
+abbrev pub end_job : Job → State → State
+end_job j x =
+    without_job j.instance j.message.id
+    (with_participant j.instance (finish (participant_of x.world j.instance) j.message (Some j.outcome) j.handler) x)
 
-abbrev pub end_jobs : World → List Job → World
-end_jobs w [] = w
-end_jobs w (j ∷ js) = end_jobs (end_job w j) js
+abbrev pub end_jobs : List Job → State → State
+end_jobs [] x = x
+end_jobs (j ∷ js) x = end_jobs js (end_job j x)
 
 -- a session is adopted. The open jobs end without a call
-abbrev pub adopted : InstanceId → Option SessionId → World → World
-adopted i session w = with_participant w i (adopt (participant_of w i) session)
+abbrev pub adopted : InstanceId → Option SessionId → State → State
+adopted i session x = with_participant i (adopt (participant_of x.world i) session) x
 
-abbrev pub adopt_in : World → InstanceId → Option SessionId → World
-adopt_in w i session = adopted i session (end_jobs w (jobs_of w i))
-
-abbrev pub same_session : Option SessionId → Option SessionId → Bool
-same_session None None = true
-same_session None (Some t) = false
-same_session (Some s) None = false
-same_session (Some s) (Some t) = s.0 == t.0
+abbrev pub adopt_in : InstanceId → Option SessionId → State → State
+adopt_in i session x = adopted i session (end_jobs (jobs_of i x) x)
 
 -- the bag has each message as it was fetched last
 abbrev pub put_in_bag : List Message → Message → List Message
@@ -74,18 +76,25 @@ abbrev pub put_all : List Message → List Message → List Message
 put_all bag [] = bag
 put_all bag (m ∷ ms) = put_all (put_in_bag bag m) ms
 
-abbrev pub in_bag : World → MsgId → Option Message
-in_bag w id = find (λ m. m.id.0 == id.0) w.bag
+abbrev pub in_bag : MsgId → State → Option Message
+in_bag id x = find (λ m. m.id.0 == id.0) x.world.bag
 
 -- fetch: another session is adopted, and the messages go into the bag
-abbrev pub bagged : List Message → World → World
-bagged ms w = record w { bag = put_all w.bag ms }
+abbrev pub same_session : Option SessionId → Option SessionId → Bool
+same_session a b = option_eq (λ s t. s.0 == t.0) a b
 
-abbrev pub fetched_as : World → InstanceId → Mail → World
-fetched_as w i mail = bagged mail.messages (if same_session (participant_of w i).session mail.session then w else adopt_in w i mail.session)
+abbrev pub bagged : List Message → State → State
+bagged ms x = with_bag (put_all x.world.bag ms) x
 
-abbrev pub do_fetch : World → InstanceId → World
-do_fetch w i = fetched_as (happen w (events.Fetch i (fetched w.cluster i).session (length (fetched w.cluster i).messages))) i (fetched w.cluster i)
+abbrev pub fetched_as : InstanceId → Mail → State → State
+fetched_as i mail x =
+    bagged mail.messages (if same_session (participant_of x.world i).session mail.session then x else adopt_in i mail.session x)
+
+abbrev pub fetch_mail : InstanceId → Mail → State → Deed
+fetch_mail i mail x = and_then (happen (events.Fetch i mail.session (length mail.messages)) x) (λ y. done (fetched_as i mail y))
+
+abbrev pub do_fetch : InstanceId → State → Deed
+do_fetch i x = fetch_mail i (fetched x.world.cluster i) x
 
 -- a delivery
 abbrev pub note_of : DeliverFault → Note
@@ -94,115 +103,125 @@ note_of (faults.Running m) = notes.Running m
 note_of (faults.Repeat m) = notes.Repeat m
 note_of (faults.WrongFrom has) = notes.WrongFrom has
 
-abbrev pub delivered : Voice → World → InstanceId → Message → Option DeliverFault → World
-delivered v w i m (Some f) = note v w (note_of f)
-delivered v w i m None = say_if_loud v (with_participant w i (accept (participant_of w i) m)) 1 (accept_text w.spec i m.id)
+abbrev pub delivered : Voice → InstanceId → Message → Option DeliverFault → State → Deed
+delivered v i m (Some f) x = note v (note_of f) x
+delivered v i m None x =
+    say_if_loud v 1 (accept_text x.world.spec i m.id) (with_participant i (accept (participant_of x.world i) m) x)
 
-abbrev pub deliver : Voice → World → InstanceId → Message → World
-deliver v w i m = delivered v w i m (deliver_fault (participant_of w i) m)
+abbrev pub deliver : Voice → InstanceId → Message → State → Deed
+deliver v i m x = delivered v i m (deliver_fault (participant_of x.world i) m) x
 
-abbrev pub deliver_all : World → InstanceId → List Message → World
-deliver_all w i [] = w
-deliver_all w i (m ∷ ms) = deliver_all (deliver Voice.Quiet w i m) i ms
+abbrev pub deliver_from_bag : Voice → InstanceId → Option Message → State → Deed
+deliver_from_bag v i None x = note v notes.NoMessage x
+deliver_from_bag v i (Some m) x = deliver v i m x
 
-abbrev pub deliver_from_bag : Voice → World → InstanceId → Option Message → World
-deliver_from_bag v w i None = note v w notes.NoMessage
-deliver_from_bag v w i (Some m) = deliver v w i m
-
-abbrev pub do_deliver : Voice → World → InstanceId → MsgId → World
-do_deliver v w i id = deliver_from_bag v w i (in_bag w id)
+abbrev pub do_deliver : Voice → InstanceId → MsgId → State → Deed
+do_deliver v i id x = deliver_from_bag v i (in_bag id x) x
 
 -- handing out a message: where it makes a handler, the making is answered, and may fail
 abbrev pub is_failed : Outcome → Bool
 is_failed outcomes.Ok = false
 is_failed outcomes.Failed = true
 
-abbrev pub making_of : World → InstanceId → Message → Outcome
-making_of w i m = answer_of w.handlers i m.part true ((slot_of (participant_of w i) m.part).makings + 1)
+abbrev pub fails_to_make : InstanceId → Message → State → Bool
+fails_to_make i m x = is_failed (answer_of x.answers i m.part true (tried_of (participant_of x.world i).tried m.part + 1))
 
-abbrev pub handed_out : World → InstanceId → Message → World
-handed_out w i m =
-    if makes (slot_of (participant_of w i) m.part) m
-    then with_participant (record w { handlers = rest_of w.handlers }) i (hand_out (participant_of w i) m (is_failed (making_of w i m)))
-    else with_participant w i (hand_out (participant_of w i) m false)
+abbrev pub if_answered : Bool → State → State
+if_answered is x = if is then answered x else x
 
--- its run: a handler that is held runs, and answers; leaving ERROR always succeeds; without a handler it fails
-abbrev pub leaves_error : Message → Bool
-leaves_error m = m.from.0 == 0
+abbrev pub handed_out : InstanceId → Message → Bool → State → State
+handed_out i m is_faulted x =
+    if_answered (makes (slot_of (participant_of x.world i) m.part) m)
+    (with_participant i (hand_out (participant_of x.world i) m is_faulted) x)
 
-abbrev pub run_outcome : World → InstanceId → Message → Outcome
-run_outcome w i m =
-    if leaves_error m then outcomes.Ok
-    else if runs_handler (slot_of (participant_of w i) m.part) m
-    then answer_of w.handlers i m.part false ((slot_of (participant_of w i) m.part).runs + 1)
-    else outcomes.Failed
+-- the handler that goes out with it, by its runs
+abbrev pub handler_of : InstanceId → Message → Bool → State → Option ℕ
+handler_of i m is_faulted x = (made_ready (slot_of (participant_of x.world i) m.part) m is_faulted).handler
 
-abbrev pub ran : World → InstanceId → Message → World
-ran w i m =
-    if runs_handler (slot_of (participant_of w i) m.part) m
-    then with_participant (record w { handlers = rest_of w.handlers }) i (with_run (participant_of w i) m.part)
-    else w
+-- its run: a handler runs, and answers; leaving ERROR is a reset, and always succeeds; without a handler it fails
+abbrev pub runs_handler : Message → Option ℕ → Bool
+runs_handler m handler = is_some handler && not (leaves_error m)
 
-abbrev pub with_job : World → Job → World
-with_job w j = record w { jobs = w.jobs ++ j ∷ [] }
+abbrev pub outcome_of_run : InstanceId → Message → Option ℕ → State → Outcome
+outcome_of_run i m None x = if leaves_error m then outcomes.Ok else outcomes.Failed
+outcome_of_run i m (Some runs) x = if leaves_error m then outcomes.Ok else answer_of x.answers i m.part false (runs + 1)
+
+abbrev pub handler_after : Message → Option ℕ → Option ℕ
+handler_after m handler = if runs_handler m handler then option_map count_up handler else handler
+
+abbrev pub job_run : InstanceId → Message → Option ℕ → State → Job
+job_run i m handler x = record {
+  instance = i;
+  message = m;
+  handler = handler_after m handler;
+  outcome = outcome_of_run i m handler x;
+  is_written = false;
+}
+
+abbrev pub ran : InstanceId → Message → Option ℕ → State → State
+ran i m handler x = with_job (job_run i m handler x) (if_answered (runs_handler m handler) x)
 
 -- take: the accepted message is handed out and taken, and its transition runs. After a refusal it is put back
-abbrev pub taken : World → InstanceId → Message → World
-taken w i m = with_job (ran w i m) (record { instance = i; message = m; outcome = run_outcome w i m; is_written = false })
+abbrev pub put_back : InstanceId → Message → Option ℕ → State → State
+put_back i m handler x = with_participant i (finish (participant_of x.world i) m None handler) x
 
-abbrev pub take_handed : Voice → InstanceId → Message → World → World
-take_handed v i m w =
-    if can_take w.cluster m.session m.id then taken (happen w (events.Take m.session m.id)) i m
-    else note v (with_participant w i (put_back (participant_of w i) m)) notes.SessionEnded
+abbrev pub take_job : Voice → InstanceId → Message → Option ℕ → State → Deed
+take_job v i m handler x =
+    if can_take x.world.cluster m.session m.id
+    then and_then (make (events.Take m.session m.id) x) (λ y. done (ran i m handler y))
+    else note v notes.SessionEnded (put_back i m handler x)
 
-abbrev pub take_accepted : Voice → World → InstanceId → Option Message → World
-take_accepted v w i None = note v w notes.NoJob
-take_accepted v w i (Some m) = take_handed v i m (handed_out w i m)
+abbrev pub take_handed : Voice → InstanceId → Message → Bool → State → Deed
+take_handed v i m is_faulted x = take_job v i m (handler_of i m is_faulted x) (handed_out i m is_faulted x)
 
-abbrev pub do_take : Voice → World → InstanceId → MsgId → World
-do_take v w i id = take_accepted v w i (accepted_by (participant_of w i) id)
+abbrev pub take_accepted : Voice → InstanceId → Option Message → State → Deed
+take_accepted v i None x = note v notes.NoJob x
+take_accepted v i (Some m) x = take_handed v i m (fails_to_make i m x) x
+
+abbrev pub do_take : Voice → InstanceId → MsgId → State → Deed
+do_take v i id x = take_accepted v i (accepted_by (participant_of x.world i) id) x
 
 -- write: the outcome comes to the board. After a refusal the job ends
-abbrev pub write_job : Voice → World → Option Job → World
-write_job v w None = note v w notes.NoJob
-write_job v w (Some j) =
-    if j.is_written then note v w notes.NoJob
-    else if can_write w.cluster j.message.session j.message.id
-    then with_written (happen w (events.Write j.message.session j.message.id j.outcome)) j.instance j.message.id
-    else note v (end_job w j) notes.SessionEnded
+abbrev pub write_job : Voice → Option Job → State → Deed
+write_job v None x = note v notes.NoJob x
+write_job v (Some j) x =
+    if j.is_written then note v notes.NoJob x
+    else if can_write x.world.cluster j.message.session j.message.id
+    then and_then (make (events.Write j.message.session j.message.id j.outcome) x) (λ y. done (with_written j.instance j.message.id y))
+    else note v notes.SessionEnded (end_job j x)
 
-abbrev pub do_write : Voice → World → InstanceId → MsgId → World
-do_write v w i id = write_job v w (job_of w i id)
+abbrev pub do_write : Voice → InstanceId → MsgId → State → Deed
+do_write v i id x = write_job v (job_of i id x) x
 
 -- ack: the message is removed. The job ends, also after a refusal
-abbrev pub ack_job : Voice → World → Option Job → World
-ack_job v w None = note v w notes.NoJob
-ack_job v w (Some j) =
-    if not j.is_written then note v w notes.NoJob
-    else if can_ack w.cluster j.message.session j.message.id
-    then end_job (happen w (events.Ack j.message.session j.message.id)) j
-    else note v (end_job w j) notes.SessionEnded
+abbrev pub ack_job : Voice → Option Job → State → Deed
+ack_job v None x = note v notes.NoJob x
+ack_job v (Some j) x =
+    if not j.is_written then note v notes.NoJob x
+    else if can_ack x.world.cluster j.message.session j.message.id
+    then and_then (make (events.Ack j.message.session j.message.id) x) (λ y. done (end_job j y))
+    else note v notes.SessionEnded (end_job j x)
 
-abbrev pub do_ack : Voice → World → InstanceId → MsgId → World
-do_ack v w i id = ack_job v w (job_of w i id)
+abbrev pub do_ack : Voice → InstanceId → MsgId → State → Deed
+do_ack v i id x = ack_job v (job_of i id x) x
 
 -- work: the open jobs are carried to their ends, what is fetched is delivered, and each accepted message is taken, written and acknowledged
-abbrev pub carry : World → InstanceId → MsgId → World
-carry w i id = do_ack Voice.Quiet (do_write Voice.Quiet w i id) i id
+abbrev pub carry : InstanceId → MsgId → State → Deed
+carry i id x = and_then (do_write Voice.Quiet i id x) (λ y. do_ack Voice.Quiet i id y)
 
-abbrev pub carry_all : World → InstanceId → List Job → World
-carry_all w i [] = w
-carry_all w i (j ∷ js) = carry_all (carry w i j.message.id) i js
+abbrev pub carry_jobs : InstanceId → State → Deed
+carry_jobs i x = for_each (λ j y. carry i j.message.id y) (jobs_of i x) x
 
-abbrev pub run_all : World → InstanceId → List Message → World
-run_all w i [] = w
-run_all w i (m ∷ ms) = run_all (carry (do_take Voice.Quiet w i m.id) i m.id) i ms
+abbrev pub run_message : InstanceId → Message → State → Deed
+run_message i m x = and_then (do_take Voice.Quiet i m.id x) (λ y. carry i m.id y)
 
-abbrev pub run_accepted : InstanceId → World → World
-run_accepted i w = run_all w i (accepted_all (participant_of w i))
+abbrev pub run_accepted : InstanceId → State → Deed
+run_accepted i x = for_each (run_message i) (accepted_all (participant_of x.world i)) x
 
-abbrev pub fetch_and_deliver : InstanceId → World → World
-fetch_and_deliver i w = deliver_all (do_fetch w i) i (fetched w.cluster i).messages
+abbrev pub fetch_and_deliver : InstanceId → Mail → State → Deed
+fetch_and_deliver i mail x = and_then (fetch_mail i mail x) (λ y. for_each (deliver Voice.Quiet i) mail.messages y)
 
-abbrev pub do_work : World → InstanceId → World
-do_work w i = run_accepted i (fetch_and_deliver i (carry_all w i (jobs_of w i)))
+abbrev pub do_work : InstanceId → State → Deed
+do_work i x =
+    and_then (carry_jobs i x) (λ y.
+    and_then (fetch_and_deliver i (fetched y.world.cluster i) y) (λ z. run_accepted i z))

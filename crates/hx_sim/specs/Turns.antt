@@ -1,193 +1,185 @@
--- A controller's turn: begin, the reads, the dispatch of the plan, and the post.
-use Rattle.std.specs.Prelude.{ℕ, ◌+◌, Bool, true, false, not, ◌==◌, ◌||◌, List, [], ◌∷◌, ◌++◌, map, length, None, Some, if◌then◌else◌, nat_lt}
-use Rattle.std.specs.List.{list_all}
-use Rattle.hx_lists.specs.Lists.{count}
+-- What controllers do in a world: they make the steps of their turns, one by one, several of a kind, or all that are left.
+use Rattle.std.specs.Prelude.{ℕ, ◌+◌, Bool, true, false, ◌==◌, List, [], ◌∷◌, length, filter, Option, None, Some}
 use Rattle.hx_ids.specs.declared.ControllerId.{ControllerId}
-use Rattle.hx_ids.specs.declared.SessionId.{SessionId}
-use Rattle.hx_cluster.specs.declared.planning.View.{View}
-use Rattle.hx_cluster.specs.declared.planning.Plan.{Plan}
 use Rattle.hx_cluster.specs.declared.planning.Entry.{Entry}
 use Rattle.hx_cluster.specs.declared.planning.Target.{Target}
 use Rattle.hx_cluster.specs.declared.planning.Finding.{Finding}
 use Rattle.hx_cluster.specs.declared.planning.Finding.TheVariants as findings
-use Rattle.hx_cluster.specs.declared.happenings.Placed.{Placed}
-use Rattle.hx_cluster.specs.declared.happenings.Placed.TheVariants as placings
-use Rattle.hx_cluster.specs.declared.happenings.Dispatched.{Dispatched}
-use Rattle.hx_cluster.specs.declared.happenings.Event.TheVariants as events
-use Rattle.hx_cluster.specs.Steps.{is_leader}
-use Rattle.hx_cluster.specs.Reads.{live_shown, mail_shown, states_shown, ideals_shown, nothing_shown}
-use Rattle.hx_cluster.specs.Events.{begun_of, dispatched_of, is_epoch, is_pass, is_proposable, is_postable}
+use Rattle.hx_cluster.specs.Reads.{live_shown}
 use Rattle.hx_print.specs.declared.Note.TheVariants as notes
 use Rattle.hx_print.specs.declared.Word.{Word}
 use Rattle.hx_print.specs.declared.Word.TheVariants as words
 use Rattle.hx_print.specs.Texts.{sent_text, waiting_text, moved_text, settled_text, failed_text, full_text}
+use Rattle.hx_script.specs.declared.ReadKind.{ReadKind}
+use Rattle.hx_script.specs.declared.ReadKind.TheVariants as kinds
+use Rattle.hx_pass.specs.Turns.{Call, Live, Mail, States, Ideals, Send, Post}
 use Rattle.hx_control.specs.declared.PassOutcome.{PassOutcome}
 use Rattle.hx_control.specs.declared.PassOutcome.TheVariants as ends
-use Rattle.hx_pass.specs.Plans.{plan}
-use Rattle.hx_pass.specs.Turns.{posted_of}
-use Rattle.hx_sim.specs.World.{World, Turn, Voice, idle_turn, when, happen, note, say, turn_of, with_turn}
+use Rattle.hx_control.specs.declared.ControlFault.{ControlFault}
+use Rattle.hx_control.specs.declared.ControlFault.TheVariants as faults
+use Rattle.hx_control.specs.Controllers.{Controller, idle_controller, is_mail_call, is_states_call}
+use Rattle.hx_control.specs.Steps.{Step, Calls, Plans, Refuses, step_of, after_step}
+use Rattle.hx_sim.specs.World.{State, controller_of, with_controller}
+use Rattle.hx_sim.specs.Runs.{Run, Deed, Voice, gives, done, go_on, and_then, happen, say, note, for_each}
 
--- a turn goes to another word
-abbrev pub go_to : World → ControllerId → Word → World
-go_to w k word = with_turn w k (record (turn_of w k) { at = word })
-
--- begin: a turn that is refused is idle
-abbrev pub do_begin : Voice → World → ControllerId → World
-do_begin v w k =
-    if is_leader k w.cluster.leader
-    then with_turn (happen w (events.Begin k (begun_of w.cluster k))) k (record { at = words.Live; begun = begun_of w.cluster k; view = nothing_shown; outcome = None })
-    else note v (with_turn w k idle_turn) (notes.NotLeader w.cluster.leader)
-
--- the reads. In a world a turn's pass number always stands, since only this controller raises it
-abbrev pub has_pass : World → ControllerId → Bool
-has_pass w k = is_pass w.cluster k (turn_of w k).begun.pass
-
-abbrev pub with_view : World → ControllerId → View → World
-with_view w k v = with_turn w k (record (turn_of w k) { view = v })
-
-abbrev pub read_live : World → ControllerId → World
-read_live w k = happen (with_view w k (record (turn_of w k).view { live = live_shown w.cluster })) (events.Live k (turn_of w k).begun.pass)
-
-abbrev pub read_mail : World → ControllerId → SessionId → World
-read_mail w k s = happen (with_view w k (record (turn_of w k).view { mail = (turn_of w k).view.mail ++ mail_shown w.cluster s })) (events.Mail k (turn_of w k).begun.pass s)
-
-abbrev pub read_states : World → ControllerId → SessionId → World
-read_states w k s = happen (with_view w k (record (turn_of w k).view { rows = (turn_of w k).view.rows ++ states_shown w.cluster s })) (events.States k (turn_of w k).begun.pass s)
-
-abbrev pub read_ideals : World → ControllerId → World
-read_ideals w k = happen (with_view w k (record (turn_of w k).view { ideals = ideals_shown w.cluster })) (events.Ideals k (turn_of w k).begun.pass)
-
-abbrev pub shown_sessions : World → ControllerId → List SessionId
-shown_sessions w k = map (λ e. e.0) (turn_of w k).view.live
-
-abbrev pub read_mail_of : World → ControllerId → List SessionId → World
-read_mail_of w k [] = w
-read_mail_of w k (s ∷ ss) = read_mail_of (read_mail w k s) k ss
-
-abbrev pub read_states_of : World → ControllerId → List SessionId → World
-read_states_of w k [] = w
-read_states_of w k (s ∷ ss) = read_states_of (read_states w k s) k ss
-
--- after `live`, a turn that was shown no session goes on with `ideals`
-abbrev pub word_after_live : List SessionId → Word
-word_after_live [] = words.Ideals
-word_after_live (s ∷ ss) = words.Mail
-
-abbrev pub after_live : World → ControllerId → World
-after_live w k = go_to w k (word_after_live (shown_sessions w k))
-
-abbrev pub do_live : World → ControllerId → World
-do_live w k = if has_pass w k then after_live (read_live w k) k else go_to w k words.Begin
-
-abbrev pub do_mail : World → ControllerId → World
-do_mail w k = if has_pass w k then go_to (read_mail_of w k (shown_sessions w k)) k words.States else go_to w k words.Begin
-
-abbrev pub do_states : World → ControllerId → World
-do_states w k = if has_pass w k then go_to (read_states_of w k (shown_sessions w k)) k words.Ideals else go_to w k words.Begin
-
-abbrev pub do_ideals : World → ControllerId → World
-do_ideals w k = if has_pass w k then go_to (read_ideals w k) k words.Send else go_to w k words.Begin
-
--- how a dispatch ended
-abbrev pub is_sent : Placed → Bool
-is_sent (placings.Sent id) = true
-is_sent placings.Ended = false
-is_sent placings.ResourceDropped = false
-is_sent (placings.Busy id) = false
-is_sent (placings.WrongFrom has) = false
-is_sent placings.Illegal = false
-is_sent (placings.OverBound n bound) = false
-is_sent (placings.OverThrottle rule load limit) = false
-
-abbrev pub outcome_of : Turn → Plan → Dispatched → PassOutcome
-outcome_of t p d =
-    if nat_lt 0 (length p.proposals) then ends.Sent (count is_sent d.placed)
-    else if nat_lt 0 (length t.view.mail) then ends.Waiting (length t.view.mail)
-    else if t.begun.change == d.change then ends.Settled p.report
-    else ends.Moved t.begun.change d.change
+-- the calls of a controller's turn that are left
+abbrev pub left_of : State → ControllerId → List Call
+left_of x k = (controller_of x.world k).turn.left
 
 -- the lines of a settled report: replicas that failed, and those that a bound holds back, by resource, partition and instance
-abbrev pub say_finding : World → Target → Finding → World
-say_finding w t findings.Failed = say w 1 (failed_text w.spec w.cluster.resources t.instance t.part)
-say_finding w t (findings.Full f) = say w (1 + length f.holders) (full_text w.spec w.cluster.resources (live_shown w.cluster) f)
-say_finding w t (findings.Pending id) = w
-say_finding w t findings.AtBest = w
-say_finding w t findings.Sent = w
-say_finding w t (findings.Held h) = w
+abbrev pub say_finding : Target → Finding → State → Deed
+say_finding t findings.Failed x = say 1 (failed_text x.world.spec x.world.cluster.resources t.instance t.part) x
+say_finding t (findings.Full f) x =
+    say (1 + length f.holders) (full_text x.world.spec x.world.cluster.resources (live_shown x.world.cluster) f) x
+say_finding t _ x = done x
 
-abbrev pub say_entries : World → List Entry → World
-say_entries w [] = w
-say_entries w (e ∷ es) = say_entries (say_finding w e.target e.finding) es
+abbrev pub say_entries : List Entry → State → Deed
+say_entries entries x = for_each (λ e y. say_finding e.target e.finding y) entries x
 
-abbrev pub say_outcome : World → ControllerId → PassOutcome → World
-say_outcome w k (ends.Sent n) = say w 1 (sent_text k n)
-say_outcome w k (ends.Waiting n) = say w 1 (waiting_text k n)
-say_outcome w k (ends.Moved from to) = say w 1 (moved_text k from to)
-say_outcome w k (ends.Settled report) = say_entries (say w 1 (settled_text k)) report.entries
+-- the lines of an outcome
+abbrev pub say_outcome : ControllerId → PassOutcome → State → Deed
+say_outcome k (ends.Sent n) x = say 1 (sent_text k n) x
+say_outcome k (ends.Waiting n) x = say 1 (waiting_text k n) x
+say_outcome k (ends.Moved from to) x = say 1 (moved_text k from to) x
+say_outcome k (ends.Settled report) x = and_then (say 1 (settled_text k) x) (λ y. say_entries report.entries y)
 
-abbrev pub tell_outcome : Voice → World → ControllerId → PassOutcome → World
-tell_outcome Voice.Quiet w k o = w
-tell_outcome (Voice.Loud n) w k o = say_outcome w k o
+abbrev pub tell_outcome : Voice → ControllerId → Option PassOutcome → State → Deed
+tell_outcome (Voice.Loud line) k (Some outcome) x = say_outcome k outcome x
+tell_outcome _ k _ x = done x
 
--- the plan of what the turn was shown
-abbrev pub plan_of : World → ControllerId → Plan
-plan_of w k = plan w.spec.models w.spec.rules (turn_of w k).view
+-- the note of a refusal. In a world every pass number stands, since only its controller raises it, and each turn is of the board
+abbrev pub note_fault : Voice → ControlFault → State → Deed
+note_fault v (faults.NotLeader led_by) x = note v (notes.NotLeader led_by) x
+note_fault v (faults.Fenced now) x = note v (notes.Fenced now) x
+note_fault v _ x = done x
 
--- send: refused where another epoch stands. The parts of what a turn in a world was shown are all on the board
-abbrev pub sent_as : Voice → World → ControllerId → Plan → Dispatched → World
-sent_as v w k p d =
-    tell_outcome v (with_turn (happen w (events.Dispatch k (turn_of w k).begun.epoch (turn_of w k).begun.pass p.proposals d)) k
-    (record (turn_of w k) { at = words.Post; outcome = Some (outcome_of (turn_of w k) p d) })) k (outcome_of (turn_of w k) p d)
+-- a step of a turn. Its answer is the outcome, where it was a dispatch
+abbrev pub stepped : Voice → Controller → Step → State → Run (Option PassOutcome)
+stepped v k (Calls e outcome) x =
+    and_then (happen e x) (λ y.
+    and_then (tell_outcome v k.id outcome (with_controller (after_step x.world.cluster k (Calls e outcome)) y)) (λ z. gives z outcome))
+stepped v k (Plans p) x = gives (with_controller (after_step x.world.cluster k (Plans p)) x) None
+stepped v k (Refuses fault) x =
+    and_then (note_fault v fault (with_controller (after_step x.world.cluster k (Refuses fault)) x)) (λ y. gives y None)
 
-abbrev pub send_plan : Voice → World → ControllerId → Plan → World
-send_plan v w k p =
-    if not (has_pass w k) || not (list_all (is_proposable w.cluster) p.proposals) then go_to w k words.Begin
-    else sent_as v w k p (dispatched_of w.cluster k p.proposals)
+abbrev pub step_controller : Voice → Controller → State → Run (Option PassOutcome)
+step_controller v k x = stepped v k (step_of x.world.spec x.world.cluster k) x
 
-abbrev pub do_send : Voice → World → ControllerId → World
-do_send v w k =
-    if is_epoch w.cluster (turn_of w k).begun.epoch then send_plan v w k (plan_of w k)
-    else note v (go_to w k words.Begin) (notes.Fenced w.cluster.epoch)
+abbrev pub step : Voice → ControllerId → State → Run (Option PassOutcome)
+step v k x = step_controller v (controller_of x.world k) x
 
--- post: the rows of the view
-abbrev pub do_post : Voice → World → ControllerId → World
-do_post v w k =
-    if not (is_epoch w.cluster (turn_of w k).begun.epoch) then note v (go_to w k words.Begin) (notes.Fenced w.cluster.epoch)
-    else if not (list_all (is_postable w.cluster) (posted_of (turn_of w k).view)) then go_to w k words.Begin
-    else go_to (happen w (events.Post k (turn_of w k).begun.epoch (posted_of (turn_of w k).view))) k words.Begin
+-- a turn that is given up is idle
+abbrev pub restarted : ControllerId → State → State
+restarted k x = with_controller (idle_controller k) x
 
--- whether a turn is at a word
-abbrev pub word_number : Word → ℕ
-word_number words.Begin = 0
-word_number words.Live = 1
-word_number words.Mail = 2
-word_number words.States = 3
-word_number words.Ideals = 4
-word_number words.Send = 5
-word_number words.Post = 6
+abbrev pub do_begin : Voice → ControllerId → State → Run (Option PassOutcome)
+do_begin v k x = step v k (restarted k x)
 
-abbrev pub is_at : World → ControllerId → Word → Bool
-is_at w k word = word_number (turn_of w k).at == word_number word
+-- what is done only where a turn is under way, so not after a refusal
+abbrev pub if_under_way : List Call → (State → Run (Option PassOutcome)) → State → Run (Option PassOutcome)
+if_under_way [] f x = gives x None
+if_under_way (call ∷ calls) f x = f x
 
--- the rest of a turn, word by word: each is done where the turn is at it, so one that a refusal ended goes no further
-abbrev pub finish_post : Voice → ControllerId → World → World
-finish_post v k w = when (is_at w k words.Post) (λ x. do_post v x k) w
+-- a call of a turn; before the dispatch the plan is made
+abbrev pub do_call : Voice → ControllerId → Call → State → Run (Option PassOutcome)
+do_call v k Send x = go_on (step v k x) (λ _ y. if_under_way (left_of y k) (λ z. step v k z) y)
+do_call v k _ x = step v k x
 
-abbrev pub finish_send : Voice → ControllerId → World → World
-finish_send v k w = finish_post v k (when (is_at w k words.Send) (λ x. do_send v x k) w)
+-- the later of two outcomes, if there is one
+abbrev pub or_earlier : Option PassOutcome → Option PassOutcome → Option PassOutcome
+or_earlier earlier None = earlier
+or_earlier earlier (Some outcome) = Some outcome
 
-abbrev pub finish_ideals : Voice → ControllerId → World → World
-finish_ideals v k w = finish_send v k (when (is_at w k words.Ideals) (λ x. do_ideals x k) w)
+-- calls of a turn, in order, up to one that is refused
+abbrev pub do_calls : Voice → ControllerId → List Call → State → Run (Option PassOutcome)
+do_calls v k [] x = gives x None
+do_calls v k (call ∷ calls) x =
+    go_on (do_call v k call x) (λ o y.
+    go_on (if_under_way (left_of y k) (λ z. do_calls v k calls z) y) (λ p z. gives z (or_earlier o p)))
 
-abbrev pub finish_states : Voice → ControllerId → World → World
-finish_states v k w = finish_ideals v k (when (is_at w k words.States) (λ x. do_states x k) w)
+-- the calls that are left
+abbrev pub do_rest : Voice → ControllerId → State → Run (Option PassOutcome)
+do_rest v k x = do_calls v k (left_of x k) x
 
-abbrev pub finish_mail : Voice → ControllerId → World → World
-finish_mail v k w = finish_states v k (when (is_at w k words.Mail) (λ x. do_mail x k) w)
+-- a whole turn where it is idle, and else its rest. Which calls come after live is known once it was made
+abbrev pub begin_if_idle : Voice → ControllerId → List Call → State → Run (Option PassOutcome)
+begin_if_idle v k [] x = step v k x
+begin_if_idle v k (call ∷ calls) x = gives x None
 
-abbrev pub finish_live : Voice → ControllerId → World → World
-finish_live v k w = finish_mail v k (when (is_at w k words.Live) (λ x. do_live x k) w)
+abbrev pub do_pass : Voice → ControllerId → State → Run (Option PassOutcome)
+do_pass v k x =
+    go_on (begin_if_idle v k (left_of x k) x) (λ _ y.
+    go_on (do_rest v k y) (λ o z.
+    go_on (do_rest v k z) (λ p u. gives u (or_earlier o p))))
 
--- a whole turn where it is idle, and else its rest
-abbrev pub do_pass : Voice → World → ControllerId → World
-do_pass v w k = finish_live v k (when (is_at w k words.Begin) (λ x. do_begin v x k) w)
+-- an operation whose outcome nobody asks for
+abbrev pub without_outcome : Run (Option PassOutcome) → Deed
+without_outcome r = go_on r (λ _ x. done x)
+
+-- the next word of a turn
+abbrev pub word_of : List Call → Word
+word_of [] = words.Begin
+word_of (Live ∷ calls) = words.Live
+word_of (Mail s ∷ calls) = words.Mail
+word_of (States s ∷ calls) = words.States
+word_of (Ideals ∷ calls) = words.Ideals
+word_of (Send ∷ calls) = words.Send
+word_of (Post ∷ calls) = words.Post
+
+abbrev pub out_of_turn : Voice → ControllerId → State → Deed
+out_of_turn v k x = note v (notes.OutOfTurn (word_of (left_of x k))) x
+
+-- the calls of a word, which are done only in their turn
+abbrev pub is_live_call : Call → Bool
+is_live_call Live = true
+is_live_call _ = false
+
+abbrev pub is_ideals_call : Call → Bool
+is_ideals_call Ideals = true
+is_ideals_call _ = false
+
+abbrev pub is_send_call : Call → Bool
+is_send_call Send = true
+is_send_call _ = false
+
+abbrev pub is_post_call : Call → Bool
+is_post_call Post = true
+is_post_call _ = false
+
+abbrev pub chosen : Bool → (State → Deed) → (State → Deed) → State → Deed
+chosen true f otherwise x = f x
+chosen false f otherwise x = otherwise x
+
+abbrev pub in_turn : (Call → Bool) → List Call → (State → Deed) → (State → Deed) → State → Deed
+in_turn is_of [] f otherwise x = otherwise x
+in_turn is_of (call ∷ calls) f otherwise x = chosen (is_of call) f otherwise x
+
+abbrev pub do_word : Voice → ControllerId → (Call → Bool) → (State → Deed) → State → Deed
+do_word v k is_of otherwise x =
+    in_turn is_of (left_of x k) (λ y. without_outcome (do_calls v k (filter is_of (left_of y k)) y)) otherwise x
+
+abbrev pub do_word_in_turn : Voice → ControllerId → (Call → Bool) → State → Deed
+do_word_in_turn v k is_of x = do_word v k is_of (λ y. out_of_turn v k y) x
+
+-- where `live` showed no session there is no mail and there are no states to read: these words do nothing before the ideals
+abbrev pub is_nothing_shown : List Call → ℕ → Bool
+is_nothing_shown (Ideals ∷ calls) shown = shown == 0
+is_nothing_shown _ shown = false
+
+abbrev pub is_passed_over : Controller → Bool
+is_passed_over k = is_nothing_shown k.turn.left (length k.turn.view.live)
+
+abbrev pub pass_over : Voice → ControllerId → State → Deed
+pass_over v k x = chosen (is_passed_over (controller_of x.world k)) (λ y. done y) (λ y. out_of_turn v k y) x
+
+abbrev pub do_read : Voice → ControllerId → ReadKind → State → Deed
+do_read v k kinds.Live x = do_word_in_turn v k is_live_call x
+do_read v k kinds.Mail x = do_word v k is_mail_call (λ y. pass_over v k y) x
+do_read v k kinds.States x = do_word v k is_states_call (λ y. pass_over v k y) x
+do_read v k kinds.Ideals x = do_word_in_turn v k is_ideals_call x
+
+abbrev pub do_send : Voice → ControllerId → State → Deed
+do_send v k x = do_word_in_turn v k is_send_call x
+
+abbrev pub do_post : Voice → ControllerId → State → Deed
+do_post v k x = do_word_in_turn v k is_post_call x

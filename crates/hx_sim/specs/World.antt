@@ -1,5 +1,6 @@
--- The plain world in which a script is done, and the ways in which it changes: an event happens, a line is said, or the history is full.
-use Rattle.std.specs.Prelude.{ℕ, ◌+◌, Bool, true, false, List, [], ◌∷◌, ◌++◌, Option, None, if◌then◌else◌, slice_set, slice_index_or, nat_lt, replicate, length}
+-- The plain world in which a script is done, and the answers of handlers that a call passes through.
+use Rattle.std.specs.Prelude.{ℕ, List, [], ◌∷◌, Option, map, length, replicate, slice_set, slice_index_or, if◌then◌else◌, Bool}
+use Rattle.hx_lists.specs.Lists.{numbers_below}
 use Rattle.hx_ids.specs.declared.InstanceId.{InstanceId}
 use Rattle.hx_ids.specs.declared.ControllerId.{ControllerId}
 use Rattle.hx_ids.specs.declared.PartId.{PartId}
@@ -7,136 +8,101 @@ use Rattle.hx_cluster.specs.declared.description.Spec.{Spec}
 use Rattle.hx_cluster.specs.declared.description.Failure.{Failure}
 use Rattle.hx_cluster.specs.declared.state.Message.{Message}
 use Rattle.hx_cluster.specs.declared.state.Cluster.{Cluster}
-use Rattle.hx_cluster.specs.declared.planning.View.{View}
-use Rattle.hx_cluster.specs.declared.happenings.Begun.{Begun}
 use Rattle.hx_cluster.specs.declared.happenings.Outcome.{Outcome}
 use Rattle.hx_cluster.specs.declared.happenings.Outcome.TheVariants as outcomes
 use Rattle.hx_cluster.specs.declared.happenings.Event.{Event}
 use Rattle.hx_cluster.specs.Steps.{opening}
-use Rattle.hx_cluster.specs.Reads.{nothing_shown}
-use Rattle.hx_cluster.specs.Events.{next}
-use Rattle.hx_cluster.specs.Weight.{weight_of}
-use Rattle.hx_print.specs.declared.Note.{Note}
-use Rattle.hx_print.specs.declared.Word.{Word}
-use Rattle.hx_print.specs.declared.Word.TheVariants as words
-use Rattle.hx_print.specs.Texts.{entry_text, note_text}
-use Rattle.hx_control.specs.declared.PassOutcome.{PassOutcome}
-use Rattle.hx_replicas.specs.Participants.{Participant, new_participant, fails}
+use Rattle.hx_handler.specs.Failures.{has_failure}
+use Rattle.hx_replicas.specs.Participants.{Participant, new_participant, failures_on}
+use Rattle.hx_control.specs.Controllers.{Controller, idle_controller}
 
--- a controller's turn: its next word, what its begin answered, what its reads showed, and how its dispatch ended
-pub record Turn : Type 0 where
-  pub at : Word
-  pub begun : Begun
-  pub view : View
-  pub outcome : Option PassOutcome
-
-abbrev pub idle_turn : Turn
-idle_turn = record { at = words.Begin; begun = record { epoch = record { 0 = 0 }; pass = record { 0 = 0 }; change = 0 }; view = nothing_shown; outcome = None }
-
--- a job that was run: its instance and message, its outcome, and whether that was written
+-- a job that was run: its instance and message, the runs of its handler, if it has one, its outcome, and whether that was written
 pub record Job : Type 0 where
   pub instance : InstanceId
   pub message : Message
+  pub handler : Option ℕ
   pub outcome : Outcome
   pub is_written : Bool
-
--- how makings and runs of handlers end: as a description's failures say, or as they were answered, in order
-pub data Handlers : Type 0 where
-  Told : List Failure → Handlers
-  Answered : List Outcome → Handlers
 
 pub record World : Type 0 where
   pub spec : Spec
   pub cluster : Cluster
-  pub turns : List Turn
+  -- by number, and by instance
+  pub controllers : List Controller
   pub participants : List Participant
   pub jobs : List Job
   -- all messages ever fetched, each as it was fetched last
   pub bag : List Message
-  pub handlers : Handlers
   pub history : List Event
-  -- what the line under way printed
-  pub text : List ℕ
+  -- what the events and the charges weigh, and the most that they may
   pub weight : ℕ
   pub limit : ℕ
-  -- nothing more happens and nothing more is said
-  pub is_full : Bool
 
-abbrev pub opening_world : Spec → ℕ → Handlers → World
-opening_world spec limit handlers = record {
+abbrev pub controllers_of : ℕ → List Controller
+controllers_of n = map (λ k. idle_controller (record { 0 = k })) (numbers_below n)
+
+abbrev pub opening_world : Spec → ℕ → World
+opening_world spec limit = record {
   spec = spec;
   cluster = opening spec;
-  turns = replicate spec.controllers idle_turn;
+  controllers = controllers_of spec.controllers;
   participants = replicate (length spec.instances) new_participant;
   jobs = [];
   bag = [];
-  handlers = handlers;
   history = [];
-  text = [];
   weight = 0;
   limit = limit;
-  is_full = false;
 }
 
--- something is done, or not
-abbrev pub when : Bool → (World → World) → World → World
-when true f w = f w
-when false f w = w
+-- the controller of a number, and the participant of an instance
+abbrev pub controller_of : World → ControllerId → Controller
+controller_of w k = slice_index_or w.controllers k.0 (idle_controller k)
 
--- an event happens, where there is room for it
-abbrev pub happened : World → Event → World
-happened w e = record w { cluster = next w.cluster e; history = w.history ++ e ∷ []; text = w.text ++ entry_text w.spec w.cluster e; weight = w.weight + weight_of e }
-
-abbrev pub happen : World → Event → World
-happen w e =
-    if w.is_full then w
-    else if nat_lt w.limit (w.weight + weight_of e) then record w { is_full = true }
-    else happened w e
-
--- a line that is no log line is said, where there is room for its charge
-abbrev pub say : World → ℕ → List ℕ → World
-say w charge line =
-    if w.is_full then w
-    else if nat_lt w.limit (w.weight + charge) then record w { is_full = true }
-    else record w { text = w.text ++ line; weight = w.weight + charge }
-
--- why a line of the script was not done; inside `work` and the rounds of `settle` nothing is said
-pub data Voice : Type 0 where
-  Loud : (line : ℕ) → Voice
-  Quiet : Voice
-
-abbrev pub note : Voice → World → Note → World
-note Quiet w n = w
-note (Loud line) w n = say w 1 (note_text w.spec line n)
-
-abbrev pub say_if_loud : Voice → World → ℕ → List ℕ → World
-say_if_loud Quiet w charge line = w
-say_if_loud (Loud n) w charge line = say w charge line
-
--- the turn of a controller
-abbrev pub turn_of : World → ControllerId → Turn
-turn_of w k = slice_index_or w.turns k.0 idle_turn
-
-abbrev pub with_turn : World → ControllerId → Turn → World
-with_turn w k t = record w { turns = slice_set w.turns k.0 t }
-
--- the participant of an instance
 abbrev pub participant_of : World → InstanceId → Participant
 participant_of w i = slice_index_or w.participants i.0 new_participant
 
-abbrev pub with_participant : World → InstanceId → Participant → World
-with_participant w i x = record w { participants = slice_set w.participants i.0 x }
+-- how makings and runs of handlers end: as the list of each participant says; or as they were answered, in order. None is left where
+-- more of them ended than were answered
+pub data Answers : Type 0 where
+  Told : List (List Failure) → Answers
+  Answered : List Outcome → Answers
+  None_left : Answers
 
--- how the next making or run ends, and the rest of the answers
 abbrev pub told_outcome : Bool → Outcome
-told_outcome is_failed = if is_failed then outcomes.Failed else outcomes.Ok
+told_outcome fails = if fails then outcomes.Failed else outcomes.Ok
 
-abbrev pub answer_of : Handlers → InstanceId → PartId → Bool → ℕ → Outcome
-answer_of (Told failures) i p make k = told_outcome (fails failures i p make k)
-answer_of (Answered []) i p make k = outcomes.Ok
+-- how the k-th making or run of a part on an instance ends, and what is left of the answers
+abbrev pub answer_of : Answers → InstanceId → PartId → Bool → ℕ → Outcome
+answer_of (Told lists) i p make k = told_outcome (has_failure (slice_index_or lists i.0 []) p make k)
 answer_of (Answered (o ∷ os)) i p make k = o
+answer_of _ i p make k = outcomes.Ok
 
-abbrev pub rest_of : Handlers → Handlers
-rest_of (Told failures) = Told failures
-rest_of (Answered []) = Answered []
+abbrev pub rest_of : Answers → Answers
+rest_of (Told lists) = Told lists
 rest_of (Answered (o ∷ os)) = Answered os
+rest_of _ = None_left
+
+-- the list of each instance of a description
+abbrev pub told_by : Spec → Answers
+told_by spec = Told (map (λ i. failures_on (record { 0 = i }) spec.failures) (numbers_below (length spec.instances)))
+
+-- a world under way, with the answers that are left
+pub record State : Type 0 where
+  pub world : World
+  pub answers : Answers
+
+abbrev pub with_controller : Controller → State → State
+with_controller k x = record x { world = record x.world { controllers = slice_set x.world.controllers k.id.0 k } }
+
+abbrev pub with_participant : InstanceId → Participant → State → State
+with_participant i p x = record x { world = record x.world { participants = slice_set x.world.participants i.0 p } }
+
+abbrev pub with_jobs : List Job → State → State
+with_jobs jobs x = record x { world = record x.world { jobs = jobs } }
+
+abbrev pub with_bag : List Message → State → State
+with_bag bag x = record x { world = record x.world { bag = bag } }
+
+-- an answer is used up
+abbrev pub answered : State → State
+answered x = record x { answers = rest_of x.answers }

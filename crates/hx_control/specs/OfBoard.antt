@@ -1,0 +1,23 @@
+-- Turns that a board's history tells.
+use Rattle.std.specs.Prelude.{◌≡◌, ◌⊎◌, true, List, Option, None, Some}
+use Rattle.hx_ids.specs.declared.ControllerId.{ControllerId}
+use Rattle.hx_cluster.specs.declared.description.Spec.{Spec}
+use Rattle.hx_cluster.specs.declared.planning.Plan.{Plan}
+use Rattle.hx_cluster.specs.declared.happenings.Event.{Event}
+use Rattle.hx_pass.specs.Plans.{plan}
+use Rattle.hx_pass.specs.Turns.{Send, Turn, idle_turn, is_first, turn_of}
+use Rattle.hx_control.specs.Controllers.{Controller}
+
+-- a plan that was made is that of what the turn was shown, and its dispatch is next
+abbrev pub IsPlanOf : Spec → Turn → Option Plan → Type 0
+IsPlanOf spec t None = Unit {0}
+IsPlanOf spec t (Some p) = (is_first Send t.left ≡ true) × (p ≡ plan spec.models spec.rules t.view)
+
+-- a turn is idle, or it is the one in which the history leaves its controller: with the numbers of its last begin, what it was shown
+-- since, and the calls that are left
+pub record IsOfBoard (spec : Spec) (h : List Event) (k : ControllerId) (t : Turn) (made : Option Plan) : Type 0 where
+  pub told : (t ≡ idle_turn) ⊎ (t ≡ turn_of spec k h)
+  pub planned : IsPlanOf spec t made
+
+abbrev pub OfBoard : Spec → List Event → Controller → Type 0
+OfBoard spec h x = IsOfBoard spec h x.id x.turn x.plan

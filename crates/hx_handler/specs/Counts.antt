@@ -1,0 +1,26 @@
+-- What handlers and factories count. A count stands still at the end of its type.
+use Rattle.std.specs.Prelude.{ℕ, ◌+◌, ◌-◌, ◌^◌, ◌<◌, ◌≤◌, min, List, [], ◌∷◌, if◌then◌else◌}
+use Rattle.hx_ids.specs.declared.PartId.{PartId}
+use Rattle.hx_cluster.specs.Ends.{part_eq}
+
+-- a count after one more
+abbrev pub count_up : ℕ → ℕ
+count_up n = min (n + 1) (2 ^ 64 - 1)
+
+-- a count rose, or stands at the end of its type
+abbrev pub Rose : ℕ → ℕ → Type 0
+Rose before now = count_up before ≤ now
+
+-- a count isn't at the end of its type
+abbrev pub CountsOn : ℕ → Type 0
+CountsOn n = n < 2 ^ 64 - 1
+
+-- how many makings of a part were tried
+abbrev pub tried_of : List (PartId × ℕ) → PartId → ℕ
+tried_of [] p = 0
+tried_of (x ∷ xs) p = if part_eq x.0 p then x.1 else tried_of xs p
+
+-- one more making of a part is tried
+abbrev pub tried_up : List (PartId × ℕ) → PartId → List (PartId × ℕ)
+tried_up [] p = (p, 1) ∷ []
+tried_up (x ∷ xs) p = if part_eq x.0 p then (p, count_up x.1) ∷ xs else x ∷ tried_up xs p

@@ -1,0 +1,4 @@
+pub mod Counts
+pub mod Failures
+pub mod Told
+pub mod Scripted
