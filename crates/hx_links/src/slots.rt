@@ -1,6 +1,9 @@
 //! Links that keep their places in one vector, whose vacant places are chained.
-ghost use Rattle.std.specs.Prelude.{◌≡◌, ℕ, ◌+◌, ◌-◌, ◌*◌, ◌^◌, ◌<◌, ◌≤◌, ◌==◌, [], IsSome, Some, None, is_some, option_map, slice_set, IsOk, OnOk, OnErr, if◌then◌else◌};
+ghost use Rattle.std.specs.Prelude.{◌≡◌, ℕ, ◌+◌, ◌-◌, ◌*◌, ◌^◌, ◌<◌, ◌≤◌, ◌==◌, [], IsSome, Some};
+ghost use Rattle.std.specs.Prelude.{None, is_some, option_map, slice_get, slice_set, vec_capacity};
+ghost use Rattle.std.specs.Prelude.{IsOk, OnOk, OnErr, if◌then◌else◌};
 ghost use Rattle.hx_links.specs.Slots.{link_at, held, with_next, with_prev, with_value};
+ghost use Rattle.hx_links.specs.Layout.{IsVacantAt};
 
 use crate::{ListId, Node};
 use std::alloc::{AllocError, Global};
@@ -92,7 +95,9 @@ impl<T> Slots<T> {
     pub fn insert_reserved(&mut self, link: Link<T>) -> Node
         requires { 0 < self.old.spare }
         ensures was_vacant { link_at self.old.links result ≡ None }
-        ensures links { (n : Node) → link_at self.new.links n ≡ (if n.0 == result.0 then Some link else link_at self.old.links n) }
+        ensures links { (n : Node)
+            → link_at self.new.links n
+            ≡ (if n.0 == result.0 then Some link else link_at self.old.links n) }
         ensures held { held self.new.links ≡ held self.old.links + 1 }
         ensures spare { self.new.spare + 1 ≡ self.old.spare }
     {
@@ -101,10 +106,8 @@ impl<T> Slots<T> {
             self.slots.push_reserved(Slot::Held(link));
             return node;
         };
-        match mem::replace(&mut self.slots[node.0 as usize], Slot::Held(link)) {
-            Slot::Vacant(next) => self.vacant = next,
-            Slot::Held(_) => unreachable!(),
-        }
+        let next = fill(&mut self.slots, node, link);
+        self.vacant = next;
         self.idle -= 1;
         node
     }
@@ -149,7 +152,9 @@ impl<T> Slots<T> {
     /// Writes which node comes after a node.
     pub fn set_next(&mut self, node: Node, next: Option<Node>)
         requires { IsSome (link_at self.old.links node) }
-        ensures links { self.new.links ≡ slice_set self.old.links node.0 (option_map (with_next next) (link_at self.old.links node)) }
+        ensures links { self.new.links
+            ≡ slice_set self.old.links node.0
+            (option_map (with_next next) (link_at self.old.links node)) }
         ensures held { held self.new.links ≡ held self.old.links }
         ensures spare { self.new.spare ≡ self.old.spare }
     {
@@ -162,7 +167,9 @@ impl<T> Slots<T> {
     /// Writes which node comes before a node.
     pub fn set_prev(&mut self, node: Node, prev: Option<Node>)
         requires { IsSome (link_at self.old.links node) }
-        ensures links { self.new.links ≡ slice_set self.old.links node.0 (option_map (with_prev prev) (link_at self.old.links node)) }
+        ensures links { self.new.links
+            ≡ slice_set self.old.links node.0
+            (option_map (with_prev prev) (link_at self.old.links node)) }
         ensures held { held self.new.links ≡ held self.old.links }
         ensures spare { self.new.spare ≡ self.old.spare }
     {
@@ -176,7 +183,9 @@ impl<T> Slots<T> {
     pub fn set_value(&mut self, node: Node, value: T) -> T
         requires { IsSome (link_at self.old.links node) }
         ensures value { option_map (λ k. k.value) (link_at self.old.links node) ≡ Some result }
-        ensures links { self.new.links ≡ slice_set self.old.links node.0 (option_map (with_value value) (link_at self.old.links node)) }
+        ensures links { self.new.links
+            ≡ slice_set self.old.links node.0
+            (option_map (with_value value) (link_at self.old.links node)) }
         ensures held { held self.new.links ≡ held self.old.links }
         ensures spare { self.new.spare ≡ self.old.spare }
     {
@@ -202,5 +211,18 @@ impl<T> Slots<T> {
             }
         }
         slots.destroy_empty();
+    }
+}
+
+// Puts a link into a vacant slot, and gives the vacant slot after it.
+fn fill<T>(slots: &mut Vec<Slot<T>>, node: Node, link: Link<T>) -> Option<Node>
+    requires { IsVacantAt slots.old.items node }
+    ensures vacant { slice_get slots.old.items node.0 ≡ Some (Slot.Vacant result) }
+    ensures filled { slots.new.items ≡ slice_set slots.old.items node.0 (Slot.Held link) }
+    ensures capacity { vec_capacity slots.new ≡ vec_capacity slots.old }
+{
+    match mem::replace(&mut slots[node.0 as usize], Slot::Held(link)) {
+        Slot::Vacant(next) => next,
+        Slot::Held(_) => unreachable!(),
     }
 }

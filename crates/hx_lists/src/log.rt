@@ -1,5 +1,6 @@
 //! A list that can be given room ahead of what it will take in.
-ghost use Rattle.std.specs.Prelude.{◌≡◌, ◌+◌, ◌<◌, ◌≤◌, ◌↔◌, [], ◌∷◌, ◌++◌, length, slice_get, option_copied, IsTrue, IsOk, OnOk, OnErr};
+ghost use Rattle.std.specs.Prelude.{◌≡◌, ◌+◌, ◌<◌, ◌≤◌, ◌↔◌, [], ◌∷◌, ◌++◌, length, slice_get};
+ghost use Rattle.std.specs.Prelude.{option_copied, IsTrue, IsOk, OnOk, OnErr};
 ghost use Rattle.std.specs.Slice.Iter.{iter_rest};
 
 use std::alloc::{AllocError, Global};
@@ -20,7 +21,10 @@ impl<T> Model for Log<T> {
 
     ghost coded = { log_code T.code };
 
-    ghost view = { λ a. record { items = a.items.items; spare = vec_capacity a.items - vec_len a.items } };
+    ghost view = { λ a. record {
+      items = a.items.items;
+      spare = vec_capacity a.items - vec_len a.items;
+    } };
 }
 
 impl<T: Drop> Log<T> {

@@ -19,7 +19,8 @@ use Rattle.hx_links.specs.Pool as links
 use Rattle.std.proofs.lemmas.List.{map-append}
 use Rattle.hx_links.proofs.Reading.{value_some, only_entry}
 use Rattle.hx_links.proofs.Vacancy.{same_node}
-use Rattle.hx_sessions.specs.Sessions.{AreSessions, is_session, is_live, session_at, no_later, new_live, without, with_beat, beaten}
+use Rattle.hx_ids.specs.Sessions.{is_session, is_live, session_at, no_later, without, with_beat, beaten}
+use Rattle.hx_sessions.specs.Sessions.{AreSessions, new_live}
 use Rattle.hx_sessions.specs.Places.{entries_of, live_of, node_of, IsOnlyList, ArePlaced}
 use Rattle.hx_sessions.proofs.Placing.{Entries, NodesOnce, Marks, node_of-in, node_of-none, value_at-node, marks, live-without, node_of-without, node_of-push, moved_replaced}
 use Rattle.hx_sessions.proofs.Living.{count-filter, count-push, count-zero, find-passes, same_session, below-none, sessions_open, sessions_filter, sessions_beat, beaten-last}

@@ -12,7 +12,8 @@ use Rattle.hx_ids.specs.declared.Live.{Live}
 use Rattle.hx_ids.specs.Expiry.{is_expired, expired}
 use Rattle.hx_links.specs.declared.Node.{Node}
 use Rattle.hx_links.specs.Pool.{is_at, is_in, value_in, next_in, first_node}
-use Rattle.hx_sessions.specs.Sessions.{Sessions, AreSessions, is_session, is_live, session_at, no_later, beats_rise, new_live, opened, without, with_beat, beaten, remaining}
+use Rattle.hx_ids.specs.Sessions.{is_session, is_live, session_at, no_later, beats_rise, without, with_beat, beaten}
+use Rattle.hx_sessions.specs.Sessions.{Sessions, AreSessions, new_live, opened, remaining}
 use Rattle.hx_sessions.proofs.Placing.{Entries, NodesOnce, SessionsOnce, nodes_rest, sessions_rest, session_alone, other_node}
 
 -- lists that are filtered, and lists with one item more

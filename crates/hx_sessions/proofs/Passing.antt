@@ -8,7 +8,8 @@ use Rattle.hx_ids.specs.declared.Live.{Live}
 use Rattle.hx_ids.specs.Expiry.{is_expired, expired}
 use Rattle.hx_links.specs.declared.Node.{Node}
 use Rattle.hx_links.specs.Pool.{is_at, is_in, value_in, next_in, value_of, next_of, first_node}
-use Rattle.hx_sessions.specs.Sessions.{beats_rise, is_session, is_live, first_live, live_after}
+use Rattle.hx_ids.specs.Sessions.{beats_rise, is_session, is_live}
+use Rattle.hx_sessions.specs.Sessions.{first_live, live_after}
 use Rattle.hx_sessions.specs.Places.{live_of, node_of, HavePassed}
 use Rattle.hx_sessions.proofs.Placing.{Entries, NodesOnce, nodes_rest, other_node, node_of-in}
 use Rattle.hx_sessions.proofs.Living.{StandsAt, stands_at, none_later, rise-drop}

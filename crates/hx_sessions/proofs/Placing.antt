@@ -11,7 +11,7 @@ use Rattle.hx_links.specs.Pool.{is_at, is_in, value_in, next_in, first_node, rep
 use Rattle.hx_links.specs.Pool as links
 use Rattle.std.proofs.lemmas.List.{map-append}
 use Rattle.hx_links.proofs.Reading.{only_entry}
-use Rattle.hx_sessions.specs.Sessions.{is_session, is_live, session_at, without}
+use Rattle.hx_ids.specs.Sessions.{is_session, is_live, session_at, without}
 use Rattle.hx_sessions.specs.Places.{live_of, node_of}
 
 abbrev pub Entries : Type 0
@@ -101,7 +101,9 @@ marks n l (x ∷ es) once alone e v = by_test (is_session l.session x.1) refl e 
         let off : is_in n es ≡ false = subst (λ i. is_in i es ≡ false) node (node_alone x es once) in
         let gone : is_live (live_of es) l.session ≡ false = subst (λ k. is_live (live_of es) k.session ≡ false) value (session_alone x.1 (live_of es) alone) in
         let test : is_at n x ≡ is_session l.session x.1 = cc in
-        (test, (λ _. ap (λ i. (i, x.1)) node ∙ ap (λ k. (n, k)) value), marks_none n l es off gone)
+        let moved : x ≡ (n, x.1) = ap (λ (i : Node). (i, x.1)) node in
+        let entry : x ≡ (n, l) = moved ∙ ap (λ (k : Live). (n, k)) value in
+        (test, (λ _. entry), marks_none n l es off gone)
     by_test false at e rest =
         let there : is_at n x ≡ false = other_node x es n once (node_of-in l.session.0 n es e) in
         let found : value_in n es ≡ Some l = rw there at v in

@@ -3,10 +3,13 @@
 //! A beat and an end take no memory, and no step looks at all sessions.
 #![tactic(auto)]
 
-ghost use Rattle.std.specs.Prelude.{◌≡◌, ℕ, ◌+◌, ◌-◌, ◌^◌, ◌<◌, ◌≤◌, [], length, true, Some, is_ok, OnOk, IfOk, OnErr};
+ghost use Rattle.std.specs.Prelude.{◌≡◌, ℕ, ◌+◌, ◌-◌, ◌^◌, ◌<◌, ◌≤◌, [], length, true, Some, is_ok};
+ghost use Rattle.std.specs.Prelude.{OnOk, IfOk, OnErr};
 ghost use Rattle.hx_ids.specs.Expiry.{expired};
 ghost use Rattle.hx_sessions.specs.Places.{entries_of, IsOnlyList};
-ghost use Rattle.hx_sessions.specs.Sessions.{AreSessions, is_live, session_at, first_live, live_after, no_later, opened, beaten, without, remaining};
+ghost use Rattle.hx_ids.specs.Sessions.{is_live, session_at, no_later, beaten, without};
+ghost use Rattle.hx_sessions.specs.Sessions.{AreSessions, first_live, live_after, opened};
+ghost use Rattle.hx_sessions.specs.Sessions.{remaining};
 
 use hx_ids::{InstanceId, Live, SessionId};
 use hx_links::{ListId, Node, Pool};
@@ -18,7 +21,8 @@ use std::marker::Model;
 #[derive(Clone, Copy, Debug, PartialEq, Eq)]
 pub struct NotLive;
 
-/// The live sessions. Contracts see them in order of last beat, with the number of the next one. Opening counts as a beat.
+/// The live sessions. Contracts see them in order of last beat, with the number of the next one.
+/// Opening counts as a beat.
 #[derive(Drop)]
 pub struct Sessions {
     alloc: Global,
@@ -31,11 +35,9 @@ pub struct Sessions {
 }
 
 impl Model for Sessions {
-    ghost use Rattle.hx_sessions.specs.Sessions.{Sessions as Seen, sessions_code};
+    ghost use Rattle.hx_sessions.specs.Sessions.{Sessions as Seen};
 
     ghost Value = { Seen };
-
-    ghost coded = { sessions_code };
 
     ghost use Rattle.hx_sessions.specs.Places.{entries_of, live_of, ArePlaced};
 
@@ -74,7 +76,8 @@ impl Sessions {
         }
     }
 
-    /// A live session. Their numbers are distinct and below the next one, and their beats don't fall along the list.
+    /// A live session. Their numbers are distinct and below the next one, and their beats don't
+    /// fall along the list.
     pub fn find(&self, session: SessionId) -> Option<Live>
         ensures found { result ≡ session_at self.now.live session }
         ensures sessions { AreSessions self.now }
@@ -157,7 +160,8 @@ impl Sessions {
         Ok(())
     }
 
-    /// Ends the sessions that have had no beat for the timeout, and gives them in order of last beat.
+    /// Ends the sessions that have had no beat for the timeout, and gives them in order of last
+    /// beat.
     pub fn expire(&mut self, now: u64, timeout: u64) -> Result<Vec<SessionId>, AllocError>
         ensures ended { IfOk result (λ ended. ended.items ≡ expired self.old.live now timeout) }
         ensures live { OnOk result (self.new.live ≡ remaining self.old.live now timeout) }
@@ -171,7 +175,8 @@ impl Sessions {
         Ok(ended)
     }
 
-    // The sessions that have had no beat for the timeout. It looks at these and at the first that has had one.
+    // The sessions that have had no beat for the timeout. It looks at these and at the first that
+    // has had one.
     fn expired(&self, now: u64, timeout: u64) -> Result<Vec<SessionId>, AllocError>
         ensures ended { IfOk result (λ ended. ended.items ≡ expired self.now.live now timeout) }
         ensures sessions { AreSessions self.now }
@@ -192,6 +197,3 @@ impl Sessions {
         Ok(ended)
     }
 }
-
-#[cfg(test)]
-mod tests;

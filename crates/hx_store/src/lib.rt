@@ -1,17 +1,20 @@
 //! A store of versioned records by key, some of which belong to a session.
 #![tactic(auto)]
 
-ghost use Rattle.std.specs.Prelude.{◌≡◌, ℕ, ◌==◌, [], IfOk, OnOk, OnErr, MatchOption, None, Some, option_map, IsTrue, IsSome, if◌then◌else◌};
+ghost use Rattle.std.specs.Prelude.{◌≡◌, ℕ, ◌==◌, [], IfOk, OnOk, OnErr, MatchOption, None, Some};
+ghost use Rattle.std.specs.Prelude.{option_map, IsTrue, IsSome, if◌then◌else◌};
 ghost use Rattle.std.specs.List.{list_any};
 ghost use Rattle.std.specs.Map.{keys_of};
 ghost use Rattle.std.specs.List.Sorted.{IsStrictlySortedBy};
 ghost use Rattle.std.specs.Ordering.{nat_cmp};
 ghost use Rattle.hx_lists.specs.Lists.{insert_by};
-ghost use Rattle.hx_store.specs.Records.{record_at, is_before, created, set_to, deleted, owns, without_owner, owned_by, keys_within};
-ghost use Rattle.hx_store.specs.Refusals.{RefusedAs, RefusedBy, create_refusal, change_refusal, CanChange};
+ghost use Rattle.hx_store.specs.Records.{record_at, is_before, created, set_to, deleted, owns};
+ghost use Rattle.hx_store.specs.Records.{without_owner, owned_by, keys_within};
+ghost use Rattle.hx_lists.specs.Answers.{RefusedAs, RefusedBy};
+ghost use Rattle.hx_store.specs.Refusals.{create_refusal, change_refusal, CanChange};
 ghost use Rattle.hx_store.specs.Owners.{owner_of};
 ghost use Rattle.hx_store.specs.Operations.{done_all, first_refusal, RefusedAt, CanDoAll};
-ghost use Rattle.hx_store.specs.Drafts.{change_at, over, drafted, IsDraft};
+ghost use Rattle.hx_store.specs.Drafts.{change_at, over, left_at, IsDraftOf};
 
 mod changes;
 mod draft;
@@ -28,7 +31,8 @@ use std::collections::BTreeMap;
 use std::marker::Model;
 use std::mem;
 
-/// A record: its version, which begins at 1 and rises with each change, the session that owns it, if any, and its value.
+/// A record: its version, which begins at 1 and rises with each change, the session that owns it,
+/// if any, and its value.
 #[derive(Debug, Drop)]
 pub struct Record<V> {
     pub version: u64,
@@ -78,7 +82,8 @@ pub enum Op<V> {
     },
 }
 
-/// Why operations are refused together: the first that is refused after those before it, by its place from 0, and why.
+/// Why operations are refused together: the first that is refused after those before it, by its
+/// place from 0, and why.
 /// For want of memory the place says nothing.
 #[derive(Clone, Copy, Debug, PartialEq, Eq)]
 pub struct MultiFault {
@@ -152,7 +157,8 @@ impl<V: Drop> Store<V> {
     pub fn set(&mut self, key: u64, version: u64, value: V) -> Result<V, StoreFault>
         requires { CanChange (record_at self.old key) }
         ensures refused { RefusedAs (change_refusal self.old key version) result }
-        ensures value { IfOk result (λ v. option_map (λ r. r.value) (record_at self.old key) ≡ Some v) }
+        ensures value { IfOk result
+            (λ v. option_map (λ r. r.value) (record_at self.old key) ≡ Some v) }
         ensures ok { OnOk result (self.new ≡ set_to self.old key value) }
         ensures err { OnErr result (self.new ≡ self.old) }
     {
@@ -171,7 +177,8 @@ impl<V: Drop> Store<V> {
     /// Removes a record of this version, and gives its value. It takes no memory.
     pub fn delete(&mut self, key: u64, version: u64) -> Result<V, StoreFault>
         ensures refused { RefusedAs (change_refusal self.old key version) result }
-        ensures value { IfOk result (λ v. option_map (λ r. r.value) (record_at self.old key) ≡ Some v) }
+        ensures value { IfOk result
+            (λ v. option_map (λ r. r.value) (record_at self.old key) ≡ Some v) }
         ensures ok { OnOk result (self.new ≡ deleted self.old key) }
         ensures err { OnErr result (self.new ≡ self.old) }
     {
@@ -190,10 +197,13 @@ impl<V: Drop> Store<V> {
         }
     }
 
-    /// The version and the value of a key's record. It takes no memory. The keys of all records rise.
+    /// The version and the value of a key's record. It takes no memory. The keys of all records
+    /// rise.
     pub fn get(&self, key: u64) -> Option<(u64, &V)>
-        ensures version { option_map (λ p. p.0) result ≡ option_map (λ r. r.version) (record_at self.now key) }
-        ensures value { option_map (λ p. p.1.now) result ≡ option_map (λ r. r.value) (record_at self.now key) }
+        ensures version { option_map (λ p. p.0) result
+            ≡ option_map (λ r. r.version) (record_at self.now key) }
+        ensures value { option_map (λ p. p.1.now) result
+            ≡ option_map (λ r. r.value) (record_at self.now key) }
         ensures ordered { IsStrictlySortedBy nat_cmp (keys_of self.now) }
     {
         let record = self.records.get(&key)?;
@@ -213,7 +223,8 @@ impl<V: Drop> Store<V> {
             .collect(self.alloc)
     }
 
-    /// Removes all records that a session owns, and gives their number. It takes no memory, and goes over no others.
+    /// Removes all records that a session owns, and gives their number. It takes no memory, and
+    /// goes over no others.
     pub fn end_session(&mut self, owner: SessionId) -> u64
         ensures count { result ≡ owned_by self.old owner }
         ensures rest { self.new ≡ without_owner self.old owner }
@@ -225,8 +236,8 @@ impl<V: Drop> Store<V> {
         (before - self.records.len()) as u64
     }
 
-    /// Does operations in order, or none where one is refused after those before it. More than 2^32 - 1 operations are
-    /// answered as want of memory.
+    /// Does operations in order, or none where one is refused after those before it. More than
+    /// 2^32 - 1 operations are answered as want of memory.
     pub fn multi(&mut self, ops: Vec<Op<V>>) -> Result<(), MultiFault>
         requires { CanDoAll self.old ops.items }
         ensures refused { RefusedAt (first_refusal 0 self.old ops.items) result }
@@ -240,8 +251,8 @@ impl<V: Drop> Store<V> {
 
     // Makes all that a draft says.
     fn make(&mut self, draft: Draft<V>) -> Result<(), AllocError>
-        requires { IsDraft self.old draft.fresh.entries draft.changes.entries }
-        ensures ok { OnOk result ((q : ℕ) → record_at self.new q ≡ drafted self.old draft.fresh.entries draft.changes.entries q) }
+        requires { IsDraftOf self.old draft }
+        ensures ok { OnOk result ((q : ℕ) → record_at self.new q ≡ left_at self.old draft q) }
         ensures ordered { IsStrictlySortedBy nat_cmp (keys_of self.new) }
         ensures err { OnErr result (self.new ≡ self.old) }
     {
@@ -257,7 +268,9 @@ impl<V: Drop> Store<V> {
     // Puts records where there are none, all or none of them, and gives their keys.
     fn add_all(&mut self, fresh: BTreeMap<u64, Record<V>>) -> Result<Vec<u64>, AllocError>
         requires { (k : ℕ) → IsSome (record_at fresh.entries k) → record_at self.old k ≡ None }
-        ensures ok { OnOk result ((q : ℕ) → record_at self.new q ≡ over (record_at self.old q) None (record_at fresh.entries q)) }
+        ensures ok { OnOk result
+            ((q : ℕ)
+            → record_at self.new q ≡ over (record_at self.old q) None (record_at fresh.entries q)) }
         ensures keys { IfOk result (λ keys. keys.items ≡ keys_of fresh.entries) }
         ensures ordered { IsStrictlySortedBy nat_cmp (keys_of self.new) }
         ensures was_ordered { IsStrictlySortedBy nat_cmp (keys_of self.old) }
@@ -276,7 +289,10 @@ impl<V: Drop> Store<V> {
     // Changes records that are there, all or none of them.
     fn change_all(&mut self, changes: BTreeMap<u64, Option<Record<V>>>) -> Result<(), AllocError>
         requires { (k : ℕ) → IsSome (change_at changes.entries k) → IsSome (record_at self.old k) }
-        ensures ok { OnOk result ((k : ℕ) → record_at self.new k ≡ over (record_at self.old k) (change_at changes.entries k) None) }
+        ensures ok { OnOk result
+            ((k : ℕ)
+            → record_at self.new k
+            ≡ over (record_at self.old k) (change_at changes.entries k) None) }
         ensures ordered { IsStrictlySortedBy nat_cmp (keys_of self.new) }
         ensures err { OnErr result (self.new ≡ self.old) }
     {
@@ -288,7 +304,9 @@ impl<V: Drop> Store<V> {
     // Takes the records of some keys out.
     fn take_all(&mut self, keys: &[u64])
         requires { IsStrictlySortedBy nat_cmp (keys_of self.old) }
-        ensures rest { (q : ℕ) → record_at self.new q ≡ (if list_any (λ k. q == k) keys.now then None else record_at self.old q) }
+        ensures rest { (q : ℕ)
+            → record_at self.new q
+            ≡ (if list_any (λ k. q == k) keys.now then None else record_at self.old q) }
         ensures ordered { IsStrictlySortedBy nat_cmp (keys_of self.new) }
     {
         for key in keys {
@@ -299,7 +317,8 @@ impl<V: Drop> Store<V> {
     // A key whose record a session owns.
     fn owned_key(&self, owner: SessionId) -> Option<u64>
         ensures ordered { IsStrictlySortedBy nat_cmp (keys_of self.now) }
-        ensures owned { MatchOption result (without_owner self.now owner ≡ self.now) (λ key. IsTrue (owns (owner_of (record_at self.now key)) owner)) }
+        ensures owned { MatchOption result (without_owner self.now owner ≡ self.now)
+            (λ key. IsTrue (owns (owner_of (record_at self.now key)) owner)) }
     {
         self.owners.first(owner)
     }
@@ -333,6 +352,3 @@ impl<V: Drop> Store<V> {
         Some(record)
     }
 }
-
-#[cfg(test)]
-mod tests;

@@ -1,0 +1,44 @@
+use hx_ids::SessionId;
+use hx_store::{Op, Store};
+use std::test::Fail;
+
+#[test]
+fn a_record_is_made_changed_and_removed(rt: HostRuntime) -> Result<(), Fail> {
+    let mut store = Store::new(rt.alloc());
+    store.create(5, None, 10u32)?;
+    store.set(5, 1, 20)?;
+    assert!(rt; store.get(5).is_some());
+    assert_eq!(rt; store.range(0, 9)?.len(), 1);
+    assert_eq!(rt; store.delete(5, 2)?, 20);
+    Ok(())
+}
+
+#[test]
+fn operations_are_done_together(rt: HostRuntime) -> Result<(), Fail> {
+    let mut store = Store::new(rt.alloc());
+    let owner = Some(SessionId(1));
+    let ops = Vec::from_array(
+        rt.alloc(),
+        [
+            Op::Create {
+                key: 4,
+                owner,
+                value: 1u32,
+            },
+            Op::Set {
+                key: 4,
+                version: 1,
+                value: 2,
+            },
+            Op::Create {
+                key: 9,
+                owner,
+                value: 3,
+            },
+            Op::Delete { key: 4, version: 2 },
+        ],
+    )?;
+    store.multi(ops)?;
+    assert_eq!(rt; store.end_session(SessionId(1)), 1);
+    Ok(())
+}
