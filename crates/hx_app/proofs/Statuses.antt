@@ -4,7 +4,7 @@ use Rattle.std.specs.Prelude.{IfSome}
 use Rattle.std.proofs.lemmas.Bool.Decides.{nat_tests}
 use Rattle.std.specs.Io.KnownBytes.{Appends, Consumes, IsAtEnd}
 use Rattle.std.proofs.lemmas.List.{append-nil}
-use Rattle.hx_io.specs.Faults.{Rose}
+use Rattle.hx_lists.specs.Counts.{Rose}
 use Rattle.hx_io.specs.Whole.{Gave}
 use Rattle.hx_words.specs.declared.Task.{Task}
 use Rattle.hx_words.specs.declared.Words.{Words}

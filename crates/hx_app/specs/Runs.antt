@@ -1,7 +1,7 @@
 -- What a run promises: for each status when it comes, and what was written.
 use Rattle.std.specs.Prelude.{◌≡◌, ◌⊎◌, ℕ, ◌<◌, ◌≤◌, Bool, true, ◌==◌, ◌||◌, List, length, take, Option, IfSome, Result, Ok, Err}
 use Rattle.std.specs.Io.KnownBytes.{Appends, IsAtEnd}
-use Rattle.hx_io.specs.Faults.{Rose}
+use Rattle.hx_lists.specs.Counts.{Rose}
 use Rattle.hx_words.specs.declared.Words.{Words}
 use Rattle.hx_words.specs.declared.Words.TheVariants as asks
 use Rattle.hx_words.specs.declared.WordsFault.{WordsFault}

@@ -1,7 +1,7 @@
 -- A text that is written for a status, and a status with its text.
 use Rattle.std.specs.Prelude.{◌≡◌, ◌⊎◌, ℕ, ◌≤◌, List, take, Option}
 use Rattle.std.specs.Io.KnownBytes.{Appends}
-use Rattle.hx_io.specs.Faults.{Rose}
+use Rattle.hx_lists.specs.Counts.{Rose}
 use Rattle.hx_app.specs.declared.program.Reply.{Reply}
 use Rattle.hx_app.specs.Answers.{Answer}
 

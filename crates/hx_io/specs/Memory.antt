@@ -1,7 +1,7 @@
 -- Sources and sinks in memory, and which of their calls fail.
 use Rattle.std.specs.Prelude.{ℕ, ◌-◌, ◌==◌, Bool, ◌||◌, nat_le, List, ◌++◌, length, drop}
 use Rattle.std.specs.List.{list_any}
-use Rattle.hx_io.specs.Faults.{count_up}
+use Rattle.hx_lists.specs.Counts.{count_up}
 
 -- a source: the bytes that are left, the calls that fail by their numbers from 1,
 -- how many calls were made, and how many failed

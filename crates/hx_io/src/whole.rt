@@ -1,7 +1,8 @@
 //! Reading to the end, and writing whole.
 ghost use Rattle.std.specs.Prelude.{◌≡◌, ◌<◌, ◌≤◌, length, take, IfOk, IfErr, OnOk, OnErr, IsErrOf, ⊤};
 ghost use Rattle.std.specs.Io.KnownBytes.{Consumes, Appends, IsAtEnd};
-ghost use Rattle.hx_io.specs.Faults.{Rose, CountsFault};
+ghost use Rattle.hx_lists.specs.Counts.{Rose};
+ghost use Rattle.hx_io.specs.Faults.{CountsFault};
 ghost use Rattle.hx_io.specs.Whole.{Gave};
 
 use crate::{Failed, Sink, Source};

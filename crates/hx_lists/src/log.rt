@@ -73,6 +73,13 @@ impl<T: Drop> Log<T> {
         self.items.get(place)
     }
 
+    /// How many items more need no memory.
+    pub fn spare(&self) -> usize
+        ensures { result ≡ self.now.spare }
+    {
+        self.items.capacity() - self.items.len()
+    }
+
     /// Makes room for so many items more.
     pub fn reserve(&mut self, additional: usize) -> Result<(), AllocError>
         ensures room { OnOk result (additional ≤ self.new.spare) }

@@ -21,6 +21,7 @@ fn a_list_is_kept_in_order_and_copied(rt: HostRuntime) -> Result<(), Fail> {
 fn a_log_takes_what_there_is_room_for(rt: HostRuntime) -> Result<(), Fail> {
     let mut log = Log::new(rt.alloc());
     log.reserve(1)?;
+    assert!(rt; log.spare() >= 1);
     log.push_reserved(7u32);
     log.push(8)?;
     assert_eq!(rt; log.as_slice(), [7, 8].as_slice());
