@@ -48,6 +48,43 @@ pub count-never : {X : Type 0} (p : X → Bool) (h : (x : X) → p x ≡ false) 
 count-never p h [] = refl
 count-never p h (x ∷ xs) = grind (arith, h x, count-never p h xs)
 
+-- both parts of a test
+pub and-first : (a b : Bool) → (a && b) ≡ true → a ≡ true
+and-first true b e = refl
+and-first false b e = cc
+
+pub and-second : (a b : Bool) → (a && b) ≡ true → b ≡ true
+and-second true b e = e
+and-second false b e = cc
+
+pub and-both : (a b : Bool) → a ≡ true → b ≡ true → (a && b) ≡ true
+and-both true true e w = refl
+and-both true false e w = cc
+and-both false b e w = cc
+
+-- and of more
+pub and-three : (a b d : Bool) → (a && b && d) ≡ true → (a ≡ true) × (b ≡ true) × (d ≡ true)
+and-three true true true e = (refl, refl, refl)
+and-three true true false e = cc
+and-three true false d e = cc
+and-three false b d e = cc
+
+pub and-four : (a b d f : Bool) → (a && b && d && f) ≡ true → (a ≡ true) × (b ≡ true) × (d ≡ true) × (f ≡ true)
+and-four true true true true e = (refl, refl, refl, refl)
+and-four true true true false e = cc
+and-four true true false f e = cc
+and-four true false d f e = cc
+and-four false b d f e = cc
+
+pub and-six : (a b d f g h : Bool) → (a && b && d && f && g && h) ≡ true → (a ≡ true) × (b ≡ true) × (d ≡ true) × (f ≡ true) × (g ≡ true) × (h ≡ true)
+and-six true true true true true true e = (refl, refl, refl, refl, refl, refl)
+and-six true true true true true false e = cc
+and-six true true true true false h e = cc
+and-six true true true false g h e = cc
+and-six true true false f g h e = cc
+and-six true false d f g h e = cc
+and-six false b d f g h e = cc
+
 -- tests
 pub any-append : {X : Type 0} (p : X → Bool) (xs ys : List X) → list_any p (xs ++ ys) ≡ (list_any p xs || list_any p ys)
 any-append p [] ys = refl

@@ -11,9 +11,7 @@ use Rattle.hx_ids.specs.declared.SessionId.{SessionId}
 use Rattle.hx_ids.specs.declared.ResourceId.{ResourceId}
 use Rattle.hx_ids.specs.declared.MsgId.{MsgId}
 use Rattle.hx_ids.specs.declared.PartId.{PartId}
-use Rattle.hx_model.specs.declared.Bound.{Bound}
-use Rattle.hx_model.specs.declared.Bound.TheVariants.{Count, Replicas, Live, Free}
-use Rattle.hx_model.specs.Model.{limit_of, dropped}
+use Rattle.hx_model.specs.Model.{dropped}
 use Rattle.hx_cluster.specs.declared.state.Row.{Row}
 use Rattle.hx_cluster.specs.declared.state.Message.{Message}
 use Rattle.hx_cluster.specs.Ends.{part_eq, is_row, is_message, row_of, message_of, state_of, row_at, message_at}
@@ -38,13 +36,6 @@ same-self n = grind (arith, nat_tests)
 
 pub part_eq-self : (p : PartId) → part_eq p p ≡ true
 part_eq-self p = grind (arith, nat_tests)
-
--- a bound that a smaller count meets, also with another number of live sessions
-pub limit_kept : (b : Bound) (replicas old new k n limit : ℕ) → ((l : ℕ) → limit_of b replicas old ≡ Some l → k ≤ l) → n ≤ k → n ≤ new → limit_of b replicas new ≡ Some limit → n ≤ limit
-limit_kept (Count m) replicas old new k n limit h less few e = let low = h m refl in grind (arith, e)
-limit_kept Replicas replicas old new k n limit h less few e = let low = h replicas refl in grind (arith, e)
-limit_kept Live replicas old new k n limit h less few e = grind (arith, e)
-limit_kept Free replicas old new k n limit h less few e = cc
 
 -- what is found stays where only others are taken out or put in
 pub find-filter_kept : {X : Type 0} (q k : X → Bool) (h : (x : X) → q x ≡ true → k x ≡ true) (xs : List X) → find q (filter k xs) ≡ find q xs

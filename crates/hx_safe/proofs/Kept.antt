@@ -1,9 +1,9 @@
 -- What each event keeps: the limits, the messages, the rows, and distinct sessions below the next number.
-use Rattle.std.proofs.Common.{◌≡◌, ℕ, ◌+◌, ◌≤◌, ◌==◌, not, Bool, true, false, List, [], ◌∷◌, ◌++◌, length, filter, map, Option, Some, None, refl, sym, ap, ◌∙◌, subst, arith, length-append}
+use Rattle.std.proofs.Common.{◌≡◌, ℕ, ◌+◌, ◌≤◌, ◌==◌, not, Bool, true, false, List, [], ◌∷◌, ◌++◌, filter, map, Option, Some, None, refl, sym, ap, ◌∙◌, subst, arith}
 use Rattle.std.specs.Prelude.{if◌then◌else◌, nat_lt, slice_get, slice_set}
 use Rattle.std.specs.List.{list_any, list_all}
 use Rattle.std.proofs.lemmas.Bool.Decides.{nat_tests}
-use Rattle.std.proofs.lemmas.List.{map-append, length-map}
+use Rattle.std.proofs.lemmas.List.{map-append}
 use Rattle.hx_lists.specs.Lists.{count}
 use Rattle.hx_ids.specs.declared.StateId.{StateId}
 use Rattle.hx_ids.specs.declared.InstanceId.{InstanceId}
@@ -14,22 +14,20 @@ use Rattle.hx_ids.specs.declared.Epoch.{Epoch}
 use Rattle.hx_ids.specs.declared.ControllerId.{ControllerId}
 use Rattle.hx_ids.specs.declared.PartId.{PartId}
 use Rattle.hx_ids.specs.declared.Live.{Live}
-use Rattle.hx_model.specs.Model.{bound_of}
 use Rattle.hx_cluster.specs.declared.state.Row.{Row}
 use Rattle.hx_cluster.specs.declared.state.Message.{Message}
 use Rattle.hx_cluster.specs.declared.state.Cluster.{Cluster}
 use Rattle.hx_cluster.specs.declared.happenings.Seen.{Seen}
 use Rattle.hx_cluster.specs.declared.happenings.Admin.TheVariants as steps
-use Rattle.hx_cluster.specs.Ends.{is_row, is_message, is_session, is_live, sessions_of, has_end, count_over, count_of, limit_at, model_of, replicas_of}
+use Rattle.hx_cluster.specs.Ends.{is_row, is_message, is_session, is_live, sessions_of, has_end, count_of}
 use Rattle.hx_cluster.specs.Steps.{after}
 use Rattle.hx_cluster.specs.Messages.{raised_pass, next_pass, has_id, as_taken, after_take, after_ack}
-use Rattle.hx_cluster.specs.Safe.{IsBounded, HasMail, HasRows, is_pending, is_kept}
-use Rattle.hx_safe.specs.Sound.{has_no_fault}
-use Rattle.hx_safe.proofs.Counting.{count-append, count-le, count-filter, count-map, count-none, count-length, any-append, all-append, all-le, all-map, all-filter, none-from-all, find-none}
-use Rattle.hx_safe.proofs.Ends.{session_same, limit_kept, end-taken, end-filter}
+use Rattle.hx_cluster.specs.Safe.{HasMail, HasRows, is_pending, is_kept}
+use Rattle.hx_cluster.specs.Valid.{has_no_fault}
+use Rattle.hx_safe.proofs.Counting.{count-append, count-le, count-filter, count-map, count-none, any-append, all-append, all-le, all-map, all-filter, none-from-all, find-none}
+use Rattle.hx_safe.proofs.Ends.{session_same, end-taken, end-filter}
 
 pub record IsKept (c : Cluster) : Type 0 where
-  pub bounded : IsBounded c
   pub mail : HasMail c
   pub rows : HasRows c
   pub numbers : (s : SessionId) → count (is_session s) c.live ≤ 1
@@ -41,7 +39,6 @@ pub kept_beside : (c : Cluster) (instances : List Bool) (leader : Option Control
     → IsKept c
     → IsKept (record c { instances = instances; leader = leader; epoch = epoch; controllers = controllers; clock = clock; line = line; change = change; posted = posted })
 kept_beside c instances leader epoch controllers clock line change posted k = record {
-  bounded = k.bounded;
   mail = record { pending = k.mail.pending; numbers = k.mail.numbers; single = k.mail.single };
   rows = record { kept = k.rows.kept; single = k.rows.single; flags = k.rows.flags };
   numbers = k.numbers;
@@ -56,19 +53,15 @@ kept_raised c k h = one (slice_get c.controllers k.0)
     one None = h
     one (Some d) = kept_beside c c.instances c.leader c.epoch (slice_set c.controllers k.0 (d.0, record { 0 = d.1.0 + 1 })) c.clock c.line c.change c.posted h
 
--- fewer ends keep the limits
-pub bounded_less : (c d : Cluster) → IsKept c → ((p : PartId) (t : StateId) (limit : ℕ) → limit_at d p t ≡ Some limit → limit_at c p t ≡ Some limit)
-    → ((p : PartId) (t : StateId) (limit : ℕ) → limit_at c p t ≡ Some limit → count_of d p t ≤ count_of c p t) → IsBounded d
-bounded_less c d k same less p t limit e =
-    let old = k.bounded p t limit (same p t limit e) in
-    let few = less p t limit (same p t limit e) in
-    omega arith
+-- a message that is taken has the ends that it had
+pub count_take : (c : Cluster) (s : SessionId) (id : MsgId) (p : PartId) (t : StateId)
+    → count_of (after_take c s id) p t ≤ count_of c p t
+count_take c s id p t =
+    count-le (has_end c.rows (map (as_taken s id) c.mail) p t) (has_end c.rows c.mail p t)
+    (λ u w. rw (← end-taken c.mail s u id p t) w) (sessions_of c.live)
 
--- a message that is taken
 pub kept_take : (c : Cluster) (s : SessionId) (id : MsgId) → IsKept c → IsKept (after_take c s id)
 kept_take c s id k = record {
-  bounded = bounded_less c (after_take c s id) k (λ p t limit e. e) (λ p t limit e.
-      count-le (has_end c.rows (map (as_taken s id) c.mail) p t) (has_end c.rows c.mail p t) (λ u w. rw (← end-taken c.mail s u id p t) w) (sessions_of c.live));
   mail = record {
     pending = all-map (is_pending (after_take c s id)) (as_taken s id) c.mail ∙ all-le (is_pending c) (λ m. is_pending (after_take c s id) (as_taken s id m)) (λ m e. pending m (has_id s id m) e) c.mail k.mail.pending;
     numbers = λ n. let same = count-map (λ m. m.id.0 == n.0) (as_taken s id) c.mail in
@@ -96,13 +89,18 @@ kept_take c s id k = record {
     single m u q true e = e
     single m u q false e = e
 
--- a message that is acknowledged
+-- a message that is acknowledged takes its ends away
+pub count_ack : (c : Cluster) (s : SessionId) (id : MsgId) → IsKept c → (p : PartId) (t : StateId)
+    → count_of (after_ack c s id) p t ≤ count_of c p t
+count_ack c s id k p t =
+    let gone : Message → Bool = λ m. not (has_id s id m) in
+    count-le (has_end c.rows (filter gone c.mail) p t) (has_end c.rows c.mail p t)
+    (λ u w. grind (arith, w, end-filter gone c.mail u p t (k.mail.single u p))) (sessions_of c.live)
+
 pub kept_ack : (c : Cluster) (s : SessionId) (id : MsgId) → IsKept c → IsKept (after_ack c s id)
 kept_ack c s id k =
     let gone : Message → Bool = λ m. not (has_id s id m) in
     record {
-      bounded = bounded_less c (after_ack c s id) k (λ p t limit e. e) (λ p t limit e.
-          count-le (has_end c.rows (filter gone c.mail) p t) (has_end c.rows c.mail p t) (λ u w. grind (arith, w, end-filter gone c.mail u p t (k.mail.single u p))) (sessions_of c.live));
       mail = record {
         pending = all-filter (is_pending c) gone c.mail k.mail.pending;
         numbers = λ n. let fewer = count-filter (λ m. m.id.0 == n.0) gone c.mail in omega (arith, k.mail.numbers n);
@@ -120,14 +118,14 @@ number-below n s [] a e = cc
 number-below n s (l ∷ live) a e = grind (arith, nat_tests, a, e, number-below n s live)
 
 -- a new number has no row, no message and no other session
-fresh : (c : Cluster) → IsKept c → (s : SessionId) → s.0 ≡ c.next_session → is_live c.live s ≡ false
+pub fresh : (c : Cluster) → IsKept c → (s : SessionId) → s.0 ≡ c.next_session → is_live c.live s ≡ false
 fresh c k s is = one (is_live c.live s) refl
   where
     one : (b : Bool) → is_live c.live s ≡ b → b ≡ false
     one true e = let low : nat_lt s.0 c.next_session ≡ true = number-below c.next_session s c.live k.below e in grind (arith, nat_tests, low, is)
     one false e = refl
 
-fresh_end : (c : Cluster) → IsKept c → (s : SessionId) → s.0 ≡ c.next_session → (q : PartId) (t : StateId) → has_end c.rows c.mail q t s ≡ false
+pub fresh_end : (c : Cluster) → IsKept c → (s : SessionId) → s.0 ≡ c.next_session → (q : PartId) (t : StateId) → has_end c.rows c.mail q t s ≡ false
 fresh_end c k s is q t =
     let none = fresh c k s is in
     let rows : list_any (is_row s q) c.rows ≡ false = none-from-all (is_kept c) (is_row s q) (λ r e. row r e (is_row s q r) refl) c.rows k.rows.kept in
@@ -146,20 +144,21 @@ fresh_end c k s is q t =
         sym (subst (λ (u : SessionId). is_live c.live u ≡ true) same live) ∙ fresh c k s is
     message m e false at = refl
 
--- a session that joins
+-- a session that joins has no ends
+pub count_join : (c : Cluster) (i : InstanceId) → IsKept c → (p : PartId) (t : StateId) → count_of (after c (steps.Join i)) p t ≡ count_of c p t
+count_join c i k p t =
+    let s : SessionId = record { 0 = c.next_session } in
+    let new : Live = record { session = s; instance = i; beat = c.clock } in
+    let split : sessions_of (c.live ++ new ∷ []) ≡ sessions_of c.live ++ s ∷ [] = map-append (λ l. l.session) c.live (new ∷ []) in
+    let none = fresh_end c k s refl p t in
+    let more = count-append (has_end c.rows c.mail p t) (sessions_of c.live) (s ∷ []) in
+    ap (count (has_end c.rows c.mail p t)) split ∙ more ∙ grind (arith, none)
+
 pub kept_join : (c : Cluster) (i : InstanceId) → IsKept c → IsKept (after c (steps.Join i))
 kept_join c i k =
     let s : SessionId = record { 0 = c.next_session } in
     let new : Live = record { session = s; instance = i; beat = c.clock } in
     record {
-      bounded = λ p t limit e.
-          let split : sessions_of (c.live ++ new ∷ []) ≡ sessions_of c.live ++ s ∷ [] = map-append (λ l. l.session) c.live (new ∷ []) in
-          let none = fresh_end c k s refl p t in
-          let more = count-append (has_end c.rows c.mail p t) (sessions_of c.live) (s ∷ []) in
-          let same : count_over (sessions_of (c.live ++ new ∷ [])) c.rows c.mail p t ≡ count_of c p t = ap (count (has_end c.rows c.mail p t)) split ∙ more ∙ grind (arith, none) in
-          let few = count-length (has_end c.rows c.mail p t) (sessions_of c.live) in
-          limit_kept (bound_of (model_of c.models c.resources p.resource) t) (replicas_of c.resources p.resource) (length c.live) (length (c.live ++ new ∷ [])) (count_of c p t) _ limit
-          (λ l w. k.bounded p t l w) (omega (arith, same)) (omega (arith, same, few, length-map c.live (λ l. l.session), length-append c.live (new ∷ []))) e;
       mail = record {
         pending = all-le (is_pending c) _ (λ m e. rw any-append (grind (arith, e))) c.mail k.mail.pending;
         numbers = k.mail.numbers;

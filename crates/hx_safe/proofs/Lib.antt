@@ -8,4 +8,10 @@ pub mod Leaving
 pub mod Resources
 pub mod Throttles
 pub mod Sessions
+pub mod Bounds
+pub mod Beside
+pub mod Orders
+pub mod Ideals
+pub mod Fixed
+pub mod Ranges
 pub mod Whole

@@ -15,16 +15,18 @@ use Rattle.hx_model.specs.Faults.{fault_of, fault_at, is_free, is_known, too_man
 use Rattle.hx_cluster.specs.declared.description.Resource.{Resource}
 use Rattle.hx_cluster.specs.Ends.{no_model, model_at, model_of, resource_at}
 use Rattle.hx_ids.specs.declared.ResourceId.{ResourceId}
-use Rattle.hx_safe.specs.Sound.{has_no_fault}
+use Rattle.hx_cluster.specs.Valid.{has_no_fault}
 
--- the initial state isn't limited, nor are ERROR and DROPPED, and each legal step leads to a state of the model or to DROPPED
+-- the initial state isn't limited, nor are ERROR and DROPPED; each legal step leads from a state of the model or from ERROR, and to a
+-- state of the model or to DROPPED
 pub record IsGood (m : ModelParts) : Type 0 where
   pub initial : bound_of m m.initial ≡ Free
   pub reserved : (t : StateId) → nat_lt t.0 2 ≡ true → bound_of m t ≡ Free
   pub leads : (from to : StateId) → is_legal m from to ≡ true → (has_state m to || (to.0 == 1)) ≡ true
+  pub starts : (from to : StateId) → is_legal m from to ≡ true → ((from.0 == 0) || has_state m from) ≡ true
 
 -- no test that was made found a fault
-or-none : {X : Type 0} (a b : Option X) → option_or a b ≡ None → (a ≡ None) × (b ≡ None)
+pub or-none : {X : Type 0} (a b : Option X) → option_or a b ≡ None → (a ≡ None) × (b ≡ None)
 or-none None b e = (refl, e)
 or-none (Some x) b e = cc
 
@@ -87,6 +89,21 @@ known-leads m from to (t ∷ ts) e w = one (is_between from to t) refl w (known-
     one true is w more = known-one m from to t (grind (arith, e)) is
     one false is w more = more w
 
+known-starts : (m : ModelParts) (from to : StateId) (ts : List (StateId × StateId)) → list_any (λ t. not (is_known m t)) ts ≡ false
+    → list_any (is_between from to) ts ≡ true → has_state m from ≡ true
+known-starts m from to [] e w = cc
+known-starts m from to (t ∷ ts) e w = one (is_between from to t) refl w (known-starts m from to ts (grind (arith, e)))
+  where
+    here : is_between from to t ≡ true → has_state m from ≡ true
+    here is =
+        let known : has_state m t.0 ≡ true = grind (arith, e) in
+        subst (λ (s : StateId). has_state m s ≡ true) (state_same t.0 from (grind (arith, is))) known
+
+    one : (b : Bool) → is_between from to t ≡ b → (b || list_any (is_between from to) ts) ≡ true
+        → (list_any (is_between from to) ts ≡ true → has_state m from ≡ true) → has_state m from ≡ true
+    one true is w more = here is
+    one false is w more = more w
+
 initial-leads : (m : ModelParts) (to : StateId) → has_state m m.initial ≡ true → (to.0 == m.initial.0) ≡ true → (has_state m to || (to.0 == 1)) ≡ true
 initial-leads m to e is =
     let P : StateId → Type 0 = λ s. (has_state m s || (s.0 == 1)) ≡ true in
@@ -108,6 +125,7 @@ good_from m e =
       initial = initial_from m seven.0;
       reserved = λ t low. reserved_from m.states t plain low;
       leads = λ from to is. leads (has_initial m six.0) known from to (list_any (is_between from to) m.transitions) refl is;
+      starts = λ from to is. starts known from to (list_any (is_between from to) m.transitions) refl is;
     }
   where
     leads : has_state m m.initial ≡ true → list_any (λ t. not (is_known m t)) m.transitions ≡ false → (from to : StateId) (b : Bool)
@@ -115,8 +133,13 @@ good_from m e =
     leads first known from to true listed is = known-leads m from to m.transitions known listed
     leads first known from to false listed is = initial-leads m to first (grind (arith, is))
 
+    starts : list_any (λ t. not (is_known m t)) m.transitions ≡ false → (from to : StateId) (b : Bool)
+        → list_any (is_between from to) m.transitions ≡ b → (b || ((from.0 == 0) && (to.0 == m.initial.0))) ≡ true → ((from.0 == 0) || has_state m from) ≡ true
+    starts known from to true listed is = let there = known-starts m from to m.transitions known listed in grind (arith, there)
+    starts known from to false listed is = grind (arith, is)
+
 pub good_none : IsGood no_model
-good_none = record { initial = refl; reserved = λ t low. refl; leads = λ from to e. grind (arith, nat_tests, e) }
+good_none = record { initial = refl; reserved = λ t low. refl; leads = λ from to e. grind (arith, nat_tests, e); starts = λ from to e. grind (arith, nat_tests, e) }
 
 -- each model that a resource can have is good
 good_listed : (models : List ModelParts) (n : ℕ) → list_all has_no_fault models ≡ true → IsGood (get_or models n no_model)

@@ -1,5 +1,5 @@
 -- Resources that are added, dropped or edited, and replicas that are asked to leave ERROR.
-use Rattle.std.proofs.Common.{◌≡◌, ℕ, zero, suc, ◌+◌, ◌≤◌, ◌||◌, ◌&&◌, ◌==◌, not, Bool, true, false, List, [], ◌∷◌, ◌++◌, length, Option, Some, None, refl, sym, ap, ◌∙◌, subst, arith}
+use Rattle.std.proofs.Common.{◌≡◌, ℕ, zero, suc, ◌+◌, ◌≤◌, ◌||◌, ◌&&◌, ◌==◌, not, Bool, true, false, List, [], ◌∷◌, ◌++◌, length, Option, Some, None, ◌⊎◌, inl, inr, refl, sym, ap, ◌∙◌, subst, arith}
 use Rattle.std.specs.Prelude.{if◌then◌else◌, nat_lt, nat_le, slice_get, slice_set, unwrap_or}
 use Rattle.std.specs.List.{list_any}
 use Rattle.std.specs.Option.{option_map_or}
@@ -26,13 +26,13 @@ use Rattle.hx_safe.proofs.Ends.{part_same}
 use Rattle.hx_safe.proofs.Kept.{IsKept}
 
 -- what is known of a resource is known of it behind others
-get-append : {X : Type 0} (xs ys : List X) (n : ℕ) (x : X) → slice_get xs n ≡ Some x → slice_get (xs ++ ys) n ≡ Some x
+pub get-append : {X : Type 0} (xs ys : List X) (n : ℕ) (x : X) → slice_get xs n ≡ Some x → slice_get (xs ++ ys) n ≡ Some x
 get-append [] ys n x e = cc
 get-append (y ∷ xs) ys zero x e = e
 get-append (y ∷ xs) ys (suc n) x e = get-append xs ys n x e
 
 -- and so is what an edit leaves as it was
-get-set : {X Y : Type 0} (h : X → Y) (d : Y) (xs : List X) (n : ℕ) (x y : X) → slice_get xs n ≡ Some x → h y ≡ h x → (k : ℕ)
+pub get-set : {X Y : Type 0} (h : X → Y) (d : Y) (xs : List X) (n : ℕ) (x y : X) → slice_get xs n ≡ Some x → h y ≡ h x → (k : ℕ)
     → option_map_or h (slice_get (slice_set xs n y) k) d ≡ option_map_or h (slice_get xs k) d
 get-set h d [] n x y e same k = cc
 get-set h d (z ∷ xs) zero x y e same zero = same ∙ (let is : z ≡ x = grind (arith, e) in ap h (sym is))
@@ -68,19 +68,18 @@ kept-same c resources change r models parts =
     let test : ModelParts → ℕ → Bool = λ x n. is_live c.live r.session && nat_lt r.part.index n && (has_state x r.state || (r.state.0 == error.0)) in
     ap (λ (x : ModelParts). test x (parts_of resources r.part.resource)) models ∙ ap (λ (n : ℕ). test (model_of c.models c.resources r.part.resource) n) parts
 
-limit-same : (c : Cluster) (resources : List Resource) (change : ℕ) (p : PartId) (t : StateId)
+pub limit-same : (c : Cluster) (resources : List Resource) (change : ℕ) (p : PartId) (t : StateId)
     → model_of c.models resources p.resource ≡ model_of c.models c.resources p.resource → replicas_of resources p.resource ≡ replicas_of c.resources p.resource
     → limit_at (record c { resources = resources; change = change }) p t ≡ limit_at c p t
 limit-same c resources change p t models replicas =
     ap (λ (m : ModelParts). limit_of (bound_of m t) (replicas_of resources p.resource) (length c.live)) models
     ∙ ap (λ (n : ℕ). limit_of (bound_of (model_of c.models c.resources p.resource) t) n (length c.live)) replicas
 
--- resources with the same models, replicas and parts
+-- resources with the same models and parts
 kept_resources : (c : Cluster) (resources : List Resource) (change : ℕ) → IsKept c
-    → ((r : ResourceId) → model_of c.models resources r ≡ model_of c.models c.resources r) → ((r : ResourceId) → replicas_of resources r ≡ replicas_of c.resources r) → ((r : ResourceId) → parts_of resources r ≡ parts_of c.resources r)
+    → ((r : ResourceId) → model_of c.models resources r ≡ model_of c.models c.resources r) → ((r : ResourceId) → parts_of resources r ≡ parts_of c.resources r)
     → IsKept (record c { resources = resources; change = change })
-kept_resources c resources change k models replicas parts = record {
-  bounded = λ p t limit e. k.bounded p t limit (sym (limit-same c resources change p t (models p.resource) (replicas p.resource)) ∙ e);
+kept_resources c resources change k models parts = record {
   mail = record {
     pending = all-le (is_pending c) (is_pending (record c { resources = resources; change = change })) (λ m e. pending-same c resources change m (models m.part.resource) (parts m.part.resource) ∙ e) c.mail k.mail.pending;
     numbers = k.mail.numbers;
@@ -98,22 +97,31 @@ kept_resources c resources change k models replicas parts = record {
 
 -- a resource that is edited
 kept_edited : (c : Cluster) (r : ResourceId) (f : Resource → Resource) → IsKept c → ((x : Resource) → (f x).model ≡ x.model)
-    → ((x : Resource) → (f x).ideal.replicas ≡ x.ideal.replicas) → ((x : Resource) → (f x).ideal.parts ≡ x.ideal.parts)
-    → IsKept (with_resource c r f)
-kept_edited c r f k model replicas parts = one (resource_at c.resources r) refl
+    → ((x : Resource) → (f x).ideal.parts ≡ x.ideal.parts) → IsKept (with_resource c r f)
+kept_edited c r f k model parts = one (resource_at c.resources r) refl
   where
     one : (o : Option Resource) → resource_at c.resources r ≡ o → IsKept (changed_at c r f o)
     one None is = k
     one (Some x) is = kept_resources c (slice_set c.resources r.0 (f x)) (c.change + 1) k
         (λ q. get-set (λ (y : Resource). model_at c.models y.model) no_model c.resources r.0 x (f x) is (ap (model_at c.models) (model x)) q.0)
-        (λ q. get-set (λ (y : Resource). y.ideal.replicas) 0 c.resources r.0 x (f x) is (replicas x) q.0)
         (λ q. get-set (λ (y : Resource). y.ideal.parts) 0 c.resources r.0 x (f x) is (parts x) q.0)
 
+-- and with the same replicas it has the same limits
+pub limit_edited : (c : Cluster) (r : ResourceId) (f : Resource → Resource) → ((x : Resource) → (f x).model ≡ x.model)
+    → ((x : Resource) → (f x).ideal.replicas ≡ x.ideal.replicas) → (p : PartId) (t : StateId) → limit_at (with_resource c r f) p t ≡ limit_at c p t
+limit_edited c r f model replicas p t = one (resource_at c.resources r) refl
+  where
+    one : (o : Option Resource) → resource_at c.resources r ≡ o → limit_at (changed_at c r f o) p t ≡ limit_at c p t
+    one None is = refl
+    one (Some x) is = limit-same c (slice_set c.resources r.0 (f x)) (c.change + 1) p t
+        (get-set (λ (y : Resource). model_at c.models y.model) no_model c.resources r.0 x (f x) is (ap (model_at c.models) (model x)) p.resource.0)
+        (get-set (λ (y : Resource). y.ideal.replicas) 0 c.resources r.0 x (f x) is (replicas x) p.resource.0)
+
 pub kept_drop : (c : Cluster) (r : ResourceId) → IsKept c → IsKept (with_resource c r (λ x. record x { dropped = true }))
-kept_drop c r k = kept_edited c r (λ x. record x { dropped = true }) k (λ x. refl) (λ x. refl) (λ x. refl)
+kept_drop c r k = kept_edited c r (λ x. record x { dropped = true }) k (λ x. refl) (λ x. refl)
 
 pub kept_mode : (c : Cluster) (r : ResourceId) (f : Mode → Mode) → IsKept c → IsKept (with_resource c r (λ x. with_mode x (f x.ideal.mode)))
-kept_mode c r f k = kept_edited c r (λ x. with_mode x (f x.ideal.mode)) k (λ x. refl) (λ x. refl) (λ x. refl)
+kept_mode c r f k = kept_edited c r (λ x. with_mode x (f x.ideal.mode)) k (λ x. refl) (λ x. refl)
 
 -- a part that is there has a resource, and that is the same behind others
 there : (c : Cluster) (x : Resource) (p : PartId) → has_part c p ≡ true → resource_at (c.resources ++ x ∷ []) p.resource ≡ resource_at c.resources p.resource
@@ -125,7 +133,7 @@ there c x p e = one (resource_at c.resources p.resource) refl e
     one (Some y) is e = get-append c.resources (x ∷ []) p.resource.0 y is ∙ sym is
 
 -- a part that isn't there has no ends
-absent-ends : (c : Cluster) (p : PartId) (t : StateId) → IsKept c → resource_at c.resources p.resource ≡ None → count_of c p t ≡ 0
+pub absent-ends : (c : Cluster) (p : PartId) (t : StateId) → IsKept c → resource_at c.resources p.resource ≡ None → count_of c p t ≡ 0
 absent-ends c p t k none = count-never (has_end c.rows c.mail p t) each (sessions_of c.live)
   where
     absent : (q : PartId) → has_part c q ≡ true → (b : Bool) → part_eq q p ≡ b → b ≡ false
@@ -145,7 +153,6 @@ absent-ends c p t k none = count-never (has_end c.rows c.mail p t) each (session
 -- so a resource that is added changes nothing for those that were there
 pub kept_add : (c : Cluster) (x : Resource) → IsKept c → IsKept (record c { resources = c.resources ++ x ∷ []; change = c.change + 1 })
 kept_add c x k = record {
-  bounded = λ p t limit e. one p t limit (resource_at c.resources p.resource) refl e;
   mail = record {
     pending = all-le (is_pending c) (is_pending (record c { resources = c.resources ++ x ∷ []; change = c.change + 1 })) (λ m e.
         let same = there c x m.part (grind (arith, e)) in
@@ -164,19 +171,23 @@ kept_add c x k = record {
   below = k.below;
   sound = k.sound;
 }
+
+-- whose limits are the same too
+pub limit_add : (c : Cluster) (x : Resource) → IsKept c → (p : PartId) (t : StateId) (limit : ℕ)
+    → limit_at (record c { resources = c.resources ++ x ∷ []; change = c.change + 1 }) p t ≡ Some limit
+    → (limit_at c p t ≡ Some limit) ⊎ (count_of c p t ≤ limit)
+limit_add c x k p t limit e = one (resource_at c.resources p.resource) refl
   where
-    one : (p : PartId) (t : StateId) (limit : ℕ) (o : Option Resource) → resource_at c.resources p.resource ≡ o
-        → limit_at (record c { resources = c.resources ++ x ∷ []; change = c.change + 1 }) p t ≡ Some limit → count_of c p t ≤ limit
-    one p t limit None is e = omega (arith, absent-ends c p t k is)
-    one p t limit (Some y) is e =
+    one : (o : Option Resource) → resource_at c.resources p.resource ≡ o → (limit_at c p t ≡ Some limit) ⊎ (count_of c p t ≤ limit)
+    one None is = inr (omega (arith, absent-ends c p t k is))
+    one (Some y) is =
         let same : resource_at (c.resources ++ x ∷ []) p.resource ≡ resource_at c.resources p.resource = get-append c.resources (x ∷ []) p.resource.0 y is ∙ sym is in
-        k.bounded p t limit (sym (limit-same c (c.resources ++ x ∷ []) (c.change + 1) p t (ap (model_from c.models) same) (ap replicas_from same)) ∙ e)
+        inl (sym (limit-same c (c.resources ++ x ∷ []) (c.change + 1) p t (ap (model_from c.models) same) (ap replicas_from same)) ∙ e)
 
 -- a replica in ERROR that is asked to leave it
 pub kept_reset : (c : Cluster) (p : PartId) (o : Option Live) → IsKept c → reset_fault c p o ≡ None → IsKept (asked_of c p o)
 kept_reset c p None k e = k
 kept_reset c p (Some l) k e = record {
-  bounded = k.bounded;
   mail = record { pending = k.mail.pending; numbers = k.mail.numbers; single = k.mail.single };
   rows = record {
     kept = k.rows.kept;

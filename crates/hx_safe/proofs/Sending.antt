@@ -1,5 +1,5 @@
 -- A proposal that becomes a message, and the proposals of a dispatch.
-use Rattle.std.proofs.Common.{◌≡◌, ℕ, ◌+◌, ◌≤◌, ◌<◌, ◌||◌, ◌&&◌, ◌==◌, not, Bool, true, false, List, [], ◌∷◌, ◌++◌, length, Option, Some, None, refl, sym, ap, ◌∙◌, subst, arith}
+use Rattle.std.proofs.Common.{◌≡◌, ℕ, ◌+◌, ◌≤◌, ◌<◌, ◌||◌, ◌&&◌, ◌==◌, not, Bool, true, false, List, [], ◌∷◌, ◌++◌, length, Option, Some, None, ◌⊎◌, inl, inr, refl, sym, ap, ◌∙◌, subst, arith}
 use Rattle.std.specs.Prelude.{if◌then◌else◌, nat_lt, nat_le, slice_get, is_none, unwrap_or}
 use Rattle.std.specs.List.{list_all}
 use Rattle.std.proofs.lemmas.Bool.Decides.{nat_tests}
@@ -82,8 +82,8 @@ sent_next c q k (r ∷ rules) id e = one (matches r q.from q.to && nat_le r.limi
     one false e more = more e
 
 -- an absent replica stands at a state without a limit, so a limited state that it leaves is its row's
-from_end : (c : Cluster) (q : Proposal) (t : StateId) (limit : ℕ) → IsKept c → ((standing_of c q.session q.part).0 == q.from.0) ≡ true → (q.from.0 == t.0) ≡ true → limit_at c q.part t ≡ Some limit
-    → row_at t (row_of c.rows q.session q.part) ≡ true
+pub from_end : (c : Cluster) (q : Proposal) (t : StateId) (limit : ℕ) → IsKept c → ((standing_of c q.session q.part).0 == q.from.0) ≡ true
+    → (q.from.0 == t.0) ≡ true → limit_at c q.part t ≡ Some limit → row_at t (row_of c.rows q.session q.part) ≡ true
 from_end c q t limit k from at e = row_at-state t c.rows q.session q.part ∙ one (state_of c.rows q.session q.part) refl from
   where
     one : (o : Option StateId) → state_of c.rows q.session q.part ≡ o → ((unwrap_or o (initial_of c q.part)).0 == q.from.0) ≡ true → stands_at t o ≡ true
@@ -95,49 +95,74 @@ from_end c q t limit k from at e = row_at-state t c.rows q.session q.part ∙ on
         let both = sym free ∙ ap (limit_at c q.part) (sym same) ∙ e in
         cc
 
--- one end more in the state that it leads to, where there was room, and none elsewhere
-sent_here : (c : Cluster) (q : Proposal) (id : MsgId) (t : StateId) (limit : ℕ) → IsKept c → IsRoom c q id → (b : Bool) → (q.to.0 == t.0) ≡ b → limit_at c q.part t ≡ Some limit
-    → count_over (sessions_of c.live) c.rows (c.mail ++ message_from c id q ∷ []) q.part t ≤ limit
-sent_here c q id t limit k room true is e =
+-- the ends where one message more is pending
+abbrev pub count_with : Cluster → Message → PartId → StateId → ℕ
+count_with c m p t = count_over (sessions_of c.live) c.rows (c.mail ++ m ∷ []) p t
+
+-- they are at most one more
+pub end_more : (c : Cluster) (m : Message) (p : PartId) (t : StateId) → IsKept c → count_with c m p t ≤ count_of c p t + 1
+end_more c m p t k =
+    let one : SessionId → Bool = λ u. u.0 == m.session.0 in
+    let more : count_with c m p t ≤ count_of c p t + count one (sessions_of c.live)
+    = count-or (has_end c.rows (c.mail ++ m ∷ []) p t) (has_end c.rows c.mail p t) one
+    (λ u w. grind (arith, nat_tests, w, end-sent c.mail m u p t)) (sessions_of c.live) in
+    let same : count one (sessions_of c.live) ≡ count (is_session m.session) c.live = count-map one (λ (l : Live). l.session) c.live in
+    omega (arith, more, same, k.numbers m.session)
+
+-- none more in another part
+pub end_elsewhere : (c : Cluster) (m : Message) (p : PartId) (t : StateId) → part_eq m.part p ≡ false → count_with c m p t ≤ count_of c p t
+end_elsewhere c m p t is =
+    count-le (has_end c.rows (c.mail ++ m ∷ []) p t) (has_end c.rows c.mail p t)
+    (λ u w. grind (arith, w, is, end-sent c.mail m u p t)) (sessions_of c.live)
+
+-- and none more in a limited state that a message doesn't lead to, since its replica has its from among its ends
+pub end_from : (c : Cluster) (q : Proposal) (id : MsgId) (t : StateId) (limit : ℕ) → IsKept c → ((standing_of c q.session q.part).0 == q.from.0) ≡ true
+    → (q.to.0 == t.0) ≡ false → limit_at c q.part t ≡ Some limit → count_with c (message_from c id q) q.part t ≤ count_of c q.part t
+end_from c q id t limit k from is e =
     let m = message_from c id q in
-    let same = state_same q.to t is in
-    let gate : count_of c q.part t < limit = subst (λ (s : StateId). limit_at c q.part s ≡ Some limit → count_of c q.part s < limit) same (room.room limit) e in
-    let more : count_over (sessions_of c.live) c.rows (c.mail ++ m ∷ []) q.part t ≤ count_of c q.part t + count (λ (u : SessionId). u.0 == q.session.0) (sessions_of c.live)
-    = count-or (has_end c.rows (c.mail ++ m ∷ []) q.part t) (has_end c.rows c.mail q.part t) (λ (u : SessionId). u.0 == q.session.0) (λ u w. grind (arith, nat_tests, w, end-sent c.mail m u q.part t)) (sessions_of c.live) in
-    let one : count (λ (u : SessionId). u.0 == q.session.0) (sessions_of c.live) ≡ count (is_session q.session) c.live = count-map (λ (u : SessionId). u.0 == q.session.0) (λ (l : Live). l.session) c.live in
-    omega (arith, gate, more, one, k.numbers q.session)
-sent_here c q id t limit k room false is e =
-    let m = message_from c id q in
-    let less : count_over (sessions_of c.live) c.rows (c.mail ++ m ∷ []) q.part t ≤ count_of c q.part t
-    = count-le (has_end c.rows (c.mail ++ m ∷ []) q.part t) (has_end c.rows c.mail q.part t) (λ u w. each u (row_at t (row_of c.rows u q.part)) refl (q.session.0 == u.0) refl (q.from.0 == t.0) refl w) (sessions_of c.live) in
-    omega (arith, less, k.bounded q.part t limit e)
+    count-le (has_end c.rows (c.mail ++ m ∷ []) q.part t) (has_end c.rows c.mail q.part t)
+    (λ u w. each u (row_at t (row_of c.rows u q.part)) refl (q.session.0 == u.0) refl (q.from.0 == t.0) refl w) (sessions_of c.live)
   where
     each : (u : SessionId) (a : Bool) → row_at t (row_of c.rows u q.part) ≡ a → (b : Bool) → (q.session.0 == u.0) ≡ b → (d : Bool) → (q.from.0 == t.0) ≡ d
         → (a || message_at t (message_of (c.mail ++ message_from c id q ∷ []) u q.part)) ≡ true → has_end c.rows c.mail q.part t u ≡ true
-    each u true row b at d from w = grind (arith, row)
-    each u false row true at true from w =
-        let here = subst (λ (v : SessionId). row_at t (row_of c.rows v q.part) ≡ true) (session_same q.session u at) (from_end c q t limit k room.from from e) in
+    each u true row b at d there w = grind (arith, row)
+    each u false row true at true there w =
+        let here = subst (λ (v : SessionId). row_at t (row_of c.rows v q.part) ≡ true) (session_same q.session u at) (from_end c q t limit k from there e) in
         let both = sym row ∙ here in cc
-    each u false row true at false from w = let more = end-sent c.mail (message_from c id q) u q.part t w in grind (arith, more, at, from, is)
-    each u false row false at d from w = let more = end-sent c.mail (message_from c id q) u q.part t w in grind (arith, more, at)
+    each u false row true at false there w = let more = end-sent c.mail (message_from c id q) u q.part t w in grind (arith, more, at, there, is)
+    each u false row false at d there w = let more = end-sent c.mail (message_from c id q) u q.part t w in grind (arith, more, at)
 
-sent_there : (c : Cluster) (q : Proposal) (id : MsgId) (p : PartId) (t : StateId) (limit : ℕ) → IsKept c → IsRoom c q id → (b : Bool) → part_eq q.part p ≡ b → limit_at c p t ≡ Some limit
-    → count_over (sessions_of c.live) c.rows (c.mail ++ message_from c id q ∷ []) p t ≤ limit
-sent_there c q id p t limit k room true is e =
-    let P : PartId → Type 0 = λ p. limit_at c p t ≡ Some limit → count_over (sessions_of c.live) c.rows (c.mail ++ message_from c id q ∷ []) p t ≤ limit in
-    subst P (part_same q.part p is) (λ e. sent_here c q id t limit k room (q.to.0 == t.0) refl e) e
-sent_there c q id p t limit k room false is e =
-    let m = message_from c id q in
-    let less : count_over (sessions_of c.live) c.rows (c.mail ++ m ∷ []) p t ≤ count_of c p t
-    = count-le (has_end c.rows (c.mail ++ m ∷ []) p t) (has_end c.rows c.mail p t) (λ u w. grind (arith, w, is, end-sent c.mail m u p t)) (sessions_of c.live) in
-    omega (arith, less, k.bounded p t limit e)
+-- so what is sent leaves no more ends in a limited state, or no more than its limit
+count_sent_here : (c : Cluster) (q : Proposal) (id : MsgId) (t : StateId) (limit : ℕ) → IsKept c → IsRoom c q id → limit_at c q.part t ≡ Some limit
+    → (count_with c (message_from c id q) q.part t ≤ count_of c q.part t) ⊎ (count_with c (message_from c id q) q.part t ≤ limit)
+count_sent_here c q id t limit k room e = one (q.to.0 == t.0) refl
+  where
+    one : (b : Bool) → (q.to.0 == t.0) ≡ b
+        → (count_with c (message_from c id q) q.part t ≤ count_of c q.part t) ⊎ (count_with c (message_from c id q) q.part t ≤ limit)
+    one false is = inl (end_from c q id t limit k room.from is e)
+    one true is =
+        let gate : count_of c q.part t < limit
+        = subst (λ (s : StateId). limit_at c q.part s ≡ Some limit → count_of c q.part s < limit) (state_same q.to t is) (room.room limit) e in
+        let more = end_more c (message_from c id q) q.part t k in
+        inr (omega (arith, gate, more))
+
+count_sent : (c : Cluster) (q : Proposal) (id : MsgId) (p : PartId) (t : StateId) (limit : ℕ) → IsKept c → IsRoom c q id → limit_at c p t ≡ Some limit
+    → (count_with c (message_from c id q) p t ≤ count_of c p t) ⊎ (count_with c (message_from c id q) p t ≤ limit)
+count_sent c q id p t limit k room e = one (part_eq q.part p) refl
+  where
+    one : (b : Bool) → part_eq q.part p ≡ b
+        → (count_with c (message_from c id q) p t ≤ count_of c p t) ⊎ (count_with c (message_from c id q) p t ≤ limit)
+    one false is = inl (end_elsewhere c (message_from c id q) p t is)
+    one true is =
+        let P : PartId → Type 0 = λ r. limit_at c r t ≡ Some limit
+        → (count_with c (message_from c id q) r t ≤ count_of c r t) ⊎ (count_with c (message_from c id q) r t ≤ limit) in
+        subst P (part_same q.part p is) (λ e. count_sent_here c q id t limit k room e) e
 
 -- so a message that is sent keeps all
 pub kept_sent : (c : Cluster) (q : Proposal) (id : MsgId) → IsKept c → has_part c q.part ≡ true → id ≡ record { 0 = c.next_msg } → IsRoom c q id → IsKept (after_placed c q (placings.Sent id))
 kept_sent c q id k part next room =
     let m = message_from c id q in
     record {
-      bounded = λ p t limit e. sent_there c q id p t limit k room (part_eq q.part p) refl e;
       mail = record {
         pending = rw all-append (grind (
           arith,
@@ -196,7 +221,32 @@ kept_proposal c q k part = one (placed_of c q) refl
     one (placings.OverThrottle rule load limit) is = k
     one (placings.Sent id) is = let room = room_from c q id is in kept_sent c q id k part (sent_next c q 0 c.rules id room.throttles) room
 
--- which proposals may be made stays as it was
+-- the law of counts for a proposal
+pub count_proposal : (c : Cluster) (q : Proposal) (p : PartId) (t : StateId) (limit : ℕ) → IsKept c → limit_at c p t ≡ Some limit
+    → (count_of (after_proposal c q) p t ≤ count_of c p t) ⊎ (count_of (after_proposal c q) p t ≤ limit)
+count_proposal c q p t limit k e = one (placed_of c q) refl
+  where
+    one : (a : Placed) → placed_of c q ≡ a → (count_of (after_placed c q a) p t ≤ count_of c p t) ⊎ (count_of (after_placed c q a) p t ≤ limit)
+    one (placings.Sent id) is = count_sent c q id p t limit k (room_from c q id is) e
+    one placings.Ended is = inl (omega arith)
+    one placings.ResourceDropped is = inl (omega arith)
+    one (placings.Busy id) is = inl (omega arith)
+    one (placings.WrongFrom has) is = inl (omega arith)
+    one placings.Illegal is = inl (omega arith)
+    one (placings.OverBound count bound) is = inl (omega arith)
+    one (placings.OverThrottle rule load most) is = inl (omega arith)
+
+-- which proposals may be made stays as it was, and so do the limits
+limit-placed : (c : Cluster) (q : Proposal) (p : PartId) (t : StateId) (a : Placed) → limit_at (after_placed c q a) p t ≡ limit_at c p t
+limit-placed c q p t (placings.Sent id) = refl
+limit-placed c q p t placings.Ended = refl
+limit-placed c q p t placings.ResourceDropped = refl
+limit-placed c q p t (placings.Busy id) = refl
+limit-placed c q p t (placings.WrongFrom has) = refl
+limit-placed c q p t placings.Illegal = refl
+limit-placed c q p t (placings.OverBound count bound) = refl
+limit-placed c q p t (placings.OverThrottle rule load most) = refl
+
 proposable-placed : (c : Cluster) (q x : Proposal) (a : Placed) → is_proposable (after_placed c q a) x ≡ is_proposable c x
 proposable-placed c q x placings.Ended = refl
 proposable-placed c q x placings.ResourceDropped = refl
@@ -211,6 +261,25 @@ proposable-raised : (c : Cluster) (x : Proposal) (k : ControllerId) (o : Option 
 proposable-raised c x k None = refl
 proposable-raised c x k (Some d) = refl
 
+-- what each proposal keeps beside, all keep
+pub along_proposals : (P : Cluster → Type 0) → ((c : Cluster) (q : Proposal) → IsKept c → is_proposable c q ≡ true → P c → P (after_proposal c q))
+    → (c : Cluster) (qs : List Proposal) → IsKept c → list_all (is_proposable c) qs ≡ true → P c → P (after_proposals c qs)
+along_proposals P each c [] k e here = here
+along_proposals P each c (q ∷ qs) k e here =
+    let first : is_proposable c q ≡ true = grind (arith, e) in
+    let others : list_all (is_proposable c) qs ≡ true = grind (arith, e) in
+    let part : has_part c q.part ≡ true = grind (arith, first) in
+    along_proposals P each (after_proposal c q) qs (kept_proposal c q k part)
+    (all-le (is_proposable c) (is_proposable (after_proposal c q)) (λ x w. proposable-placed c q x (placed_of c q) ∙ w) qs others)
+    (each c q k first here)
+
+-- and a dispatch
+pub along_dispatch : (P : Cluster → Type 0) → ((c : Cluster) (q : Proposal) → IsKept c → is_proposable c q ≡ true → P c → P (after_proposal c q))
+    → (c : Cluster) (n : ControllerId) (qs : List Proposal) → IsKept c → list_all (is_proposable c) qs ≡ true → P (next_pass c n) → P (after_dispatch c n qs)
+along_dispatch P each c n qs k e here =
+    along_proposals P each (next_pass c n) qs (kept_raised c n k)
+    (all-le (is_proposable c) (is_proposable (next_pass c n)) (λ x w. proposable-raised c x n (slice_get c.controllers n.0) ∙ w) qs e) here
+
 pub kept_proposals : (c : Cluster) (qs : List Proposal) → IsKept c → list_all (is_proposable c) qs ≡ true → IsKept (after_proposals c qs)
 kept_proposals c [] k e = k
 kept_proposals c (q ∷ qs) k e =
@@ -218,6 +287,54 @@ kept_proposals c (q ∷ qs) k e =
     let others : list_all (is_proposable c) qs ≡ true = grind (arith, e) in
     let part : has_part c q.part ≡ true = grind (arith, first) in
     kept_proposals (after_proposal c q) qs (kept_proposal c q k part) (all-le (is_proposable c) (is_proposable (after_proposal c q)) (λ x w. proposable-placed c q x (placed_of c q) ∙ w) qs others)
+
+count_proposals : (c : Cluster) (qs : List Proposal) (p : PartId) (t : StateId) (limit : ℕ) → IsKept c → list_all (is_proposable c) qs ≡ true → limit_at c p t ≡ Some limit
+    → (count_of (after_proposals c qs) p t ≤ count_of c p t) ⊎ (count_of (after_proposals c qs) p t ≤ limit)
+count_proposals c [] p t limit k e at = inl (omega arith)
+count_proposals c (q ∷ qs) p t limit k e at =
+    let d = after_proposal c q in
+    let first : is_proposable c q ≡ true = grind (arith, e) in
+    let others : list_all (is_proposable c) qs ≡ true = grind (arith, e) in
+    let part : has_part c q.part ≡ true = grind (arith, first) in
+    let rest : list_all (is_proposable d) qs ≡ true
+    = all-le (is_proposable c) (is_proposable d) (λ x w. proposable-placed c q x (placed_of c q) ∙ w) qs others in
+    both (count_proposal c q p t limit k at)
+    (count_proposals d qs p t limit (kept_proposal c q k part) rest (limit-placed c q p t (placed_of c q) ∙ at))
+  where
+    both : {a b z l : ℕ} → (b ≤ a) ⊎ (b ≤ l) → (z ≤ b) ⊎ (z ≤ l) → (z ≤ a) ⊎ (z ≤ l)
+    both first (inr low) = inr low
+    both (inl one) (inl two) = inl (omega (arith, one, two))
+    both (inr one) (inl two) = inr (omega (arith, one, two))
+
+limit-dispatch : (c : Cluster) (qs : List Proposal) (p : PartId) (t : StateId) → limit_at (after_proposals c qs) p t ≡ limit_at c p t
+limit-dispatch c [] p t = refl
+limit-dispatch c (q ∷ qs) p t = limit-dispatch (after_proposal c q) qs p t ∙ limit-placed c q p t (placed_of c q)
+
+-- a pass that is raised leaves all counts and limits
+count-raised : (c : Cluster) (p : PartId) (t : StateId) (k : ControllerId) (o : Option (Bool × PassNo)) → count_of (raised_pass c k o) p t ≡ count_of c p t
+count-raised c p t k None = refl
+count-raised c p t k (Some d) = refl
+
+limit-raised : (c : Cluster) (p : PartId) (t : StateId) (k : ControllerId) (o : Option (Bool × PassNo)) → limit_at (raised_pass c k o) p t ≡ limit_at c p t
+limit-raised c p t k None = refl
+limit-raised c p t k (Some d) = refl
+
+pub count_pass : (c : Cluster) (n : ControllerId) (p : PartId) (t : StateId) → count_of (next_pass c n) p t ≡ count_of c p t
+count_pass c n p t = count-raised c p t n (slice_get c.controllers n.0)
+
+pub limit_pass : (c : Cluster) (n : ControllerId) (p : PartId) (t : StateId) → limit_at (next_pass c n) p t ≡ limit_at c p t
+limit_pass c n p t = limit-raised c p t n (slice_get c.controllers n.0)
+
+pub limit_dispatch : (c : Cluster) (n : ControllerId) (qs : List Proposal) (p : PartId) (t : StateId) → limit_at (after_dispatch c n qs) p t ≡ limit_at c p t
+limit_dispatch c n qs p t = limit-dispatch (next_pass c n) qs p t ∙ limit_pass c n p t
+
+pub count_dispatch : (c : Cluster) (n : ControllerId) (qs : List Proposal) (p : PartId) (t : StateId) (limit : ℕ) → IsKept c → list_all (is_proposable c) qs ≡ true → limit_at c p t ≡ Some limit
+    → (count_of (after_dispatch c n qs) p t ≤ count_of c p t) ⊎ (count_of (after_dispatch c n qs) p t ≤ limit)
+count_dispatch c n qs p t limit k e at =
+    let rest : list_all (is_proposable (next_pass c n)) qs ≡ true
+    = all-le (is_proposable c) (is_proposable (next_pass c n)) (λ x w. proposable-raised c x n (slice_get c.controllers n.0) ∙ w) qs e in
+    subst (λ (z : ℕ). (count_of (after_dispatch c n qs) p t ≤ z) ⊎ (count_of (after_dispatch c n qs) p t ≤ limit)) (count_pass c n p t)
+    (count_proposals (next_pass c n) qs p t limit (kept_raised c n k) rest (limit_pass c n p t ∙ at))
 
 pub kept_dispatch : (c : Cluster) (n : ControllerId) (qs : List Proposal) → IsKept c → list_all (is_proposable c) qs ≡ true → IsKept (after_dispatch c n qs)
 kept_dispatch c n qs k e =

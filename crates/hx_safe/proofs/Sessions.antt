@@ -47,14 +47,14 @@ beats-tick a n [] clock e = grind (arith, nat_tests, e)
 beats-tick a n (l ∷ live) clock e = grind (arith, e, beats-tick l.beat n live clock)
 
 -- what is known beside the numbers of the sessions
-pub record IsOrdered (c : Cluster) : Type 0 where
+pub record IsSeated (c : Cluster) : Type 0 where
   pub instances : (i : InstanceId) → count (is_of i) c.live ≤ 1
   pub beats : beats_rise 0 c.live c.clock ≡ true
   pub leader : leader_is_up c c.leader ≡ true
 
 -- a session that joins
-pub ordered_join : (c : Cluster) (i : InstanceId) → IsOrdered c → already_live (live_of c.live i) ≡ None → IsOrdered (after c (steps.Join i))
-ordered_join c i o free = record {
+pub seated_join : (c : Cluster) (i : InstanceId) → IsSeated c → already_live (live_of c.live i) ≡ None → IsSeated (after c (steps.Join i))
+seated_join c i o free = record {
   instances = λ j. let more = count-append (is_of j) c.live ((record { session = record { 0 = c.next_session }; instance = i; beat = c.clock }) ∷ []) in one j (i.0 == j.0) refl more;
   beats = beats-push 0 c.live c.clock (record { session = record { 0 = c.next_session }; instance = i; beat = c.clock }) refl o.beats;
   leader = o.leader;
@@ -74,27 +74,27 @@ ordered_join c i o free = record {
     one j false is more = grind (arith, is, more, o.instances j)
 
 -- sessions that end
-pub ordered_without : (c : Cluster) (s : SessionId) → IsOrdered c → IsOrdered (without c s)
-ordered_without c s o = record {
+pub seated_without : (c : Cluster) (s : SessionId) → IsSeated c → IsSeated (without c s)
+seated_without c s o = record {
   instances = λ i. omega (arith, o.instances i, count-filter (is_of i) (λ l. not (l.session.0 == s.0)) c.live);
   beats = beats-filter (λ l. not (l.session.0 == s.0)) 0 c.live c.clock o.beats;
   leader = o.leader;
 }
 
-pub ordered_without_all : (c : Cluster) (ss : List SessionId) → IsOrdered c → IsOrdered (without_all c ss)
-ordered_without_all c [] o = o
-ordered_without_all c (s ∷ ss) o = ordered_without_all (without c s) ss (ordered_without c s o)
+pub seated_without_all : (c : Cluster) (ss : List SessionId) → IsSeated c → IsSeated (without_all c ss)
+seated_without_all c [] o = o
+seated_without_all c (s ∷ ss) o = seated_without_all (without c s) ss (seated_without c s o)
 
-pub ordered_end : (c : Cluster) (l : Option Live) → IsOrdered c → IsOrdered (ended_of c l)
-ordered_end c None o = o
-ordered_end c (Some l) o = ordered_without c l.session o
+pub seated_end : (c : Cluster) (l : Option Live) → IsSeated c → IsSeated (ended_of c l)
+seated_end c None o = o
+seated_end c (Some l) o = seated_without c l.session o
 
-pub ordered_tick : (c : Cluster) (n : ℕ) → IsOrdered c → IsOrdered (record c { clock = c.clock + n })
-ordered_tick c n o = record { instances = o.instances; beats = beats-tick 0 n c.live c.clock o.beats; leader = o.leader }
+pub seated_tick : (c : Cluster) (n : ℕ) → IsSeated c → IsSeated (record c { clock = c.clock + n })
+seated_tick c n o = record { instances = o.instances; beats = beats-tick 0 n c.live c.clock o.beats; leader = o.leader }
 
 -- a session that is heard of
-pub ordered_beat : (c : Cluster) (i : InstanceId) (l : Live) → IsOrdered c → live_of c.live i ≡ Some l → IsOrdered (beaten_of c (Some l))
-ordered_beat c i l o found = record {
+pub seated_beat : (c : Cluster) (i : InstanceId) (l : Live) → IsSeated c → live_of c.live i ≡ Some l → IsSeated (beaten_of c (Some l))
+seated_beat c i l o found = record {
   instances = λ j. let more = count-append (is_of j) (filter (λ x. not (is_session l.session x)) c.live) ((record l { beat = c.clock }) ∷ []) in one j (is_of j l) refl more;
   beats = beats-push 0 (filter (λ x. not (is_session l.session x)) c.live) c.clock (record l { beat = c.clock }) refl (beats-filter (λ x. not (is_session l.session x)) 0 c.live c.clock o.beats);
   leader = o.leader;
@@ -109,8 +109,8 @@ ordered_beat c i l o found = record {
         grind (arith, is, more, less, o.instances j)
 
 -- a controller that leads
-pub ordered_lead : (c : Cluster) (k : ControllerId) → IsOrdered c → lead_fault c k c.leader ≡ None → IsOrdered (after c (steps.Lead k))
-ordered_lead c k o free = record { instances = o.instances; beats = o.beats; leader = one c.leader free }
+pub seated_lead : (c : Cluster) (k : ControllerId) → IsSeated c → lead_fault c k c.leader ≡ None → IsSeated (after c (steps.Lead k))
+seated_lead c k o free = record { instances = o.instances; beats = o.beats; leader = one c.leader free }
   where
     up : (b : Bool) → (if b then Some faults.ControllerDown else None) ≡ None → not b ≡ true
     up true e = cc
@@ -121,7 +121,7 @@ ordered_lead c k o free = record { instances = o.instances; beats = o.beats; lea
     one None e = up (is_down c k) e
 
 -- the mark of another controller, and of this one
-mark-same : (xs : List (Bool × PassNo)) (k n : ℕ) (d : Bool × PassNo) → slice_get xs k ≡ Some d → (y : Bool × PassNo) → y.0 ≡ d.0
+pub mark-same : (xs : List (Bool × PassNo)) (k n : ℕ) (d : Bool × PassNo) → slice_get xs k ≡ Some d → (y : Bool × PassNo) → y.0 ≡ d.0
     → option_map_or (λ (x : Bool × PassNo). x.0) (slice_get (slice_set xs k y) n) false ≡ option_map_or (λ (x : Bool × PassNo). x.0) (slice_get xs n) false
 mark-same [] k n d e y same = cc
 mark-same (x ∷ xs) zero zero d e y same = let is : x ≡ d = grind (arith, e) in same ∙ ap (λ (z : Bool × PassNo). z.0) (sym is)
@@ -129,7 +129,7 @@ mark-same (x ∷ xs) zero (suc n) d e y same = refl
 mark-same (x ∷ xs) (suc k) zero d e y same = refl
 mark-same (x ∷ xs) (suc k) (suc n) d e y same = mark-same xs k n d e y same
 
-mark-other : (xs : List (Bool × PassNo)) (k n : ℕ) (y : Bool × PassNo) → (n == k) ≡ false → slice_get (slice_set xs k y) n ≡ slice_get xs n
+pub mark-other : (xs : List (Bool × PassNo)) (k n : ℕ) (y : Bool × PassNo) → (n == k) ≡ false → slice_get (slice_set xs k y) n ≡ slice_get xs n
 mark-other [] k n y ne = refl
 mark-other (x ∷ xs) zero zero y ne = cc
 mark-other (x ∷ xs) zero (suc n) y ne = refl
@@ -145,34 +145,34 @@ mark-up (x ∷ xs) (suc k) zero y is e = e
 mark-up (x ∷ xs) (suc k) (suc n) y is e = mark-up xs k n y is e
 
 -- a pass that is raised
-pub ordered_raised : (c : Cluster) (k : ControllerId) → IsOrdered c → IsOrdered (next_pass c k)
-ordered_raised c k o = one (slice_get c.controllers k.0) refl
+pub seated_raised : (c : Cluster) (k : ControllerId) → IsSeated c → IsSeated (next_pass c k)
+seated_raised c k o = one (slice_get c.controllers k.0) refl
   where
     up : (d : Bool × PassNo) → slice_get c.controllers k.0 ≡ Some d → (l : Option ControllerId) → leader_is_up c l ≡ true → leader_is_up (raised_pass c k (Some d)) l ≡ true
     up d is None e = refl
     up d is (Some l) e = ap not (mark-same c.controllers k.0 l.0 d is (d.0, record { 0 = d.1.0 + 1 }) refl) ∙ e
 
-    one : (x : Option (Bool × PassNo)) → slice_get c.controllers k.0 ≡ x → IsOrdered (raised_pass c k x)
+    one : (x : Option (Bool × PassNo)) → slice_get c.controllers k.0 ≡ x → IsSeated (raised_pass c k x)
     one None is = o
     one (Some d) is = record { instances = o.instances; beats = o.beats; leader = up d is c.leader o.leader }
 
 -- a controller that starts
-pub ordered_start : (c : Cluster) (k : ControllerId) → IsOrdered c → IsOrdered (with_down c k false)
-ordered_start c k o = one (slice_get c.controllers k.0)
+pub seated_start : (c : Cluster) (k : ControllerId) → IsSeated c → IsSeated (with_down c k false)
+seated_start c k o = one (slice_get c.controllers k.0)
   where
     up : (d : Bool × PassNo) (l : Option ControllerId) → leader_is_up c l ≡ true → leader_is_up (marked_down c k false (Some d)) l ≡ true
     up d None e = refl
     up d (Some l) e = ap not (mark-up c.controllers k.0 l.0 (false, d.1) refl (grind (arith, e)))
 
-    one : (x : Option (Bool × PassNo)) → IsOrdered (marked_down c k false x)
+    one : (x : Option (Bool × PassNo)) → IsSeated (marked_down c k false x)
     one None = o
     one (Some d) = record { instances = o.instances; beats = o.beats; leader = up d c.leader o.leader }
 
 -- a controller that stops leads no more
-pub ordered_stop : (c : Cluster) (k : ControllerId) → IsOrdered c → IsOrdered (without_leader k (with_down c k true))
-ordered_stop c k o = one (slice_get c.controllers k.0)
+pub seated_stop : (c : Cluster) (k : ControllerId) → IsSeated c → IsSeated (without_leader k (with_down c k true))
+seated_stop c k o = one (slice_get c.controllers k.0)
   where
-    gone : (b : Bool) → is_leader k c.leader ≡ b → IsOrdered (if b then record c { leader = None; epoch = record { 0 = c.epoch.0 + 1 } } else c)
+    gone : (b : Bool) → is_leader k c.leader ≡ b → IsSeated (if b then record c { leader = None; epoch = record { 0 = c.epoch.0 + 1 } } else c)
     gone true is = record { instances = o.instances; beats = o.beats; leader = refl }
     gone false is = o
 
@@ -181,40 +181,40 @@ ordered_stop c k o = one (slice_get c.controllers k.0)
     up d (Some l) is e = ap (λ x. not (option_map_or (λ (y : Bool × PassNo). y.0) x false)) (mark-other c.controllers k.0 l.0 (true, d.1) is) ∙ e
 
     marked : (d : Bool × PassNo) (b : Bool) → is_leader k c.leader ≡ b
-        → IsOrdered (if b then record (marked_down c k true (Some d)) { leader = None; epoch = record { 0 = c.epoch.0 + 1 } } else marked_down c k true (Some d))
+        → IsSeated (if b then record (marked_down c k true (Some d)) { leader = None; epoch = record { 0 = c.epoch.0 + 1 } } else marked_down c k true (Some d))
     marked d true is = record { instances = o.instances; beats = o.beats; leader = refl }
     marked d false is = record { instances = o.instances; beats = o.beats; leader = up d c.leader is o.leader }
 
-    one : (x : Option (Bool × PassNo)) → IsOrdered (without_leader k (marked_down c k true x))
+    one : (x : Option (Bool × PassNo)) → IsSeated (without_leader k (marked_down c k true x))
     one None = gone (is_leader k c.leader) refl
     one (Some d) = marked d (is_leader k c.leader) refl
 
 -- proposals
-ordered_placed : (c : Cluster) (q : Proposal) (a : Placed) → IsOrdered c → IsOrdered (after_placed c q a)
-ordered_placed c q placings.Ended o = o
-ordered_placed c q placings.ResourceDropped o = o
-ordered_placed c q (placings.Busy id) o = o
-ordered_placed c q (placings.WrongFrom has) o = o
-ordered_placed c q placings.Illegal o = o
-ordered_placed c q (placings.OverBound count bound) o = o
-ordered_placed c q (placings.OverThrottle rule load limit) o = o
-ordered_placed c q (placings.Sent id) o = record { instances = o.instances; beats = o.beats; leader = one c.leader o.leader }
+seated_placed : (c : Cluster) (q : Proposal) (a : Placed) → IsSeated c → IsSeated (after_placed c q a)
+seated_placed c q placings.Ended o = o
+seated_placed c q placings.ResourceDropped o = o
+seated_placed c q (placings.Busy id) o = o
+seated_placed c q (placings.WrongFrom has) o = o
+seated_placed c q placings.Illegal o = o
+seated_placed c q (placings.OverBound count bound) o = o
+seated_placed c q (placings.OverThrottle rule load limit) o = o
+seated_placed c q (placings.Sent id) o = record { instances = o.instances; beats = o.beats; leader = one c.leader o.leader }
   where
     one : (l : Option ControllerId) → leader_is_up c l ≡ true → leader_is_up (after_placed c q (placings.Sent id)) l ≡ true
     one None e = refl
     one (Some l) e = e
 
-ordered_proposals : (c : Cluster) (qs : List Proposal) → IsOrdered c → IsOrdered (after_proposals c qs)
-ordered_proposals c [] o = o
-ordered_proposals c (q ∷ qs) o = ordered_proposals (after_proposal c q) qs (ordered_placed c q (placed_of c q) o)
+seated_proposals : (c : Cluster) (qs : List Proposal) → IsSeated c → IsSeated (after_proposals c qs)
+seated_proposals c [] o = o
+seated_proposals c (q ∷ qs) o = seated_proposals (after_proposal c q) qs (seated_placed c q (placed_of c q) o)
 
-pub ordered_dispatch : (c : Cluster) (k : ControllerId) (qs : List Proposal) → IsOrdered c → IsOrdered (after_dispatch c k qs)
-ordered_dispatch c k qs o = ordered_proposals (next_pass c k) qs (ordered_raised c k o)
+pub seated_dispatch : (c : Cluster) (k : ControllerId) (qs : List Proposal) → IsSeated c → IsSeated (after_dispatch c k qs)
+seated_dispatch c k qs o = seated_proposals (next_pass c k) qs (seated_raised c k o)
 
 -- an outcome that is written
-pub ordered_write : (c : Cluster) (s : SessionId) (id : MsgId) (outcome : Outcome) → IsOrdered c → IsOrdered (after_write c s id outcome)
-ordered_write c s id outcome o = one (pending_of c s id)
+pub seated_write : (c : Cluster) (s : SessionId) (id : MsgId) (outcome : Outcome) → IsSeated c → IsSeated (after_write c s id outcome)
+seated_write c s id outcome o = one (pending_of c s id)
   where
-    one : (m : Option Message) → IsOrdered (written_of c s id outcome m)
+    one : (m : Option Message) → IsSeated (written_of c s id outcome m)
     one None = o
     one (Some m) = record { instances = o.instances; beats = o.beats; leader = o.leader }

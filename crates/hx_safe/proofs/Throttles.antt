@@ -1,5 +1,5 @@
 -- No event passes a throttle.
-use Rattle.std.proofs.Common.{◌≡◌, ℕ, zero, suc, ◌+◌, ◌≤◌, ◌<◌, ◌&&◌, ◌==◌, not, Bool, true, false, List, [], ◌∷◌, filter, find, Option, Some, None, refl, sym, ap, ◌∙◌, subst, arith}
+use Rattle.std.proofs.Common.{◌≡◌, ℕ, zero, suc, ◌+◌, ◌≤◌, ◌<◌, ◌&&◌, ◌==◌, not, Bool, true, false, List, [], ◌∷◌, ◌++◌, filter, find, Option, Some, None, refl, sym, ap, ◌∙◌, subst, arith}
 use Rattle.std.specs.Prelude.{if◌then◌else◌, nat_le, slice_get, is_some}
 use Rattle.std.specs.List.{list_all}
 use Rattle.std.specs.Option.{option_map, option_map_or, option_or}
@@ -23,7 +23,7 @@ use Rattle.hx_cluster.specs.declared.happenings.Outcome.{Outcome}
 use Rattle.hx_cluster.specs.declared.happenings.Admin.TheVariants as steps
 use Rattle.hx_cluster.specs.declared.happenings.Placed.{Placed}
 use Rattle.hx_cluster.specs.declared.happenings.Placed.TheVariants as placings
-use Rattle.hx_cluster.specs.Ends.{is_session, is_live, shown_of, matches, key_of, is_counted, load_of}
+use Rattle.hx_cluster.specs.Ends.{is_session, is_live, shown_of, matches, key_of, is_counted, load_over, load_of}
 use Rattle.hx_cluster.specs.Steps.{is_of, live_of, after, without, without_all, ended_of, beaten_of}
 use Rattle.hx_cluster.specs.Messages.{proposal_load, throttled_from, placed_of, message_from, after_placed, after_proposal, after_proposals, raised_pass, next_pass, after_dispatch, has_id, as_taken, as_written, pending_of, written_of, after_take, after_write, after_ack}
 use Rattle.hx_cluster.specs.Safe.{IsThrottled, is_pending}
@@ -37,31 +37,31 @@ use Rattle.hx_safe.proofs.Sending.{room_from}
 abbrev pub instance_on : List Live → SessionId → Option InstanceId
 instance_on live s = option_map (λ l. l.instance) (find (is_session s) live)
 
-abbrev key_on : Scope → Option InstanceId → PartId → ℕ
+abbrev pub key_on : Scope → Option InstanceId → PartId → ℕ
 key_on scopes.Cluster o p = 0
 key_on scopes.Instance o p = option_map_or (λ i. i.0) o 0
 key_on scopes.Resource o p = p.resource.0
 
-abbrev counts_on : Option InstanceId → Rule → ℕ → Message → Bool
+abbrev pub counts_on : Option InstanceId → Rule → ℕ → Message → Bool
 counts_on o r key m = is_some o && matches r m.from m.to && (key_on r.scope o m.part == key)
 
-live-on : (live : List Live) (s : SessionId) → is_live live s ≡ is_some (instance_on live s)
+pub live-on : (live : List Live) (s : SessionId) → is_live live s ≡ is_some (instance_on live s)
 live-on [] s = refl
 live-on (l ∷ live) s = grind (arith, live-on live s)
 
-key-on : (scope : Scope) (live : List Live) (s : SessionId) (p : PartId) → key_of scope (shown_of live) s p ≡ key_on scope (instance_on live s) p
+pub key-on : (scope : Scope) (live : List Live) (s : SessionId) (p : PartId) → key_of scope (shown_of live) s p ≡ key_on scope (instance_on live s) p
 key-on scopes.Cluster live s p = refl
 key-on scopes.Instance live s p = ap (λ o. option_map_or (λ (i : InstanceId). i.0) o 0) (instance_in_shown live s)
 key-on scopes.Resource live s p = refl
 
-counted-on : (live : List Live) (r : Rule) (key : ℕ) (m : Message) → is_counted (shown_of live) r key m ≡ counts_on (instance_on live m.session) r key m
+pub counted-on : (live : List Live) (r : Rule) (key : ℕ) (m : Message) → is_counted (shown_of live) r key m ≡ counts_on (instance_on live m.session) r key m
 counted-on live r key m =
     let one = shown_is_live live m.session ∙ live-on live m.session in
     let two = key-on r.scope live m.session m.part in
     ap (λ (b : Bool). b && matches r m.from m.to && (key_of r.scope (shown_of live) m.session m.part == key)) one
     ∙ ap (λ (n : ℕ). is_some (instance_on live m.session) && matches r m.from m.to && (n == key)) two
 
-counted-same : (old new : List Live) (r : Rule) (key : ℕ) (m : Message) → instance_on new m.session ≡ instance_on old m.session → is_counted (shown_of new) r key m ≡ is_counted (shown_of old) r key m
+pub counted-same : (old new : List Live) (r : Rule) (key : ℕ) (m : Message) → instance_on new m.session ≡ instance_on old m.session → is_counted (shown_of new) r key m ≡ is_counted (shown_of old) r key m
 counted-same old new r key m e = counted-on new r key m ∙ ap (λ o. counts_on o r key m) e ∙ sym (counted-on old r key m)
 
 -- the same messages of live sessions, whose instances are the same
@@ -82,20 +82,26 @@ throttled_live c d k old rules mail same n r key e =
     let all : load_of d r key ≡ count (is_counted (shown_of d.live) r key) c.mail = ap (count (is_counted (shown_of d.live) r key)) mail in
     omega (arith, less, all, old n r key here)
 
--- a session that joins
-pub throttled_join : (c : Cluster) (i : InstanceId) → IsKept c → IsThrottled c → IsThrottled (after c (steps.Join i))
-throttled_join c i k old = throttled_live c (after c (steps.Join i)) k old refl refl (λ s e. same s (find (is_session s) c.live) refl e)
+-- a session that joins leaves the others' instances
+pub instance-join : (live : List Live) (l : Live) (s : SessionId) → is_live live s ≡ true → instance_on (live ++ l ∷ []) s ≡ instance_on live s
+instance-join live l s e = one (find (is_session s) live) refl
   where
-    same : (s : SessionId) (o : Option Live) → find (is_session s) c.live ≡ o → is_live c.live s ≡ true → instance_on (after c (steps.Join i)).live s ≡ instance_on c.live s
-    same s (Some l) is e = ap (option_map (λ (x : Live). x.instance)) (find-append (is_session s) c.live ((record { session = record { 0 = c.next_session }; instance = i; beat = c.clock }) ∷ []) ∙ rw is refl)
-    same s None is e = let none = none-find (is_session s) c.live is in let both = sym e ∙ none in cc
+    one : (o : Option Live) → find (is_session s) live ≡ o → instance_on (live ++ l ∷ []) s ≡ instance_on live s
+    one (Some x) is = ap (option_map (λ (y : Live). y.instance)) (find-append (is_session s) live (l ∷ []) ∙ rw is refl)
+    one None is = let none = none-find (is_session s) live is in let both = sym e ∙ none in cc
 
--- a session that is heard of
-pub throttled_beat : (c : Cluster) (i : InstanceId) (l : Live) → IsKept c → IsThrottled c → live_of c.live i ≡ Some l → IsThrottled (beaten_of c (Some l))
-throttled_beat c i l k old found = throttled_live c (beaten_of c (Some l)) k old refl refl (λ s e. same s (l.session.0 == s.0) refl)
+pub throttled_join : (c : Cluster) (i : InstanceId) → IsKept c → IsThrottled c → IsThrottled (after c (steps.Join i))
+throttled_join c i k old =
+    throttled_live c (after c (steps.Join i)) k old refl refl
+    (λ s e. instance-join c.live (record { session = record { 0 = c.next_session }; instance = i; beat = c.clock }) s e)
+
+-- a session that is heard of leaves all instances
+pub instance-beat : (c : Cluster) (i : InstanceId) (l : Live) → ((s : SessionId) → count (is_session s) c.live ≤ 1) → live_of c.live i ≡ Some l
+    → (s : SessionId) → instance_on (beaten_of c (Some l)).live s ≡ instance_on c.live s
+instance-beat c i l numbers found s = same s (l.session.0 == s.0) refl
   where
     first : find (is_session l.session) c.live ≡ Some l
-    first = find-single (is_of i) (is_session l.session) c.live l found (same-self l.session.0) (k.numbers l.session)
+    first = find-single (is_of i) (is_session l.session) c.live l found (same-self l.session.0) (numbers l.session)
 
     alone : (o : Option Live) → option_or o None ≡ o
     alone None = refl
@@ -120,15 +126,18 @@ throttled_beat c i l k old found = throttled_live c (beaten_of c (Some l)) k old
         ∙ alone (find (is_session s) (filter (λ x. not (is_session l.session x)) c.live))
         ∙ others)
 
--- a session that ends takes its messages away
+pub throttled_beat : (c : Cluster) (i : InstanceId) (l : Live) → IsKept c → IsThrottled c → live_of c.live i ≡ Some l → IsThrottled (beaten_of c (Some l))
+throttled_beat c i l k old found = throttled_live c (beaten_of c (Some l)) k old refl refl (λ s e. instance-beat c i l k.numbers found s)
+
+-- so does a session that ends, and it takes its messages away
+pub instance-without : (live : List Live) (s u : SessionId) → (u.0 == s.0) ≡ false → instance_on (filter (λ l. not (l.session.0 == s.0)) live) u ≡ instance_on live u
+instance-without live s u ne = ap (option_map (λ (x : Live). x.instance)) (find-filter_kept (is_session u) (λ l. not (l.session.0 == s.0)) (λ l w. grind (arith, nat_tests, w, ne)) live)
+
 pub throttled_without : (c : Cluster) (s : SessionId) → IsThrottled c → IsThrottled (without c s)
 throttled_without c s old n r key e =
     let less : load_of (without c s) r key ≤ load_of c r key = count-some (is_counted (shown_of (without c s).live) r key) (is_counted (shown_of c.live) r key) (λ m. not (m.session.0 == s.0))
-    (λ m other w. sym (counted-same c.live (without c s).live r key m (same m.session (grind (arith, other)))) ∙ w) c.mail in
+    (λ m other w. sym (counted-same c.live (without c s).live r key m (instance-without c.live s m.session (grind (arith, other)))) ∙ w) c.mail in
     omega (arith, less, old n r key e)
-  where
-    same : (u : SessionId) → (u.0 == s.0) ≡ false → instance_on (without c s).live u ≡ instance_on c.live u
-    same u ne = ap (option_map (λ (x : Live). x.instance)) (find-filter_kept (is_session u) (λ l. not (l.session.0 == s.0)) (λ l w. grind (arith, nat_tests, w, ne)) c.live)
 
 pub throttled_without_all : (c : Cluster) (ss : List SessionId) → IsThrottled c → IsThrottled (without_all c ss)
 throttled_without_all c [] old = old
@@ -186,9 +195,14 @@ throttle-room c q k (x ∷ rules) id (suc n) r e at w = one (matches x q.from q.
     one true e more = cc
     one false e more = more e
 
+-- the load under a key with one message more
+pub load_more : (c : Cluster) (m : Message) (r : Rule) (key : ℕ)
+    → load_over (shown_of c.live) (c.mail ++ m ∷ []) r key ≡ load_of c r key + count (is_counted (shown_of c.live) r key) (m ∷ [])
+load_more c m r key = count-append (is_counted (shown_of c.live) r key) c.mail (m ∷ [])
+
 throttled_sent : (c : Cluster) (q : Proposal) (id : MsgId) → throttled_from c q 0 c.rules ≡ placings.Sent id → IsThrottled c → IsThrottled (after_placed c q (placings.Sent id))
 throttled_sent c q id sent old n r key e =
-    let more = count-append (is_counted (shown_of c.live) r key) c.mail (message_from c id q ∷ []) in
+    let more = load_more c (message_from c id q) r key in
     one (is_counted (shown_of c.live) r key (message_from c id q)) refl more
   where
     one : (b : Bool) → is_counted (shown_of c.live) r key (message_from c id q) ≡ b → {z : ℕ}

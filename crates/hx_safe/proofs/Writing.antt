@@ -16,30 +16,30 @@ use Rattle.hx_cluster.specs.declared.state.Cluster.{Cluster}
 use Rattle.hx_cluster.specs.declared.happenings.Outcome.{Outcome}
 use Rattle.hx_cluster.specs.declared.happenings.Outcome.TheVariants as outcomes
 use Rattle.hx_cluster.specs.declared.happenings.WriteRefusal.TheVariants as writes
-use Rattle.hx_cluster.specs.Ends.{part_eq, is_row, is_message, is_live, sessions_of, message_of, state_of, message_at, has_end, limit_at, model_of, replicas_of}
+use Rattle.hx_cluster.specs.Ends.{part_eq, is_row, is_message, is_live, sessions_of, message_of, state_of, message_at, has_end, count_of, limit_at, model_of, replicas_of}
 use Rattle.hx_cluster.specs.Steps.{is_flag, is_error}
 use Rattle.hx_cluster.specs.Messages.{has_id, pending_of, as_written, row_before, restated, row_put, state_after, flags_after, written_of, after_write}
 use Rattle.hx_cluster.specs.Marks.{write_fault}
 use Rattle.hx_cluster.specs.Events.{has_part, can_write}
-use Rattle.hx_cluster.specs.Safe.{is_row_written, is_pending, is_kept}
+use Rattle.hx_cluster.specs.Safe.{is_row_written, HasMail, is_pending, is_kept}
 use Rattle.hx_safe.proofs.Counting.{count-le, count-filter, count-map, count-none, count-insert, all-le, all-map, all-filter, all-filter_more, all-insert, all-both, all-find, all-single, find-passes, find-single}
 use Rattle.hx_safe.proofs.Models.{good_model}
 use Rattle.hx_safe.proofs.Ends.{session_same, part_same, same-self, part_eq-self, row_at-state, stands_at, put-other, put-here, end-written}
-use Rattle.hx_safe.proofs.Kept.{IsKept, bounded_less}
+use Rattle.hx_safe.proofs.Kept.{IsKept}
 
 -- the message that is written is its replica's only one
-message_here : (c : Cluster) (s : SessionId) (id : MsgId) (m : Message) → IsKept c → pending_of c s id ≡ Some m → message_of c.mail m.session m.part ≡ Some m
+pub message_here : (c : Cluster) (s : SessionId) (id : MsgId) (m : Message) → HasMail c → pending_of c s id ≡ Some m → message_of c.mail m.session m.part ≡ Some m
 message_here c s id m k found =
-    find-single (has_id s id) (is_message m.session m.part) c.mail m found (grind (arith, same-self m.session.0, part_eq-self m.part)) (k.mail.single m.session m.part)
+    find-single (has_id s id) (is_message m.session m.part) c.mail m found (grind (arith, same-self m.session.0, part_eq-self m.part)) (k.single m.session m.part)
 
 -- and no other message has its number
-alone : (c : Cluster) (s : SessionId) (id : MsgId) (m : Message) → IsKept c → pending_of c s id ≡ Some m → list_all (λ x. not (has_id s id x) || is_message m.session m.part x) c.mail ≡ true
+pub alone : (c : Cluster) (s : SessionId) (id : MsgId) (m : Message) → HasMail c → pending_of c s id ≡ Some m → list_all (λ x. not (has_id s id x) || is_message m.session m.part x) c.mail ≡ true
 alone c s id m k found =
-    let one : count (has_id s id) c.mail ≤ 1 = omega (arith, k.mail.numbers id, count-le (has_id s id) (λ x. x.id.0 == id.0) (λ x e. grind (arith, e)) c.mail) in
-    all-single (has_id s id) (is_pending c) (λ x. not (has_id s id x) || is_message m.session m.part x) c.mail m (λ x e w. grind (arith, e)) found one (grind (arith, same-self m.session.0, part_eq-self m.part)) k.mail.pending
+    let one : count (has_id s id) c.mail ≤ 1 = omega (arith, k.numbers id, count-le (has_id s id) (λ x. x.id.0 == id.0) (λ x e. grind (arith, e)) c.mail) in
+    all-single (has_id s id) (is_pending c) (λ x. not (has_id s id x) || is_message m.session m.part x) c.mail m (λ x e w. grind (arith, e)) found one (grind (arith, same-self m.session.0, part_eq-self m.part)) k.pending
 
 -- its replica is in its place
-written_place : (rows : List Row) (m : Message) (outcome : Outcome) → is_row_written m (state_of (row_put rows m.session m.part (state_after m outcome)) m.session m.part) ≡ true
+pub written_place : (rows : List Row) (m : Message) (outcome : Outcome) → is_row_written m (state_of (row_put rows m.session m.part (state_after m outcome)) m.session m.part) ≡ true
 written_place rows m outcomes.Ok = rw put-here (one (m.to.0 == dropped.0) refl)
   where
     one : (b : Bool) → (m.to.0 == dropped.0) ≡ b → is_row_written m (if b then None else Some m.to) ≡ true
@@ -148,17 +148,37 @@ after_known : (c : Cluster) (m : Message) (outcome : Outcome) → IsKept c → i
 after_known c m outcomes.Ok k legal = let good = good_model c.models c.resources m.part.resource k.sound in let to = good.leads m.from m.to legal in grind (arith, to)
 after_known c m outcomes.Failed k legal = grind (arith, nat_tests)
 
+-- so a write leaves no more ends in a limited state
+count_written : (c : Cluster) (s : SessionId) (id : MsgId) (m : Message) (outcome : Outcome) → IsKept c → pending_of c s id ≡ Some m → (p : PartId) (t : StateId) (limit : ℕ)
+    → limit_at c p t ≡ Some limit → count_of (written_of c s id outcome (Some m)) p t ≤ count_of c p t
+count_written c s id m outcome k found p t limit e =
+    let d = written_of c s id outcome (Some m) in
+    count-le (has_end d.rows d.mail p t) (has_end c.rows c.mail p t)
+    (λ u w. ends (message_here c s id m k.mail found) u (stands_at t (state_of d.rows u p)) refl w) (sessions_of c.live)
+  where
+    ends : message_of c.mail m.session m.part ≡ Some m → (u : SessionId) (b : Bool)
+        → stands_at t (state_of (row_put c.rows m.session m.part (state_after m outcome)) u p) ≡ b
+        → has_end (row_put c.rows m.session m.part (state_after m outcome)) (map (as_written s id) c.mail) p t u ≡ true → has_end c.rows c.mail p t u ≡ true
+    ends here u true is w = written_less c m outcome p t limit k here e u ((u.0 == m.session.0) && part_eq p m.part) refl is
+    ends here u false is w = let row = row_at-state t (row_put c.rows m.session m.part (state_after m outcome)) u p in grind (arith, w, is, row, end-written c.mail s u id p t)
+
+pub count_write : (c : Cluster) (s : SessionId) (id : MsgId) (outcome : Outcome) → IsKept c → (p : PartId) (t : StateId) (limit : ℕ)
+    → limit_at c p t ≡ Some limit → count_of (after_write c s id outcome) p t ≤ count_of c p t
+count_write c s id outcome k p t limit e = one (pending_of c s id) refl
+  where
+    one : (o : Option Message) → pending_of c s id ≡ o → count_of (written_of c s id outcome o) p t ≤ count_of c p t
+    one None is = omega arith
+    one (Some m) is = count_written c s id m outcome k is p t limit e
+
 kept_written : (c : Cluster) (s : SessionId) (id : MsgId) (m : Message) (outcome : Outcome) → IsKept c → pending_of c s id ≡ Some m → m.taken ≡ true → IsKept (written_of c s id outcome (Some m))
 kept_written c s id m outcome k found taken =
     let d = written_of c s id outcome (Some m) in
     let was : is_pending c m ≡ true = all-find (is_pending c) (has_id s id) c.mail m k.mail.pending found in
-    let here = message_here c s id m k found in
+    let here = message_here c s id m k.mail found in
     record {
-      bounded = bounded_less c d k (λ p t limit e. e) (λ p t limit e.
-          count-le (has_end d.rows d.mail p t) (has_end c.rows c.mail p t) (λ u w. ends p t limit here e u (stands_at t (state_of d.rows u p)) refl w) (sessions_of c.live));
       mail = record {
         pending = all-map (is_pending d) (as_written s id) c.mail ∙ all-single (is_message m.session m.part) (λ x. is_pending c x && (not (has_id s id x) || is_message m.session m.part x)) (λ x. is_pending d (as_written s id x)) c.mail m
-            (λ x e w. other x (has_id s id x) refl e w) here (k.mail.single m.session m.part) (this was (has_id s id m) (find-passes (has_id s id) c.mail m found)) (all-both (is_pending c) (λ x. not (has_id s id x) || is_message m.session m.part x) c.mail k.mail.pending (alone c s id m k found));
+            (λ x e w. other x (has_id s id x) refl e w) here (k.mail.single m.session m.part) (this was (has_id s id m) (find-passes (has_id s id) c.mail m found)) (all-both (is_pending c) (λ x. not (has_id s id x) || is_message m.session m.part x) c.mail k.mail.pending (alone c s id m k.mail found));
         numbers = λ n. let same = count-map (λ x. x.id.0 == n.0) (as_written s id) c.mail in
             let less = count-le (λ x. (as_written s id x).id.0 == n.0) (λ x. x.id.0 == n.0) (λ x e. number x n (has_id s id x) e) c.mail in
             omega (arith, k.mail.numbers n);
@@ -183,12 +203,6 @@ kept_written c s id m outcome k found taken =
     single : (x : Message) (u : SessionId) (q : PartId) (b : Bool) → is_message u q (if b then record x { written = true } else x) ≡ true → is_message u q x ≡ true
     single x u q true e = e
     single x u q false e = e
-
-    ends : (p : PartId) (t : StateId) (limit : ℕ) → message_of c.mail m.session m.part ≡ Some m → limit_at c p t ≡ Some limit → (u : SessionId) (b : Bool)
-        → stands_at t (state_of (row_put c.rows m.session m.part (state_after m outcome)) u p) ≡ b
-        → has_end (row_put c.rows m.session m.part (state_after m outcome)) (map (as_written s id) c.mail) p t u ≡ true → has_end c.rows c.mail p t u ≡ true
-    ends p t limit here e u true is w = written_less c m outcome p t limit k here e u ((u.0 == m.session.0) && part_eq p m.part) refl is
-    ends p t limit here e u false is w = let row = row_at-state t (row_put c.rows m.session m.part (state_after m outcome)) u p in grind (arith, w, is, row, end-written c.mail s u id p t)
 
     this : is_pending c m ≡ true → (b : Bool) → b ≡ true → is_pending (written_of c s id outcome (Some m)) (if b then record m { written = true } else m) ≡ true
     this was true e = let place = written_place c.rows m outcome in grind (arith, was, taken, place)

@@ -1,0 +1,9 @@
+pub mod Fronts
+pub mod On
+pub mod Calming
+pub mod Fits
+pub mod Calls
+pub mod Sorting
+pub mod Viewing
+pub mod Turning
+pub mod Whole

@@ -1,0 +1,311 @@
+-- A controller's turn keeps its shape along every legal history, and what it was shown is well formed.
+use Rattle.std.proofs.Common.{◌≡◌, ℕ, ◌≤◌, ◌||◌, ◌==◌, not, Bool, true, false, List, [], ◌∷◌, ◌++◌, length, filter, map, refl, sym, ap, ◌∙◌, arith}
+use Rattle.std.specs.Prelude.{if◌then◌else◌, nat_lt}
+use Rattle.std.specs.List.{list_any, list_all}
+use Rattle.std.proofs.lemmas.Bool.Decides.{nat_tests}
+use Rattle.hx_lists.specs.Lists.{count}
+use Rattle.hx_ids.specs.declared.InstanceId.{InstanceId}
+use Rattle.hx_ids.specs.declared.SessionId.{SessionId}
+use Rattle.hx_ids.specs.declared.Live.{Live as LiveSession}
+use Rattle.hx_cluster.specs.declared.state.Message.{Message}
+use Rattle.hx_cluster.specs.declared.state.Row.{Row}
+use Rattle.hx_cluster.specs.declared.state.Cluster.{Cluster}
+use Rattle.hx_cluster.specs.declared.planning.View.{View}
+use Rattle.hx_cluster.specs.declared.happenings.Begun.{Begun}
+use Rattle.hx_cluster.specs.Ends.{is_live, is_shown, shown_of, instance_in}
+use Rattle.hx_cluster.specs.Reads.{instance_before, live_shown, mail_shown, states_shown, nothing_shown}
+use Rattle.hx_cluster.specs.Safe.{HasMail, HasRows, HasSessions}
+use Rattle.hx_cluster.specs.Valid.{has_no_fault}
+use Rattle.hx_cluster.specs.Ranged.{IsRanged}
+use Rattle.hx_cluster.specs.Views.{is_well_formed}
+use Rattle.hx_pass.specs.Turns.{Call, Live, Mail, States, Ideals, Send, Post, Turn, same_call, is_first, idle_turn, begun_turn, calls_after_live}
+use Rattle.hx_safe.proofs.Counting.{and-first, and-second, and-both, any-append, all-append, all-le, all-map}
+use Rattle.hx_safe.proofs.Ends.{same-self}
+use Rattle.hx_safe.proofs.Fixed.{IsFixed}
+use Rattle.hx_covers.specs.Onward.{is_same_kind, has_same_replicas, IsOn}
+use Rattle.hx_covers.specs.Reading.{may_follow, is_in_order_from, is_in_order, is_unread, is_read, IsTurn}
+use Rattle.hx_covers.proofs.Fronts.{front-self, front-both, kind-self, kind-both, replicas-self, replicas-both}
+use Rattle.hx_covers.proofs.Calls.{order_rest, live_no_more, calls_in_order, calls_once, call_no_more}
+use Rattle.hx_covers.proofs.Sorting.{all-sort}
+use Rattle.hx_covers.proofs.Viewing.{beside, formed_same, formed_on, formed_nothing, with_mail, formed_mail, with_states, formed_states, with_sessions, formed_live, own_shown, sessions_once, each_shown}
+
+-- a turn goes along with the cluster
+formed_along : (c d : Cluster) (view : View) (b : Bool) → IsOn c d → IsFixed c d → IsRanged d
+    → is_well_formed c.models (length c.instances) (if b then view else beside view c) ≡ true
+    → is_well_formed d.models (length d.instances) (if b then view else beside view d) ≡ true
+formed_along c d view true on same ranged e = formed_same c d view same e
+formed_along c d view false on same ranged e = formed_on c d view on same ranged e
+
+pub turn_on : (c d : Cluster) (t : Turn) → IsOn c d → IsFixed c d → IsRanged d → IsTurn c t → IsTurn d t
+turn_on c d t on same ranged h = record {
+  epoch = trans_le h.epoch on.epoch;
+  order = h.order;
+  once = h.once;
+  unread = h.unread;
+  nothing = h.nothing;
+  below = all-le (λ e. nat_lt e.0.0 c.next_session) (λ e. nat_lt e.0.0 d.next_session) (λ e low. later e.0.0 low) t.view.live h.below;
+  own = λ s live shown. own s (old t.view.live h.below s shown) live shown;
+  well_formed = formed_along c d t.view (is_read t) on same ranged h.well_formed;
+  resources = λ e. front-both is_same_kind kind-both t.view.ideals.resources c.resources d.resources (h.resources e) on.resources;
+  replicas = λ e. front-both has_same_replicas replicas-both t.view.ideals.resources c.resources d.resources (h.replicas e) on.replicas;
+}
+  where
+    trans_le : {x y z : ℕ} → x ≤ y → y ≤ z → x ≤ z
+    trans_le one two = omega (arith, one, two)
+
+    later : (n : ℕ) → nat_lt n c.next_session ≡ true → nat_lt n d.next_session ≡ true
+    later n low = grind (arith, nat_tests, low, on.next_session)
+
+    old : (live : List (SessionId × InstanceId)) → list_all (λ e. nat_lt e.0.0 c.next_session) live ≡ true → (s : SessionId) → is_shown live s ≡ true → nat_lt s.0 c.next_session ≡ true
+    old [] low s e = cc
+    old (x ∷ live) low s e = grind (arith, nat_tests, low, e, old live (and-second (nat_lt x.0.0 c.next_session) (list_all (λ e. nat_lt e.0.0 c.next_session) live) low) s)
+
+    own : (s : SessionId) → nat_lt s.0 c.next_session ≡ true → is_live d.live s ≡ true → is_shown t.view.live s ≡ true → instance_in (shown_of d.live) s ≡ instance_in t.view.live s
+    own s low live shown = on.instances s low live ∙ h.own s (on.live s low live) shown
+
+-- no turn is under way, and a turn that begins
+pub turn_idle : (c : Cluster) → IsRanged c → IsTurn c idle_turn
+turn_idle c ranged = record {
+  epoch = omega arith;
+  order = refl;
+  once = λ call. omega arith;
+  unread = refl;
+  nothing = λ e. refl;
+  below = refl;
+  own = λ s live shown. cc;
+  well_formed = formed_nothing c ranged;
+  resources = λ e. refl;
+  replicas = λ e. refl;
+}
+
+pub turn_begun : (c : Cluster) (begun : Begun) → begun.epoch.0 ≤ c.epoch.0 → IsRanged c → IsTurn c (begun_turn begun)
+turn_begun c begun epoch ranged = record {
+  epoch = epoch;
+  order = refl;
+  once = once;
+  unread = refl;
+  nothing = λ e. refl;
+  below = refl;
+  own = λ s live shown. cc;
+  well_formed = formed_nothing c ranged;
+  resources = λ e. refl;
+  replicas = λ e. refl;
+}
+  where
+    once : (call : Call) → count (same_call call) (Live ∷ []) ≤ 1
+    once Live = omega arith
+    once (Mail s) = omega arith
+    once (States s) = omega arith
+    once Ideals = omega arith
+    once Send = omega arith
+    once Post = omega arith
+
+-- live is read
+calls_unread : (live : List (SessionId × InstanceId)) → list_all (is_unread (record nothing_shown { live = live })) (calls_after_live live) ≡ true
+calls_unread live =
+    let view : View = record nothing_shown { live = live } in
+    let mail : list_all (is_unread view) (map (λ (e : SessionId × InstanceId). Mail e.0) live) ≡ true
+    = all-map (is_unread view) (λ (e : SessionId × InstanceId). Mail e.0) live ∙ all-le (λ e. is_shown live e.0) (λ (e : SessionId × InstanceId). is_unread view (Mail e.0)) (λ e w. grind (arith, w)) live (each_shown live) in
+    let states : list_all (is_unread view) (map (λ (e : SessionId × InstanceId). States e.0) live) ≡ true
+    = all-map (is_unread view) (λ (e : SessionId × InstanceId). States e.0) live ∙ all-le (λ e. is_shown live e.0) (λ (e : SessionId × InstanceId). is_unread view (States e.0)) (λ e w. grind (arith, w)) live (each_shown live) in
+    all-append (is_unread view) (map (λ (e : SessionId × InstanceId). Mail e.0) live ++ map (λ (e : SessionId × InstanceId). States e.0) live) (Ideals ∷ Send ∷ Post ∷ [])
+    ∙ and-both (list_all (is_unread view) (map (λ (e : SessionId × InstanceId). Mail e.0) live ++ map (λ (e : SessionId × InstanceId). States e.0) live)) (list_all (is_unread view) (Ideals ∷ Send ∷ Post ∷ []))
+    (all-append (is_unread view) (map (λ (e : SessionId × InstanceId). Mail e.0) live) (map (λ (e : SessionId × InstanceId). States e.0) live)
+    ∙ and-both (list_all (is_unread view) (map (λ (e : SessionId × InstanceId). Mail e.0) live)) (list_all (is_unread view) (map (λ (e : SessionId × InstanceId). States e.0) live)) mail states) refl
+
+first_after_live : (live : List (SessionId × InstanceId)) (call : Call) → (is_first Live (calls_after_live live) ≡ false) × ((is_first Send (calls_after_live live) || is_first Post (calls_after_live live)) ≡ false)
+first_after_live [] call = (refl, refl)
+first_after_live (e ∷ live) call = (refl, refl)
+
+pub turn_live : (c : Cluster) (begun : Begun) → begun.epoch.0 ≤ c.epoch.0 → IsRanged c → HasSessions c
+    → IsTurn c (record { left = calls_after_live (live_shown c); begun = begun; view = with_sessions c })
+turn_live c begun epoch ranged sessions =
+    let first = first_after_live (live_shown c) Live in
+    record {
+      epoch = epoch;
+      order = calls_in_order (live_shown c);
+      once = calls_once (live_shown c) (sessions_once c sessions.numbers);
+      unread = calls_unread (live_shown c);
+      nothing = λ e. let both = sym first.0 ∙ e in cc;
+      below = all-sort (λ (e : SessionId × InstanceId). nat_lt e.0.0 c.next_session) instance_before (shown_of c.live)
+          ∙ all-map (λ (e : SessionId × InstanceId). nat_lt e.0.0 c.next_session) (λ (l : LiveSession). (l.session, l.instance)) c.live ∙ sessions.below;
+      own = λ s live shown. own_shown c sessions.numbers s;
+      well_formed = ap (λ (b : Bool). is_well_formed c.models (length c.instances) (if b then with_sessions c else beside (with_sessions c) c)) first.1
+          ∙ formed_live c ranged sessions.numbers sessions.instances;
+      resources = λ e. let both = sym first.1 ∙ e in cc;
+      replicas = λ e. let both = sym first.1 ∙ e in cc;
+    }
+
+-- the rest of the calls
+rest_once : (a : Call) (rest : List Call) → ((call : Call) → count (same_call call) (a ∷ rest) ≤ 1) → (call : Call) → count (same_call call) rest ≤ 1
+rest_once a rest once call = few (same_call call a) (once call)
+  where
+    few : (b : Bool) → length (if b then a ∷ filter (same_call call) rest else filter (same_call call) rest) ≤ 1 → count (same_call call) rest ≤ 1
+    few true e = grind (arith, e)
+    few false e = e
+
+-- behind mail and states nothing of the ideals was read
+unread_behind : (a : Call) (rest : List Call) → is_in_order (a ∷ rest) ≡ true → (s : SessionId) → (same_call (Mail s) a || same_call (States s) a) ≡ true
+    → (is_first Send rest || is_first Post rest) ≡ false
+unread_behind a [] order s is = refl
+unread_behind a (b ∷ rest) order s is = one a b (and-first (may_follow a b) (is_in_order_from b rest) order) is
+  where
+    one : (a b : Call) → may_follow a b ≡ true → (same_call (Mail s) a || same_call (States s) a) ≡ true → (same_call b Send || same_call b Post) ≡ false
+    one a Live e is = refl
+    one a (Mail t) e is = refl
+    one a (States t) e is = refl
+    one a Ideals e is = refl
+    one Live Send e is = cc
+    one (Mail t) Send e is = cc
+    one (States t) Send e is = cc
+    one Ideals Send e is = cc
+    one Send Send e is = cc
+    one Post Send e is = cc
+    one Live Post e is = cc
+    one (Mail t) Post e is = cc
+    one (States t) Post e is = cc
+    one Ideals Post e is = cc
+    one Send Post e is = cc
+    one Post Post e is = cc
+
+-- a session's mail is read
+none_of_session : (u v : SessionId) (mail : List Message) → (u.0 == v.0) ≡ false → list_any (λ m. m.session.0 == v.0) (filter (λ m. m.session.0 == u.0) mail) ≡ false
+none_of_session u v [] ne = refl
+none_of_session u v (m ∷ mail) ne = grind (arith, nat_tests, ne, none_of_session u v mail ne)
+
+unread_mail : (c : Cluster) (view : View) (u : SessionId) (call : Call) → same_call (Mail u) call ≡ false → is_unread view call ≡ true → is_unread (with_mail c u view) call ≡ true
+unread_mail c view u Live ne e = refl
+unread_mail c view u (Mail v) ne e =
+    let none = none_of_session u v c.mail ne in
+    grind (arith, e, none, any-append (λ (m : Message). m.session.0 == v.0) view.mail (mail_shown c u))
+unread_mail c view u (States v) ne e = e
+unread_mail c view u Ideals ne e = refl
+unread_mail c view u Send ne e = refl
+unread_mail c view u Post ne e = refl
+
+unread_mails : (c : Cluster) (view : View) (u : SessionId) (rest : List Call) → list_any (same_call (Mail u)) rest ≡ false → list_all (is_unread view) rest ≡ true
+    → list_all (is_unread (with_mail c u view)) rest ≡ true
+unread_mails c view u [] ne e = refl
+unread_mails c view u (x ∷ rest) ne e =
+    and-both (is_unread (with_mail c u view) x) (list_all (is_unread (with_mail c u view)) rest)
+    (unread_mail c view u x (grind (arith, ne)) (and-first (is_unread view x) (list_all (is_unread view) rest) e))
+    (unread_mails c view u rest (grind (arith, ne)) (and-second (is_unread view x) (list_all (is_unread view) rest) e))
+
+pub turn_mail : (c : Cluster) (begun : Begun) (view : View) (u : SessionId) (rest : List Call) → list_all has_no_fault c.models ≡ true → HasMail c
+    → IsTurn c (record { left = Mail u ∷ rest; begun = begun; view = view }) → IsTurn c (record { left = rest; begun = begun; view = with_mail c u view })
+turn_mail c begun view u rest sound mail h =
+    let first : is_unread view (Mail u) ≡ true = and-first (is_unread view (Mail u)) (list_all (is_unread view) rest) h.unread in
+    let shown : is_shown view.live u ≡ true = and-first (is_shown view.live u) (not (list_any (λ m. m.session.0 == u.0) view.mail)) first in
+    let none : list_any (λ m. m.session.0 == u.0) view.mail ≡ false = turned (list_any (λ m. m.session.0 == u.0) view.mail) (and-second (is_shown view.live u) (not (list_any (λ m. m.session.0 == u.0) view.mail)) first) in
+    let behind : (is_first Send rest || is_first Post rest) ≡ false = unread_behind (Mail u) rest h.order u (grind (arith, same-self u.0)) in
+    record {
+      epoch = h.epoch;
+      order = order_rest (Mail u) rest h.order;
+      once = rest_once (Mail u) rest h.once;
+      unread = unread_mails c view u rest (call_no_more (Mail u) rest (h.once (Mail u))) (and-second (is_unread view (Mail u)) (list_all (is_unread view) rest) h.unread);
+      nothing = λ e. let both = sym (live_no_more (Mail u) rest h.order) ∙ e in cc;
+      below = h.below;
+      own = h.own;
+      well_formed = ap (λ (b : Bool). is_well_formed c.models (length c.instances) (if b then with_mail c u view else beside (with_mail c u view) c)) behind
+          ∙ formed_mail c view u sound mail shown none h.well_formed;
+      resources = λ e. let both = sym behind ∙ e in cc;
+      replicas = λ e. let both = sym behind ∙ e in cc;
+    }
+  where
+    turned : (b : Bool) → not b ≡ true → b ≡ false
+    turned true e = cc
+    turned false e = refl
+
+-- a session's states are read
+no_row_of_session : (u v : SessionId) (rows : List Row) → (u.0 == v.0) ≡ false → list_any (λ r. r.session.0 == v.0) (filter (λ r. r.session.0 == u.0) rows) ≡ false
+no_row_of_session u v [] ne = refl
+no_row_of_session u v (r ∷ rows) ne = grind (arith, nat_tests, ne, no_row_of_session u v rows ne)
+
+unread_state : (c : Cluster) (view : View) (u : SessionId) (call : Call) → same_call (States u) call ≡ false → is_unread view call ≡ true → is_unread (with_states c u view) call ≡ true
+unread_state c view u Live ne e = refl
+unread_state c view u (Mail v) ne e = e
+unread_state c view u (States v) ne e =
+    let none = no_row_of_session u v c.rows ne in
+    grind (arith, e, none, any-append (λ (r : Row). r.session.0 == v.0) view.rows (states_shown c u))
+unread_state c view u Ideals ne e = refl
+unread_state c view u Send ne e = refl
+unread_state c view u Post ne e = refl
+
+unread_states : (c : Cluster) (view : View) (u : SessionId) (rest : List Call) → list_any (same_call (States u)) rest ≡ false → list_all (is_unread view) rest ≡ true
+    → list_all (is_unread (with_states c u view)) rest ≡ true
+unread_states c view u [] ne e = refl
+unread_states c view u (x ∷ rest) ne e =
+    and-both (is_unread (with_states c u view) x) (list_all (is_unread (with_states c u view)) rest)
+    (unread_state c view u x (grind (arith, ne)) (and-first (is_unread view x) (list_all (is_unread view) rest) e))
+    (unread_states c view u rest (grind (arith, ne)) (and-second (is_unread view x) (list_all (is_unread view) rest) e))
+
+pub turn_states : (c : Cluster) (begun : Begun) (view : View) (u : SessionId) (rest : List Call) → HasRows c
+    → IsTurn c (record { left = States u ∷ rest; begun = begun; view = view }) → IsTurn c (record { left = rest; begun = begun; view = with_states c u view })
+turn_states c begun view u rest rows h =
+    let first : is_unread view (States u) ≡ true = and-first (is_unread view (States u)) (list_all (is_unread view) rest) h.unread in
+    let shown : is_shown view.live u ≡ true = and-first (is_shown view.live u) (not (list_any (λ r. r.session.0 == u.0) view.rows)) first in
+    let none : list_any (λ r. r.session.0 == u.0) view.rows ≡ false = turned (list_any (λ r. r.session.0 == u.0) view.rows) (and-second (is_shown view.live u) (not (list_any (λ r. r.session.0 == u.0) view.rows)) first) in
+    let behind : (is_first Send rest || is_first Post rest) ≡ false = unread_behind (States u) rest h.order u (grind (arith, same-self u.0)) in
+    record {
+      epoch = h.epoch;
+      order = order_rest (States u) rest h.order;
+      once = rest_once (States u) rest h.once;
+      unread = unread_states c view u rest (call_no_more (States u) rest (h.once (States u))) (and-second (is_unread view (States u)) (list_all (is_unread view) rest) h.unread);
+      nothing = λ e. let both = sym (live_no_more (States u) rest h.order) ∙ e in cc;
+      below = h.below;
+      own = h.own;
+      well_formed = ap (λ (b : Bool). is_well_formed c.models (length c.instances) (if b then with_states c u view else beside (with_states c u view) c)) behind
+          ∙ formed_states c view u rows shown none h.well_formed;
+      resources = λ e. let both = sym behind ∙ e in cc;
+      replicas = λ e. let both = sym behind ∙ e in cc;
+    }
+  where
+    turned : (b : Bool) → not b ≡ true → b ≡ false
+    turned true e = cc
+    turned false e = refl
+
+-- the ideals are read
+either_way : (c : Cluster) (view : View) (b : Bool) → is_well_formed c.models (length c.instances) (beside view c) ≡ true
+    → is_well_formed c.models (length c.instances) (if b then beside view c else beside (beside view c) c) ≡ true
+either_way c view true e = e
+either_way c view false e = e
+
+pub turn_ideals : (c : Cluster) (begun : Begun) (view : View) (rest : List Call) → IsTurn c (record { left = Ideals ∷ rest; begun = begun; view = view })
+    → IsTurn c (record { left = rest; begun = begun; view = beside view c })
+turn_ideals c begun view rest h = record {
+  epoch = h.epoch;
+  order = order_rest Ideals rest h.order;
+  once = rest_once Ideals rest h.once;
+  unread = h.unread;
+  nothing = λ e. let both = sym (live_no_more Ideals rest h.order) ∙ e in cc;
+  below = h.below;
+  own = h.own;
+  well_formed = either_way c view (is_first Send rest || is_first Post rest) h.well_formed;
+  resources = λ e. front-self is_same_kind kind-self c.resources;
+  replicas = λ e. front-self has_same_replicas replicas-self c.resources;
+}
+
+-- the proposals are sent
+post_behind : (rest : List Call) → is_in_order (Send ∷ rest) ≡ true → (is_first Send rest || is_first Post rest) ≡ true
+post_behind [] e = cc
+post_behind (Live ∷ rest) e = cc
+post_behind (Mail s ∷ rest) e = cc
+post_behind (States s ∷ rest) e = cc
+post_behind (Ideals ∷ rest) e = cc
+post_behind (Send ∷ rest) e = cc
+post_behind (Post ∷ rest) e = refl
+
+pub turn_send : (c : Cluster) (begun : Begun) (view : View) (rest : List Call) → IsTurn c (record { left = Send ∷ rest; begun = begun; view = view })
+    → IsTurn c (record { left = rest; begun = begun; view = view })
+turn_send c begun view rest h = record {
+  epoch = h.epoch;
+  order = order_rest Send rest h.order;
+  once = rest_once Send rest h.once;
+  unread = h.unread;
+  nothing = λ e. let both = sym (live_no_more Send rest h.order) ∙ e in cc;
+  below = h.below;
+  own = h.own;
+  well_formed = ap (λ (b : Bool). is_well_formed c.models (length c.instances) (if b then view else beside view c)) (post_behind rest h.order) ∙ h.well_formed;
+  resources = λ e. h.resources refl;
+  replicas = λ e. h.replicas refl;
+}

@@ -1,0 +1,5 @@
+pub mod Onward
+pub mod Calm
+pub mod Reading
+pub mod Covers
+pub mod Gate
