@@ -42,7 +42,8 @@ abbrev pub same_proposal : Proposal → Proposal → Bool
 same_proposal a b = (a.session.0 == b.session.0) && part_eq a.part b.part && (a.from.0 == b.from.0) && (a.to.0 == b.to.0)
 
 abbrev pub is_planned : Spec → Standing → Event → Bool
-is_planned spec w (events.Dispatch k epoch pass proposals answer) = pointwise same_proposal proposals (plan spec.models spec.rules (turn_in w k).view).proposals
+is_planned spec w (events.Dispatch k epoch pass proposals answer) =
+    pointwise same_proposal proposals (plan spec.models spec.rules (turn_in w k).view).proposals
 is_planned spec w _ = true
 
 -- the message is one that a fetch showed

@@ -1,17 +1,9 @@
--- What the worked examples share: ids by their numbers, descriptions over the built-in models, and what a script, a script at fault and a
+-- What the worked examples share: descriptions over the built-in models, and what a script, a script at fault and a
 -- log come to.
 use Rattle.std.specs.Prelude.{ℕ, true, false, List, [], ◌∷◌, length, map, Option, None, Some, Result, Ok, Err, codes}
 use Rattle.std.specs.Option.{option_map}
-use Rattle.hx_ids.specs.declared.InstanceId.{InstanceId}
 use Rattle.hx_ids.specs.declared.StateId.{StateId}
-use Rattle.hx_ids.specs.declared.ModelId.{ModelId}
-use Rattle.hx_ids.specs.declared.ResourceId.{ResourceId}
-use Rattle.hx_ids.specs.declared.SessionId.{SessionId}
-use Rattle.hx_ids.specs.declared.MsgId.{MsgId}
-use Rattle.hx_ids.specs.declared.Epoch.{Epoch}
-use Rattle.hx_ids.specs.declared.PassNo.{PassNo}
-use Rattle.hx_ids.specs.declared.ControllerId.{ControllerId}
-use Rattle.hx_ids.specs.declared.PartId.{PartId}
+use Rattle.hx_ids.specs.Words.{instance, state, model, part}
 use Rattle.hx_text.specs.Lines.{lines_of}
 use Rattle.hx_model.specs.declared.Bound.{Bound}
 use Rattle.hx_model.specs.declared.ModelParts.{ModelParts}
@@ -26,39 +18,9 @@ use Rattle.hx_cluster.specs.declared.description.Spec.{Spec}
 use Rattle.hx_script.specs.declared.Line.{Line}
 use Rattle.hx_script.specs.declared.faults.ScriptFault.{ScriptFault}
 use Rattle.hx_script.specs.Grammar.{script_of}
-use Rattle.hx_sim.specs.Scripts.{sim_text}
+use Rattle.hx_sim.specs.World.{World}
+use Rattle.hx_sim.specs.Scripts.{sim_run, sim_text, state_of}
 use Rattle.hx_check.specs.Judge.{verdict_of, verdict_text}
-
--- ids by their numbers
-abbrev pub instance : ℕ → InstanceId
-instance n = record { 0 = n }
-
-abbrev pub state : ℕ → StateId
-state n = record { 0 = n }
-
-abbrev pub model : ℕ → ModelId
-model n = record { 0 = n }
-
-abbrev pub resource : ℕ → ResourceId
-resource n = record { 0 = n }
-
-abbrev pub session : ℕ → SessionId
-session n = record { 0 = n }
-
-abbrev pub message : ℕ → MsgId
-message n = record { 0 = n }
-
-abbrev pub epoch : ℕ → Epoch
-epoch n = record { 0 = n }
-
-abbrev pub pass : ℕ → PassNo
-pass n = record { 0 = n }
-
-abbrev pub controller : ℕ → ControllerId
-controller n = record { 0 = n }
-
-abbrev pub part : ℕ → ℕ → PartId
-part r n = record { resource = resource r; index = n }
 
 -- models, by the numbers of their states
 abbrev pub move : ℕ × ℕ → StateId × StateId
@@ -119,14 +81,35 @@ failed_make i r p number = record { instance = instance i; part = part r p; make
 abbrev pub failed_run : ℕ → ℕ → ℕ → ℕ → Failure
 failed_run i r p number = record { instance = instance i; part = part r p; make = false; number = number }
 
--- the output of a script, or its first fault
-abbrev pub output_of : Result (List Line × Spec) ScriptFault → List ℕ
-output_of (Ok script) = sim_text script.1 script.0
-output_of (Err fault) = []
+-- the demo's description
+abbrev pub demo : Spec
+demo = record bare {
+  resource_names = codes "db" ∷ [];
+  resources = by_lists 0 1 2 ((0 ∷ 1 ∷ 2 ∷ []) ∷ (1 ∷ 2 ∷ 0 ∷ []) ∷ []) ∷ [];
+}
+
+-- a script that is read, with the description that has the names of its lines too; one at fault has no lines
+abbrev pub read_well : Spec → Result (List Line × Spec) ScriptFault → List Line × Spec
+read_well spec (Ok script) = script
+read_well spec (Err fault) = ([], spec)
+
+abbrev pub read : Spec → List ℕ → List Line × Spec
+read spec script = read_well spec (script_of (lines_of script) spec)
+
+-- the output of a script, and the world that it leaves
+abbrev pub output_of : List Line × Spec → List ℕ
+output_of script = sim_text script.1 script.0
 
 abbrev pub output : Spec → List ℕ → List ℕ
-output spec script = output_of (script_of (lines_of script) spec)
+output spec script = output_of (read spec script)
 
+abbrev pub world_of : List Line × Spec → World
+world_of script = (state_of (sim_run script.1 script.0)).world
+
+abbrev pub world_after : Spec → List ℕ → World
+world_after spec script = world_of (read spec script)
+
+-- the first fault of a script
 abbrev pub fault_of : Result (List Line × Spec) ScriptFault → Option ScriptFault
 fault_of (Ok script) = None
 fault_of (Err fault) = Some fault

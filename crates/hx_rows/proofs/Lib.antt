@@ -3,4 +3,9 @@ mod Settles
 mod Turns
 mod Sessions
 mod Messages
+mod FullHistory
+mod Settling
 mod Verdicts
+mod LogLines
+mod UnreadableLog
+mod History

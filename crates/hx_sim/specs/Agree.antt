@@ -171,7 +171,8 @@ has_job jobs i x (works.Out m is_held) = list_any (is_job i m.id) jobs && (x.sta
 has_job jobs i x _ = true
 
 -- the parts of a world agree with what is open
-pub record AgreeOpen (given : Spec) (b : BoardState) (ks : List Controller) (ps : List Stationed) (jobs : List Job) (bag : List Message) : Type 0 where
+pub record AgreeOpen
+    (given : Spec) (b : BoardState) (ks : List Controller) (ps : List Stationed) (jobs : List Job) (bag : List Message) : Type 0 where
   pub staffed : IsStaffed given b ks ps
   pub turns : All (OfBoard b.spec b.history) ks
   pub accepted : All (λ p. list_all (λ x. is_accepted_well (cluster_of b) bag x.work) p.plain.slots ≡ true) ps

@@ -31,4 +31,5 @@ ended_in _ = 0
 
 abbrev pub summary_of : List Event → List ℕ
 summary_of h =
-    summary_text (sum_by sent_in h) (count (is_write (λ o. not (is_failed o))) h) (count (is_write is_failed) h) (sum_by joined_in h) (sum_by ended_in h)
+    summary_text (sum_by sent_in h) (count (is_write (λ o. not (is_failed o))) h) (count (is_write is_failed) h)
+    (sum_by joined_in h) (sum_by ended_in h)
