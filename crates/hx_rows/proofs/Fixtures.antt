@@ -19,7 +19,8 @@ use Rattle.hx_script.specs.declared.Line.{Line}
 use Rattle.hx_script.specs.declared.faults.ScriptFault.{ScriptFault}
 use Rattle.hx_script.specs.Grammar.{script_of}
 use Rattle.hx_sim.specs.World.{World}
-use Rattle.hx_sim.specs.Scripts.{sim_run, sim_text, state_of}
+use Rattle.hx_sim.specs.Runs.{state_of}
+use Rattle.hx_sim.specs.Scripts.{sim_run, sim_text}
 use Rattle.hx_check.specs.Judge.{verdict_of, verdict_text}
 
 -- models, by the numbers of their states

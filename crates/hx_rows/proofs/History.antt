@@ -29,8 +29,8 @@ described = record bare {
   instances = codes "n1" ∷ codes "n2" ∷ [];
   resource_names = codes "db0" ∷ [];
   rules = rule scopes.Resource None 1
-    ∷ rule scopes.Resource None 3
-    ∷ rule scopes.Resource None 1 ∷ [];
+      ∷ rule scopes.Resource None 3
+      ∷ rule scopes.Resource None 1 ∷ [];
   resources = by_maps 0 0 4 ([] ∷ ((0, 4) ∷ []) ∷ [] ∷ []) ∷ [];
 }
 

@@ -9,3 +9,5 @@ mod Verdicts
 mod LogLines
 mod UnreadableLog
 mod History
+mod FaultyDescriptions
+mod MadeInput

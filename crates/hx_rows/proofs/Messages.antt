@@ -74,8 +74,8 @@ repeats_and_death_spec = record bare {
   controllers = 1;
   rules = rule scopes.Instance (Some (2, 3)) 1 ∷ [];
   resources = by_lists 0 1 3 ((1 ∷ 0 ∷ 2 ∷ []) ∷ [])
-    ∷ by_maps 1 1 3 ([] ∷ ((0, 4) ∷ (2, 4) ∷ (1, 5) ∷ []) ∷ [] ∷ [])
-    ∷ taken_in_turn 2 3 4 2 ∷ [];
+      ∷ by_maps 1 1 3 ([] ∷ ((0, 4) ∷ (2, 4) ∷ (1, 5) ∷ []) ∷ [] ∷ [])
+      ∷ taken_in_turn 2 3 4 2 ∷ [];
 }
 
 pub repeats_and_death : output repeats_and_death_spec (
@@ -205,16 +205,16 @@ wrong_session_spec = record bare {
   models = built_in ++ own_model 8 ((8, bounds.Free) ∷ (9, bounds.Count 1) ∷ (4, bounds.Live)
       ∷ (3, bounds.Count 1) ∷ []) ((8, 4) ∷ (3, 9) ∷ (8, 9) ∷ (4, 8) ∷ (8, 3) ∷ (9, 4) ∷ (8, 1)
       ∷ (4, 9) ∷ (9, 8) ∷ (4, 3) ∷ (9, 3) ∷ (3, 4) ∷ [])
-    ∷ own_model 2 ((9, bounds.Free) ∷ (4, bounds.Count 1) ∷ (3, bounds.Free) ∷ (2, bounds.Free)
+      ∷ own_model 2 ((9, bounds.Free) ∷ (4, bounds.Count 1) ∷ (3, bounds.Free) ∷ (2, bounds.Free)
       ∷ []) ((4, 2) ∷ (2, 1) ∷ (9, 4) ∷ (2, 3) ∷ (9, 3) ∷ (9, 2) ∷ (3, 2) ∷ (3, 9) ∷ (4, 3)
       ∷ (2, 9) ∷ (3, 4) ∷ (4, 9) ∷ (2, 4) ∷ []) ∷ [];
   rules = rule scopes.Cluster None 2
-    ∷ rule scopes.Instance None 3
-    ∷ rule scopes.Cluster None 3 ∷ [];
+      ∷ rule scopes.Instance None 3
+      ∷ rule scopes.Cluster None 3 ∷ [];
   resources = by_maps 0 4 4 (((1, 4) ∷ (3, 2) ∷ (0, 4) ∷ []) ∷ [])
-    ∷ by_maps 1 4 1 (((4, 9) ∷ (2, 2) ∷ []) ∷ ((2, 2) ∷ (4, 9) ∷ (0, 9) ∷ (3, 9) ∷ (1, 2) ∷ [])
+      ∷ by_maps 1 4 1 (((4, 9) ∷ (2, 2) ∷ []) ∷ ((2, 2) ∷ (4, 9) ∷ (0, 9) ∷ (3, 9) ∷ (1, 2) ∷ [])
       ∷ [] ∷ [])
-    ∷ by_lists 2 1 3 ((1 ∷ 0 ∷ []) ∷ (1 ∷ 3 ∷ []) ∷ (0 ∷ 4 ∷ 3 ∷ []) ∷ []) ∷ [];
+      ∷ by_lists 2 1 3 ((1 ∷ 0 ∷ []) ∷ (1 ∷ 3 ∷ []) ∷ (0 ∷ 4 ∷ 3 ∷ []) ∷ []) ∷ [];
 }
 
 pub wrong_session : output wrong_session_spec (
@@ -258,12 +258,12 @@ one_instance_spec = record bare {
   resource_names = codes "db0" ∷ codes "db1" ∷ [];
   model_names = built_in_names ++ codes "M0" ∷ codes "M1" ∷ [];
   models = built_in ++ own_model 5 ((5, bounds.Free) ∷ []) ((5, 1) ∷ [])
-    ∷ own_model 3 ((3, bounds.Free) ∷ []) ((3, 1) ∷ []) ∷ [];
+      ∷ own_model 3 ((3, bounds.Free) ∷ []) ((3, 1) ∷ []) ∷ [];
   controllers = 3;
   rules = rule scopes.Cluster None 1
-    ∷ rule scopes.Cluster None 2 ∷ [];
+      ∷ rule scopes.Cluster None 2 ∷ [];
   resources = by_maps 0 1 1 ([] ∷ [] ∷ [])
-    ∷ by_maps 1 2 2 (((0, 7) ∷ []) ∷ []) ∷ [];
+      ∷ by_maps 1 2 2 (((0, 7) ∷ []) ∷ []) ∷ [];
 }
 
 pub one_instance : output one_instance_spec (

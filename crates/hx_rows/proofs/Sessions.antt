@@ -132,17 +132,17 @@ ended_before_dispatch_spec = record bare {
   resource_names = codes "db0" ∷ codes "db1" ∷ codes "db2" ∷ [];
   model_names = built_in_names ++ codes "M0" ∷ codes "M1" ∷ [];
   models = built_in ++ own_model 8 ((8, bounds.Free) ∷ []) ((8, 1) ∷ [])
-    ∷ own_model 3 ((9, bounds.Live) ∷ (4, bounds.Free) ∷ (3, bounds.Free) ∷ (2, bounds.Count 2)
+      ∷ own_model 3 ((9, bounds.Live) ∷ (4, bounds.Free) ∷ (3, bounds.Free) ∷ (2, bounds.Count 2)
       ∷ []) ((9, 3) ∷ (3, 2) ∷ (4, 2) ∷ (9, 2) ∷ (2, 9) ∷ (2, 4) ∷ (3, 1) ∷ (3, 9) ∷ (4, 9)
       ∷ (4, 3) ∷ []) ∷ [];
   controllers = 1;
   rules = rule scopes.Instance None 1
-    ∷ rule scopes.Instance (Some (7, 6)) 3
-    ∷ rule scopes.Instance (Some (9, 1)) 2 ∷ [];
+      ∷ rule scopes.Instance (Some (7, 6)) 3
+      ∷ rule scopes.Instance (Some (9, 1)) 2 ∷ [];
   resources = by_maps 0 2 4 (((0, 4) ∷ (2, 4) ∷ (1, 7) ∷ (4, 6) ∷ []) ∷ ((3, 7) ∷ (2, 4) ∷ (4, 4)
       ∷ []) ∷ ((0, 6) ∷ (1, 6) ∷ (2, 6) ∷ (3, 6) ∷ []) ∷ [])
-    ∷ by_maps 1 2 1 ([] ∷ ((0, 6) ∷ (3, 7) ∷ (2, 4) ∷ []) ∷ [])
-    ∷ taken_in_turn 2 3 2 3 ∷ [];
+      ∷ by_maps 1 2 1 ([] ∷ ((0, 6) ∷ (3, 7) ∷ (2, 4) ∷ []) ∷ [])
+      ∷ taken_in_turn 2 3 2 3 ∷ [];
 }
 
 pub ended_before_dispatch : output ended_before_dispatch_spec (
@@ -187,7 +187,7 @@ death_in_turn_spec = record bare {
   controllers = 3;
   timeout = 38;
   resources = taken_in_turn 0 1 1 2
-    ∷ by_maps 1 1 4 (((0, 4) ∷ (1, 5) ∷ []) ∷ ((0, 5) ∷ []) ∷ []) ∷ [];
+      ∷ by_maps 1 1 4 (((0, 4) ∷ (1, 5) ∷ []) ∷ ((0, 5) ∷ []) ∷ []) ∷ [];
 }
 
 pub death_in_turn : output death_in_turn_spec (
@@ -246,14 +246,14 @@ expiries_and_repeats_spec = record bare {
   model_names = built_in_names ++ codes "M0" ∷ codes "M1" ∷ [];
   models = built_in ++ own_model 8 ((8, bounds.Free) ∷ (3, bounds.Count 1) ∷ []) ((8, 1) ∷ (3, 8)
       ∷ (8, 3) ∷ [])
-    ∷ own_model 8 ((8, bounds.Free) ∷ (9, bounds.Free) ∷ []) ((8, 9) ∷ (9, 8) ∷ (8, 1) ∷ []) ∷ [];
+      ∷ own_model 8 ((8, bounds.Free) ∷ (9, bounds.Free) ∷ []) ((8, 9) ∷ (9, 8) ∷ (8, 1) ∷ []) ∷ [];
   controllers = 1;
   timeout = 13;
   resources = taken_in_turn 0 2 4 3
-    ∷ taken_in_turn 1 3 4 1 ∷ [];
+      ∷ taken_in_turn 1 3 4 1 ∷ [];
   failures = failed_run 0 0 1 3
-    ∷ failed_make 1 0 0 3
-    ∷ failed_make 1 0 1 3 ∷ [];
+      ∷ failed_make 1 0 0 3
+      ∷ failed_make 1 0 1 3 ∷ [];
 }
 
 pub expiries_and_repeats : output expiries_and_repeats_spec (
@@ -376,11 +376,11 @@ torn_by_expiry_spec = record bare {
   model_names = built_in_names ++ codes "M0" ∷ codes "M1" ∷ [];
   models = built_in ++ own_model 4 ((8, bounds.Count 3) ∷ (5, bounds.Replicas) ∷ (4, bounds.Free)
       ∷ []) ((8, 5) ∷ (4, 5) ∷ (5, 4) ∷ (4, 1) ∷ (5, 8) ∷ [])
-    ∷ own_model 8 ((8, bounds.Free) ∷ []) ((8, 1) ∷ []) ∷ [];
+      ∷ own_model 8 ((8, bounds.Free) ∷ []) ((8, 1) ∷ []) ∷ [];
   controllers = 1;
   timeout = 8;
   resources = by_lists 0 2 3 ((1 ∷ []) ∷ (3 ∷ 0 ∷ []) ∷ (3 ∷ 4 ∷ 2 ∷ []) ∷ [])
-    ∷ by_lists 1 2 4 ([] ∷ (1 ∷ []) ∷ (3 ∷ 1 ∷ 0 ∷ 4 ∷ []) ∷ []) ∷ [];
+      ∷ by_lists 1 2 4 ([] ∷ (1 ∷ []) ∷ (3 ∷ 1 ∷ 0 ∷ 4 ∷ []) ∷ []) ∷ [];
   failures = failed_run 1 1 0 4 ∷ [];
 }
 

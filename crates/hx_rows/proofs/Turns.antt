@@ -146,7 +146,7 @@ moved_cluster_spec = record bare {
   resource_names = codes "db0" ∷ [];
   model_names = built_in_names ++ codes "M0" ∷ codes "M1" ∷ [];
   models = built_in ++ own_model 8 ((8, bounds.Free) ∷ []) ((8, 1) ∷ [])
-    ∷ own_model 4 ((4, bounds.Free) ∷ []) ((4, 1) ∷ []) ∷ [];
+      ∷ own_model 4 ((4, bounds.Free) ∷ []) ((4, 1) ∷ []) ∷ [];
   controllers = 1;
   rules = rule scopes.Resource (Some (4, 4)) 2 ∷ [];
   resources = taken_in_turn 0 4 3 1 ∷ [];
@@ -223,7 +223,7 @@ torn_turns_spec = record bare {
       ∷ (8, 1) ∷ (4, 3) ∷ []) ∷ [];
   timeout = 26;
   resources = taken_in_turn 0 2 4 1
-    ∷ taken_in_turn 1 1 4 2 ∷ [];
+      ∷ taken_in_turn 1 1 4 2 ∷ [];
 }
 
 pub torn_turns : output torn_turns_spec (
@@ -341,17 +341,17 @@ fenced_and_failed_spec = record bare {
   model_names = built_in_names ++ codes "M0" ∷ codes "M1" ∷ [];
   models = built_in ++ own_model 4 ((4, bounds.Free) ∷ (8, bounds.Count 2) ∷ (9, bounds.Count 3)
       ∷ []) ((9, 4) ∷ (8, 9) ∷ (4, 8) ∷ (4, 1) ∷ (4, 9) ∷ (8, 4) ∷ [])
-    ∷ own_model 10 ((10, bounds.Free) ∷ (8, bounds.Count 1) ∷ []) ((8, 10) ∷ (10, 1) ∷ (10, 8)
+      ∷ own_model 10 ((10, bounds.Free) ∷ (8, bounds.Count 1) ∷ []) ((8, 10) ∷ (10, 1) ∷ (10, 8)
       ∷ []) ∷ [];
   controllers = 1;
   rules = rule scopes.Instance None 2
-    ∷ rule scopes.Instance (Some (4, 4)) 3
-    ∷ rule scopes.Resource None 1 ∷ [];
+      ∷ rule scopes.Instance (Some (4, 4)) 3
+      ∷ rule scopes.Resource None 1 ∷ [];
   resources = taken_in_turn 0 2 3 2 ∷ [];
   failures = failed_make 1 0 1 4
-    ∷ failed_make 1 0 1 3
-    ∷ failed_run 1 0 1 3
-    ∷ failed_make 0 0 0 1 ∷ [];
+      ∷ failed_make 1 0 1 3
+      ∷ failed_run 1 0 1 3
+      ∷ failed_make 0 0 0 1 ∷ [];
 }
 
 pub fenced_and_failed : output fenced_and_failed_spec (

@@ -1,5 +1,5 @@
 -- When a board, its controllers and its participants agree: between the lines of a script, and while turns, deliveries and jobs are open.
-use Rattle.std.specs.Prelude.{◌≡◌, ◌≤◌, ℕ, ◌+◌, Bool, true, false, not, ◌==◌, ◌&&◌, ◌||◌, List, [], ◌∷◌, map, length, Option, None, Some, nat_lt, nat_le, IsSomeAnd}
+use Rattle.std.specs.Prelude.{◌≡◌, ◌≤◌, ℕ, ◌+◌, Bool, true, false, not, ◌==◌, ◌&&◌, ◌||◌, List, [], ◌∷◌, map, length, Option, None, Some, is_some, is_none, if◌then◌else◌, nat_lt, nat_le, IsSomeAnd}
 use Rattle.std.specs.List.{All, list_any, list_all, sum_by}
 use Rattle.std.specs.Option.{option_map_or}
 use Rattle.hx_lists.specs.Lists.{count, numbers_below}
@@ -101,11 +101,11 @@ pub record Agree (given : Spec) (b : BoardState) (ks : List Controller) (ps : Li
 
 -- with open work: a pending message of the session is accepted, or out, or above what was accepted; a taken one is out
 abbrev pub is_accepted_as : Message → Work → Bool
-is_accepted_as m (works.Accepted n) = n.id.0 == m.id.0
+is_accepted_as m (works.Accepted n) = is_same m n
 is_accepted_as m _ = false
 
 abbrev pub is_out_as : Message → Work → Bool
-is_out_as m (works.Out n is_held) = n.id.0 == m.id.0
+is_out_as m (works.Out n is_held) = is_same m n
 is_out_as m _ = false
 
 abbrev pub is_known_at : Slot → Message → Bool
@@ -125,30 +125,30 @@ abbrev pub is_accepted_well : Cluster → List Message → Work → Bool
 is_accepted_well c bag (works.Accepted m) = list_any (is_same m) bag && (not (is_live c.live m.session) || is_waiting c m)
 is_accepted_well c bag _ = true
 
--- a message in the bag is legal, with its model's initial state, and with numbers that were given
-pub record IsBagged (c : Cluster) (m : Message) : Type 0 where
+-- a message in the bag is legal, with its model's initial state, and with numbers that were given; where its session is live it is
+-- pending, or not above what was accepted
+abbrev pub is_old : List Stationed → Message → Bool
+is_old ps m = list_any (λ p. is_session p.plain.session m.session && nat_le m.id.0 (slot_of p.plain m.part).last.0) ps
+
+pub record IsBagged (c : Cluster) (ps : List Stationed) (m : Message) : Type 0 where
   pub id : nat_lt m.id.0 c.next_msg ≡ true
   pub session : nat_lt m.session.0 c.next_session ≡ true
   pub legal : is_legal (model_of c.models c.resources m.part.resource) m.from m.to ≡ true
   pub initial : m.initial ≡ initial_of c m.part
+  pub pending : is_live c.live m.session ≡ true → is_pending_as c m || is_old ps m ≡ true
 
--- of a participant's session, it has the initial state of the messages of its part that were accepted; and where the session is live it
--- is pending, or not above what was accepted
+-- of a participant's session, it has the initial state of the messages of its part that were accepted
 abbrev pub LikeAccepted : Participant → Message → Type 0
 LikeAccepted w m =
     is_session w.session m.session ≡ true → (t : StateId) → (slot_of w m.part).initial ≡ Some t → t ≡ m.initial
 
-abbrev pub is_pending_or_old : Cluster → Participant → SessionId → Message → Bool
-is_pending_or_old c w s m = not (m.session.0 == s.0) || is_pending_as c m || nat_le m.id.0 (slot_of w m.part).last.0
-
 -- a replica counts as at its row, unless its message is out
-pub record IsOpenIn (c : Cluster) (bag : List Message) (p : Stationed) (s : SessionId) : Type 0 where
+pub record IsOpenIn (c : Cluster) (p : Stationed) (s : SessionId) : Type 0 where
   pub attached : IsAttached c p s
   pub rows : (q : PartId) → is_out (slot_of p.plain q).work ≡ false → StandsAsRow c p.plain s q
   pub mail : list_all (is_known p.plain s) c.mail ≡ true
-  pub fetched : list_all (is_pending_or_old c p.plain s) bag ≡ true
 
--- an open job is that of the slot which its message is out of, and it is the only one. Where its session is live its message is the taken
+-- an open job is that of the slot which its message is out of, with its handler, and it is the only one. Where its session is live its message is the taken
 -- one of its replica, which the participant has at from; it is written, with the job's outcome, exactly where the job is past its write
 abbrev pub is_at_end : StateId → Option StateId → Bool
 is_at_end t None = t.0 == dropped.0
@@ -160,9 +160,13 @@ pub record IsTakenAs (c : Cluster) (j : Job) (m : Message) : Type 0 where
   pub written : m.written ≡ j.is_written
   pub ended : j.is_written ≡ true → is_at_end (state_after m j.outcome) (state_of c.rows m.session m.part) ≡ true
 
+abbrev pub is_lent_to : Job → Work → Bool
+is_lent_to j (works.Out m is_held) = is_same j.message m && (if is_held then is_some j.handler else is_none j.handler)
+is_lent_to j _ = false
+
 pub record IsOpenJob (c : Cluster) (ps : List Stationed) (jobs : List Job) (j : Job) : Type 0 where
   pub only : count (is_job j.instance j.message.id) jobs ≡ 1
-  pub out : list_any (λ p. (p.instance.0 == j.instance.0) && is_out_as j.message (slot_of p.plain j.message.part).work) ps ≡ true
+  pub out : list_any (λ p. (p.instance.0 == j.instance.0) && is_lent_to j (slot_of p.plain j.message.part).work) ps ≡ true
   pub taken : is_live c.live j.message.session ≡ true → IsSomeAnd (message_of c.mail j.message.session j.message.part) (IsTakenAs c j)
 
 -- a slot whose message is out is at its from, and has its job
@@ -176,11 +180,11 @@ pub record AgreeOpen
   pub staffed : IsStaffed given b ks ps
   pub turns : All (OfBoard b.spec b.history) ks
   pub accepted : All (λ p. list_all (λ x. is_accepted_well (cluster_of b) bag x.work) p.plain.slots ≡ true) ps
-  pub bagged : All (IsBagged (cluster_of b)) bag
+  pub bagged : All (IsBagged (cluster_of b) ps) bag
   pub alike : All (λ p. All (LikeAccepted p.plain) bag) ps
   pub slots : All (λ p. list_all (λ x. has_job jobs p.instance x x.work) p.plain.slots ≡ true) ps
   pub each_job : All (IsOpenJob (cluster_of b) ps jobs) jobs
-  pub live : All (λ p. IfLive (cluster_of b) p (IsOpenIn (cluster_of b) bag p)) ps
+  pub live : All (λ p. IfLive (cluster_of b) p (IsOpenIn (cluster_of b) p)) ps
 
 -- what a world keeps: its cluster is the one that its history leaves, its weight is within the limit, and all in it agrees
 abbrev pub stationed_from : ℕ → List Participant → List Stationed

@@ -1,5 +1,5 @@
 -- A whole script: what each line does, what that brings, and the text and the history that come of it.
-use Rattle.std.specs.Prelude.{◌≡◌, ℕ, ◌+◌, Bool, true, false, ◌==◌, ◌&&◌, List, [], ◌++◌, map, filter, length, Option, None, Some}
+use Rattle.std.specs.Prelude.{◌≡◌, ℕ, ◌+◌, Bool, ◌==◌, ◌&&◌, List, [], ◌++◌, map, filter, length, Option, None, Some}
 use Rattle.hx_ids.specs.declared.InstanceId.{InstanceId}
 use Rattle.hx_ids.specs.declared.ResourceId.{ResourceId}
 use Rattle.hx_ids.specs.declared.PartId.{PartId}
@@ -23,7 +23,7 @@ use Rattle.hx_script.specs.declared.Line.{Line}
 use Rattle.hx_script.specs.Asked.{part_at, step_asked}
 use Rattle.hx_sim.specs.World.{World, State, Answered, opening_world, told_by}
 use Rattle.hx_sim.specs.Items.{Item, events_in, items_text}
-use Rattle.hx_sim.specs.Runs.{Deed, GoesOn, Stops, Voice, done, and_then, happen, say, note, for_each}
+use Rattle.hx_sim.specs.Runs.{Deed, GoesOn, Stops, Voice, items_of, is_stopped, done, and_then, happen, say, note, for_each}
 use Rattle.hx_sim.specs.Turns.{do_begin, do_read, do_send, do_post, do_pass, without_outcome}
 use Rattle.hx_sim.specs.Jobs.{adopt_in, do_fetch, do_deliver, do_take, do_write, do_ack, do_work}
 use Rattle.hx_sim.specs.Settles.{do_settle}
@@ -124,19 +124,7 @@ opening_state spec = record { world = opening_world spec most_weight; answers = 
 abbrev pub sim_run : Spec → List Line → Deed
 sim_run spec lines = do_script lines (opening_state spec)
 
--- what a run brought, the world that it left, and what it adds at its end: a history without room ends it
-abbrev pub items_of : Deed → List Item
-items_of (GoesOn items x answer) = items
-items_of (Stops items x) = items
-
-abbrev pub state_of : Deed → State
-state_of (GoesOn items x answer) = x
-state_of (Stops items x) = x
-
-abbrev pub is_stopped : Deed → Bool
-is_stopped (GoesOn items x answer) = false
-is_stopped (Stops items x) = true
-
+-- what a run prints, and what it adds at its end: a history without room ends it
 abbrev pub end_text : Deed → List ℕ
 end_text (GoesOn items x answer) = []
 end_text (Stops items x) = history_full_text x.world.weight
