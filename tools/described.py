@@ -10,7 +10,7 @@ import json
 import os
 import sys
 
-from row import Reader
+from row import Reader, uses_of_terms
 
 WORDS = {'null': 'null', 'true': '(boolean true)', 'false': '(boolean false)'}
 
@@ -37,7 +37,7 @@ def listed(items):
 
 
 def kind(word):
-    return 'kinds.' + ''.join(part.capitalize() for part in word.split('-'))
+    return 'faults.' + ''.join(part.capitalize() for part in word.split('-'))
 
 
 def wanted(output, description):
@@ -71,18 +71,15 @@ def theorem(description, output, name):
 
 
 HEAD = '''-- What the definitions make of the descriptions of worked cases. Written by tools/described.py.
-use Rattle.std.specs.Prelude.{◌≡◌, ℕ, Bool, true, false, List, [], ◌∷◌, Option, None, Some, Ok, Err, negsuc, codes}
+use Rattle.std.specs.Prelude.{◌≡◌, ℕ, true, false, List, [], ◌∷◌, ◌++◌, None, Some, Ok, Err, negsuc, codes}
 use Rattle.std.specs.Fmt.{digits}
 use Rattle.std.proofs.Common.{refl}
 use Rattle.serde_json.specs.Data.{Data, null, boolean, number, string, array, object, unsigned, negative, Members, no_members, member}
 use Rattle.serde_json.specs.View.{items_of}
-use Rattle.hx_model.specs.declared.Bound.TheVariants as bounds
-use Rattle.hx_ideal.specs.declared.Mode.TheVariants as modes
-use Rattle.hx_cluster.specs.declared.description.Scope.TheVariants as scopes
-use Rattle.hx_forms.specs.declared.faults.DescKind.TheVariants as kinds
+use Rattle.hx_forms.specs.declared.faults.DescKind.TheVariants as faults
 use Rattle.hx_forms.specs.Found.{Found, within}
 use Rattle.hx_desc.specs.Description.{described}
-
+%s
 abbrev members_from : List (List ℕ × Data) → Members
 members_from [] = no_members
 members_from (m ∷ ms) = member m.0 m.1 (members_from ms)
@@ -90,8 +87,9 @@ members_from (m ∷ ms) = member m.0 m.1 (members_from ms)
 
 
 def main():
-    print(HEAD)
-    print('\n'.join(map(of_folder, sys.argv[1:]) if '=' in sys.argv[1] else of_table(sys.argv[1])))
+    text = '\n'.join(map(of_folder, sys.argv[1:]) if '=' in sys.argv[1] else of_table(sys.argv[1]))
+    print(HEAD % uses_of_terms(text))
+    print(text, end='')
 
 
 if __name__ == '__main__':

@@ -1,17 +1,20 @@
 #!/usr/bin/env python3
-"""row.py CASE NAME [SENTENCE]: writes a theorem, to standard output, that the definitions compute the output of a case.
+"""row.py TITLE FOLDER=NAME=SENTENCE ..: writes a file of theorems, to standard output, that the definitions compute the outputs
+of worked cases.
 
-A case is a folder with input and output. Its description is read here with Python's json, so the theorem speaks of the
-description as it is parsed. A script is read here too, by words, so the theorem speaks of its lines as they are parsed; but
-where the output is a verdict on a log, or a fault of the script, the theorem speaks of the text's lines. The sentence says what
-the case shows. docs/definitions.md says what the theorems are for.
+A folder has an input and its output. The description is read here with Python's json, so a theorem speaks of it as it is parsed;
+script and output are whole texts. Where the output is a verdict, the script is a log; where it is a fault of the script, the
+theorem names that fault. A sentence says what a case shows. docs/definitions.md says what the theorems are for.
 """
 import json
 import os
+import re
 import sys
 
+
 def built_in(name, bounds, transitions):
-    return {'name': name, 'initial': 'OFFLINE', 'states': [{'name': s, 'bound': b} for s, b in bounds], 'transitions': transitions.split()}
+    states = [{'name': s, 'bound': b} for s, b in bounds]
+    return {'name': name, 'initial': 'OFFLINE', 'states': states, 'transitions': transitions.split()}
 
 
 BUILT_IN = [
@@ -24,10 +27,12 @@ STATES = ['ERROR', 'DROPPED', 'MASTER', 'SLAVE', 'OFFLINE', 'ONLINE', 'LEADER', 
 DEMO = {'version': 1, 'controllers': 2, 'timeout': 30, 'instances': ['n1', 'n2', 'n3'],
         'resources': [{'name': 'db', 'model': 'OnlineOffline', 'replicas': 2, 'partitions': 2, 'mode': 'SEMI_AUTO',
                        'lists': [['n1', 'n2', 'n3'], ['n2', 'n3', 'n1']]}]}
+WIDTH = 96
 
 
 def listed(items):
-    return '(' + ' ∷ '.join(list(items) + ['[]']) + ')'
+    items = list(items)
+    return '(' + ' ∷ '.join(items + ['[]']) + ')' if items else '[]'
 
 
 def option(item):
@@ -36,6 +41,46 @@ def option(item):
 
 def boolean(b):
     return 'true' if b else 'false'
+
+
+def quoted(text):
+    return '"' + text.replace('\\', '\\\\').replace('\n', '\\n').replace('"', '\\"') + '"'
+
+
+def broken(lines, indent):
+    """A text as pieces that are joined, each on a line of its own: those lines that were given, in order."""
+    return f'\n{indent}++ '.join(f'codes {quoted(line)}' for line in lines) or '[]'
+
+
+def filled(text):
+    """The lines of a text, as many together as a line of the file holds."""
+    pieces = []
+    for line in text.splitlines(keepends=True):
+        if pieces and len(quoted(pieces[-1] + line)) < WIDTH - 14:
+            pieces[-1] += line
+        else:
+            pieces.append(line)
+    return pieces
+
+
+def stepwise(text):
+    """The same, but each step of the script begins a piece."""
+    steps = []
+    for line in text.splitlines(keepends=True):
+        if not steps or line.startswith('line '):
+            steps.append('')
+        steps[-1] += line
+    return [piece for step in steps for piece in filled(step)]
+
+
+def wrapped(line, indent):
+    """A line of a term, broken between the items of its lists where it is too long."""
+    rows, rest = [], line
+    while len(rest) > 100 and ' ∷ ' in rest[len(indent) + 4:100]:
+        at = rest.rindex(' ∷ ', 0, 100)
+        rows.append(rest[:at])
+        rest = indent + rest[at + 1:]
+    return '\n'.join(rows + [rest])
 
 
 class Reader:
@@ -61,145 +106,229 @@ class Reader:
             self.names.append(name)
         return self.names.index(name)
 
-    def number(self, n):
-        return f'(record {{ 0 = {n} }})'
-
-    def instance(self, name):
-        return self.number(self.instances.index(name))
-
     def state(self, name):
-        return self.number(self.states.index(name))
+        return self.states.index(name)
 
     def model_number(self, name):
         return [n for n, _ in self.models].index(name)
 
-    def part(self, resource, index):
-        return f'(record {{ resource = {self.number(resource)}; index = {index} }})'
-
     def bound(self, text):
-        return {'R': 'bounds.Replicas', 'N': 'bounds.Live', '-1': 'bounds.Free'}.get(text, f'(bounds.Count {text})')
+        return {'R': 'bounds.Replicas', 'N': 'bounds.Live', '-1': 'bounds.Free'}.get(text, f'bounds.Count {text}')
 
     def model(self, m):
         states = listed(f"({self.state(s['name'])}, {self.bound(s['bound'])})" for s in m['states'])
-        moves = listed('(' + ', '.join(self.state(t) for t in x.split('>')) + ')' for x in m['transitions'])
-        return f"(record {{ states = {states}; initial = {self.state(m['initial'])}; transitions = {moves} }})"
+        moves = listed(self.move(*x.split('>')) for x in m['transitions'])
+        return f"own_model {self.state(m['initial'])} {states} {moves}"
 
-    def mode(self, r):
-        if r['mode'] == 'FULL_AUTO':
-            return 'modes.Full'
-        if r['mode'] == 'SEMI_AUTO':
-            return '(modes.Semi ' + listed(listed(self.instance(i) for i in x) for x in r['lists']) + ')'
-        entry = lambda e: f"({self.instance(e['instance'])}, {self.state(e['state'])})"
-        return '(modes.Custom ' + listed(listed(entry(e) for e in x) for x in r['maps']) + ')'
+    def move(self, start, end):
+        return f'({self.state(start)}, {self.state(end)})'
 
     def resource(self, r):
-        ideal = f"(record {{ replicas = {r['replicas']}; parts = {r['partitions']}; mode = {self.mode(r)} }})"
-        return f"(record {{ name = {self.name(r['name'])}; model = {self.number(self.model_number(r['model']))}; ideal = {ideal}; dropped = false }})"
+        shape = f"{self.name(r['name'])} {self.model_number(r['model'])} {r['replicas']}"
+        if r['mode'] == 'FULL_AUTO':
+            return f"taken_in_turn {shape} {r['partitions']}"
+        if r['mode'] == 'SEMI_AUTO':
+            return f'by_lists {shape} ' + listed(listed(str(self.instances.index(i)) for i in x) for x in r['lists'])
+        entry = lambda e: f"({self.instances.index(e['instance'])}, {self.states.index(e['state'])})"
+        return f'by_maps {shape} ' + listed(listed(entry(e) for e in x) for x in r['maps'])
 
     def rule(self, r):
         scope = 'scopes.' + r['scope'].capitalize()
-        move = f"({self.state(r['from'])}, {self.state(r['to'])})" if 'from' in r else None
-        return f"(record {{ scope = {scope}; transition = {option(move)}; limit = {r['limit']} }})"
+        move = self.move(r['from'], r['to']) if 'from' in r else None
+        return f"rule {scope} {option(move)} {r['limit']}"
 
     def failure(self, f):
         resource = [r['name'] for r in self.resources].index(f['resource'])
-        return (f"(record {{ instance = {self.instance(f['instance'])}; part = {self.part(resource, f['part'])}; "
-                f"make = {boolean('make' in f)}; number = {f['make'] if 'make' in f else f['run']} }})")
+        word = 'failed_make' if 'make' in f else 'failed_run'
+        return f"{word} {self.instances.index(f['instance'])} {resource} {f['part']} {f['make'] if 'make' in f else f['run']}"
 
     def spec(self):
-        d = self.described
-        text = lambda names: listed(f'codes "{n}"' for n in names)
-        return 'record {\n' + ''.join(f'  {k} = {v};\n' for k, v in [
-            ('instances', text(self.instances)), ('states', text(self.states)), ('resource_names', text(self.names)),
-            ('model_names', text(n for n, _ in self.models)), ('models', listed(self.model(m) for _, m in self.models)),
-            ('controllers', d.get('controllers', 1)), ('timeout', d.get('timeout', 30)),
-            ('rules', listed(self.rule(r) for r in d.get('throttles', []))),
-            ('resources', listed(self.resource(r) for r in self.resources)),
-            ('failures', listed(self.failure(f) for f in d.get('failures', [])))]) + '}'
-
-    def line(self, words):
-        i, c, k = self.instance, lambda w: self.number(int(w[1:]) - 1), words[0]
-        m = lambda w: self.number(int(w[1:]))
-        if k in ('join', 'beat', 'drain', 'undrain', 'expire', 'die', 'fetch', 'work'):
-            return f'asks.{k.capitalize()} {i(words[1])}'
-        if k in ('lead', 'stop', 'start', 'begin', 'send', 'post', 'pass'):
-            return f'asks.{k.capitalize()} {c(words[1])}'
-        if k in ('deliver', 'take', 'write', 'ack'):
-            return f'asks.{k.capitalize()} {i(words[1])} {m(words[2])}'
-        if k in ('settle', 'view', 'summary'):
-            return f'asks.{k.capitalize()}'
-        if k == 'tick':
-            return f'asks.Tick {words[1]}'
-        if k == 'read':
-            return f'asks.Read {c(words[1])} kinds.{words[2].capitalize()}'
-        if k == 'add':
-            mode = ['FULL_AUTO', 'SEMI_AUTO', 'CUSTOMIZED'].index(words[5])
-            return f'asks.Add {self.name(words[1])} {self.number(self.model_number(words[2]))} {words[3]} {words[4]} {mode}'
-        if k == 'drop':
-            return f'asks.Drop {self.name(words[1])}'
-        if k == 'list':
-            return f'asks.List {self.name(words[1])} {words[2]} ' + listed(i(w) for w in words[3:])
-        if k == 'map':
-            pair = lambda w: f"({i(w.split('=', 1)[0])}, {self.state(w.split('=', 1)[1])})"
-            return f'asks.Map {self.name(words[1])} {words[2]} ' + listed(pair(w) for w in words[3:])
-        if k == 'reset':
-            return f'asks.Reset {i(words[1])} {self.name(words[2])} {words[3]}'
-        if k == 'route':
-            return f'asks.Route {self.name(words[1])} {words[2]} {self.state(words[3])}'
-        raise SystemExit(f'row.py: {words}')
+        """The fields in which it differs from the bare description."""
+        d, fields = self.described, []
+        texts = lambda names: ' ∷ '.join([f'codes "{n}"' for n in names] + ['[]'])
+        items = lambda xs: '\n    ∷ '.join(list(xs)) + ' ∷ []'
+        if self.instances != ['n1', 'n2', 'n3']:
+            fields.append(('instances', texts(self.instances)))
+        if len(self.states) > len(STATES):
+            fields.append(('states', 'built_in_states ++ ' + texts(self.states[len(STATES):])))
+        if self.names:
+            fields.append(('resource_names', texts(self.names)))
+        if len(self.models) > len(BUILT_IN):
+            fields.append(('model_names', 'built_in_names ++ ' + texts(n for n, _ in self.models[3:])))
+            fields.append(('models', 'built_in ++ ' + items(self.model(m) for _, m in self.models[3:])))
+        if d.get('controllers', 1) != 2:
+            fields.append(('controllers', d.get('controllers', 1)))
+        if d.get('timeout', 30) != 30:
+            fields.append(('timeout', d['timeout']))
+        for field, member, write in [('rules', 'throttles', self.rule), ('resources', 'resources', self.resource),
+                                     ('failures', 'failures', self.failure)]:
+            if d.get(member):
+                fields.append((field, items(write(x) for x in d[member])))
+        if not fields:
+            return 'bare'
+        rows = ''.join(f'  {k} = {v};\n' for k, v in fields).splitlines()
+        return '\n'.join(['record bare {'] + [wrapped(row, ' ' * 6) for row in rows] + ['}'])
 
 
-USES = '''use Rattle.std.specs.Prelude.{◌≡◌, ℕ, Bool, true, false, List, [], ◌∷◌, Option, None, Some, Result, Ok, Err, codes}
-use Rattle.std.specs.Fmt.{digits}
-use Rattle.std.proofs.Common.{refl}
-use Rattle.hx_model.specs.declared.Bound.TheVariants as bounds
-use Rattle.hx_ideal.specs.declared.Mode.TheVariants as modes
-use Rattle.hx_cluster.specs.declared.description.Spec.{Spec}
-use Rattle.hx_cluster.specs.declared.description.Scope.TheVariants as scopes
-'''
-USES_OF_LINES = '''use Rattle.hx_script.specs.declared.ReadKind.TheVariants as kinds
-use Rattle.hx_script.specs.declared.What.TheVariants as asks
-use Rattle.hx_script.specs.declared.Line.{Line}
-use Rattle.hx_sim.specs.Scripts.{sim_text}
-'''
-USES_OF_LOG = '''use Rattle.hx_check.specs.Judge.{verdict_of, verdict_text}
-'''
-USES_OF_FAULT = '''use Rattle.hx_script.specs.declared.faults.ScriptKind.TheVariants as kinds
-use Rattle.hx_script.specs.Grammar.{script_of}
-'''
+WORDS = ['built_in', 'built_in_states', 'built_in_names', 'bare', 'own_model', 'by_lists', 'by_maps', 'taken_in_turn', 'rule',
+         'failed_make', 'failed_run', 'output', 'fault', 'verdict']
+PRELUDE = [('[]', '[]'), ('∷', '◌∷◌'), ('++', '◌++◌'), ('None', 'None'), ('Some', 'Some')]
+QUALIFIED = [('bounds', 'hx_model.specs.declared.Bound.TheVariants'),
+             ('scopes', 'hx_cluster.specs.declared.description.Scope.TheVariants'),
+             ('kinds', 'hx_script.specs.declared.faults.ScriptKind.TheVariants')]
 
 
-def quoted(text):
-    return '"' + text.replace('\\', '\\\\').replace('\n', '\\n').replace('"', '\\"') + '"'
+def words_in(text):
+    """The words of theorems, without their comments and quoted texts."""
+    told = re.sub(r'"(?:[^"\\]|\\.)*"', '', re.sub(r'(?m)^--.*', '', text))
+    return set(re.findall(r'[^\s(){};,]+', told))
 
 
-def bytes_of(text):
-    return f'codes {quoted(text)}' if text else '[]'
+def uses_of_terms(text):
+    """The lines that import what the terms of descriptions and of faults use."""
+    told = words_in(text)
+    lines = [f'{module} as {name}' for name, module in QUALIFIED if any(word.startswith(name + '.') for word in told)]
+    shared = [word for word in WORDS if word in told]
+    lines += ['hx_rows.proofs.Fixtures.{' + ', '.join(shared) + '}'] if shared else []
+    return ''.join(f'use Rattle.{line}\n' for line in lines)
 
 
-def script_lines(reader, script):
-    lines = []
-    for n, text in enumerate(script.split('\n'), 1):
-        words = [w for w in text.split(' ') if w]
-        if words and not words[0].startswith('#'):
-            lines.append(f'(record {{ number = {n}; what = {reader.line(words)} }})')
-    return lines
+def uses(text):
+    """The lines that import what a file of theorems uses."""
+    told = words_in(text)
+    prelude = ['◌≡◌'] + [name for sign, name in PRELUDE if sign in told] + ['codes']
+    lines = ['std.specs.Prelude.{' + ', '.join(prelude) + '}', 'std.specs.Fmt.{digits}', 'std.proofs.Common.{refl}',
+             'hx_cluster.specs.declared.description.Spec.{Spec}']
+    return ''.join(f'use Rattle.{line}\n' for line in lines) + uses_of_terms(text)
 
 
-def text_lines(text):
-    lines = text.split('\n')
-    return [bytes_of(line) for line in (lines if lines[-1] else lines[:-1])]
+def wrapped(line, indent):
+    """A line of a term, broken between the items of its lists where it is too long."""
+    rows, rest = [], line
+    while len(rest) > 100 and ' ∷ ' in rest[len(indent) + 4:100]:
+        at = rest.rindex(' ∷ ', 0, 100)
+        rows.append(rest[:at])
+        rest = indent + rest[at + 1:]
+    return '\n'.join(rows + [rest])
 
 
-def theorem(reader, script, output):
-    """What a theorem uses, the type and the items of the lines that it speaks of, and its two sides."""
+class Reader:
+    """Names of a description become numbers, as the program numbers them."""
+
+    def __init__(self, text):
+        self.described = DEMO if text.strip() == 'builtin demo' else json.loads(text)
+        self.instances = sorted(self.described['instances'])
+        self.states = list(STATES)
+        self.models = [(m['name'], m) for m in BUILT_IN]
+        for m in self.described.get('models', []):
+            for s in m['states']:
+                if s['name'] not in self.states:
+                    self.states.append(s['name'])
+            self.models.append((m['name'], m))
+        self.resources = self.described.get('resources', [])
+        self.names = []
+        for r in self.resources:
+            self.name(r['name'])
+
+    def name(self, name):
+        if name not in self.names:
+            self.names.append(name)
+        return self.names.index(name)
+
+    def state(self, name):
+        return self.states.index(name)
+
+    def model_number(self, name):
+        return [n for n, _ in self.models].index(name)
+
+    def bound(self, text):
+        return {'R': 'bounds.Replicas', 'N': 'bounds.Live', '-1': 'bounds.Free'}.get(text, f'bounds.Count {text}')
+
+    def model(self, m):
+        states = listed(f"({self.state(s['name'])}, {self.bound(s['bound'])})" for s in m['states'])
+        moves = listed(self.move(*x.split('>')) for x in m['transitions'])
+        return f"own_model {self.state(m['initial'])} {states} {moves}"
+
+    def move(self, start, end):
+        return f'({self.state(start)}, {self.state(end)})'
+
+    def resource(self, r):
+        shape = f"{self.name(r['name'])} {self.model_number(r['model'])} {r['replicas']}"
+        if r['mode'] == 'FULL_AUTO':
+            return f"taken_in_turn {shape} {r['partitions']}"
+        if r['mode'] == 'SEMI_AUTO':
+            return f'by_lists {shape} ' + listed(listed(str(self.instances.index(i)) for i in x) for x in r['lists'])
+        entry = lambda e: f"({self.instances.index(e['instance'])}, {self.states.index(e['state'])})"
+        return f'by_maps {shape} ' + listed(listed(entry(e) for e in x) for x in r['maps'])
+
+    def rule(self, r):
+        scope = 'scopes.' + r['scope'].capitalize()
+        move = self.move(r['from'], r['to']) if 'from' in r else None
+        return f"rule {scope} {option(move)} {r['limit']}"
+
+    def failure(self, f):
+        resource = [r['name'] for r in self.resources].index(f['resource'])
+        word = 'failed_make' if 'make' in f else 'failed_run'
+        return f"{word} {self.instances.index(f['instance'])} {resource} {f['part']} {f['make'] if 'make' in f else f['run']}"
+
+    def spec(self):
+        """The fields in which it differs from the bare description."""
+        d, fields = self.described, []
+        texts = lambda names: ' ∷ '.join([f'codes "{n}"' for n in names] + ['[]'])
+        items = lambda xs: '\n    ∷ '.join(list(xs)) + ' ∷ []'
+        if self.instances != ['n1', 'n2', 'n3']:
+            fields.append(('instances', texts(self.instances)))
+        if len(self.states) > len(STATES):
+            fields.append(('states', 'built_in_states ++ ' + texts(self.states[len(STATES):])))
+        if self.names:
+            fields.append(('resource_names', texts(self.names)))
+        if len(self.models) > len(BUILT_IN):
+            fields.append(('model_names', 'built_in_names ++ ' + texts(n for n, _ in self.models[3:])))
+            fields.append(('models', 'built_in ++ ' + items(self.model(m) for _, m in self.models[3:])))
+        if d.get('controllers', 1) != 2:
+            fields.append(('controllers', d.get('controllers', 1)))
+        if d.get('timeout', 30) != 30:
+            fields.append(('timeout', d['timeout']))
+        for field, member, write in [('rules', 'throttles', self.rule), ('resources', 'resources', self.resource),
+                                     ('failures', 'failures', self.failure)]:
+            if d.get(member):
+                fields.append((field, items(write(x) for x in d[member])))
+        if not fields:
+            return 'bare'
+        rows = ''.join(f'  {k} = {v};\n' for k, v in fields).splitlines()
+        return '\n'.join(['record bare {'] + [wrapped(row, ' ' * 6) for row in rows] + ['}'])
+
+
+WORDS = ['built_in', 'built_in_states', 'built_in_names', 'bare', 'own_model', 'by_lists', 'by_maps', 'taken_in_turn', 'rule',
+         'failed_make', 'failed_run', 'output', 'fault', 'verdict']
+PRELUDE = [('[]', '[]'), ('∷', '◌∷◌'), ('++', '◌++◌'), ('None', 'None'), ('Some', 'Some')]
+QUALIFIED = [('bounds', 'hx_model.specs.declared.Bound.TheVariants'),
+             ('scopes', 'hx_cluster.specs.declared.description.Scope.TheVariants'),
+             ('kinds', 'hx_script.specs.declared.faults.ScriptKind.TheVariants')]
+
+
+def uses(text):
+    """The lines that import what a file of theorems uses."""
+    words = re.sub(r'"(?:[^"\\]|\\.)*"', '', re.sub(r'(?m)^--.*', '', text))
+    told = set(re.findall(r'[^\s(){};,]+', words))
+    prelude = ['◌≡◌'] + [name for sign, name in PRELUDE if sign in told] + ['codes']
+    lines = ['std.specs.Prelude.{' + ', '.join(prelude) + '}', 'std.specs.Fmt.{digits}', 'std.proofs.Common.{refl}',
+             'hx_cluster.specs.declared.description.Spec.{Spec}']
+    lines += [f'{module} as {name}' for name, module in QUALIFIED if any(word.startswith(name + '.') for word in told)]
+    shared = [word for word in WORDS if word in told]
+    lines += ['hx_rows.proofs.Fixtures.{' + ', '.join(shared) + '}'] if shared else []
+    return ''.join(f'use Rattle.{line}\n' for line in lines)
+
+
+def claim(script, output):
+    """What a theorem computes of the script, and the text or the fault that it finds."""
     if output.startswith(('lawful ', 'unlawful ')):
-        return USES_OF_LOG, 'List (List ℕ)', text_lines(script), 'verdict_text (verdict_of the_spec the_lines)', bytes_of(output)
+        return 'verdict', f'codes {quoted(output)}'
     if output.startswith('script '):
         _, line, kind = output.split()
         variant = 'kinds.' + ''.join(part.capitalize() for part in kind.split('-'))
-        return USES_OF_FAULT, 'List (List ℕ)', text_lines(script), 'script_of the_lines the_spec', f'Err (record {{ line = {line}; kind = {variant} }})'
-    return USES_OF_LINES, 'List Line', script_lines(reader, script), 'sim_text the_spec the_lines', bytes_of(output)
+        return 'fault', f'Some (record {{ line = {line}; kind = {variant} }})'
+    return 'output', broken(stepwise(output), '    ')
 
 
 def read(case, name):
@@ -207,17 +336,19 @@ def read(case, name):
         return f.read().replace('\r\n', '\n')
 
 
-def main():
-    case, name = sys.argv[1], sys.argv[2]
-    sentence = sys.argv[3] if len(sys.argv) > 3 else name.replace('_', ' ')
+def theorem(case, name, sentence):
     raw = read(case, 'input')
     described, script = raw.split('---\n', 1) if '---\n' in raw else (raw.rsplit('---', 1)[0], '')
-    reader = Reader(described)
-    uses, kind, lines, found, wanted = theorem(reader, script, read(case, 'output'))
-    print(USES + uses)
-    print(f'abbrev the_spec : Spec\nthe_spec = {reader.spec()}\n')
-    print(f'abbrev the_lines : {kind}\nthe_lines = ' + '\n    ∷ '.join(lines + ['[]']) + '\n')
-    print(f'-- {sentence}\npub {name} : {found} ≡ {wanted}\nunfolding digits\n{name} = refl')
+    word, found = claim(script, read(case, 'output'))
+    return (f'-- {sentence}\nabbrev {name}_spec : Spec\n{name}_spec = {Reader(described).spec()}\n\n'
+            f'pub {name} : {word} {name}_spec (\n    {broken(filled(script), "    ")})\n    ≡ {found}\n'
+            f'unfolding digits\n{name} = refl\n')
+
+
+def main():
+    cases = [argument.split('=', 2) for argument in sys.argv[2:]]
+    text = '\n'.join(theorem(case, name, sentence) for case, name, sentence in cases)
+    print(f'-- {sys.argv[1]}\n{uses(text)}\n{text}', end='')
 
 
 if __name__ == '__main__':

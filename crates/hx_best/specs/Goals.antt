@@ -40,7 +40,8 @@ is_asked view s p = list_any (is_flag s p) view.ideals.resets
 
 -- an instance can take a state of a part where it is live and not drained, and its replica isn't in ERROR
 abbrev pub is_eligible : View → PartId → InstanceId → Bool
-is_eligible view p i = option_map_or (λ s. not (is_drained view.ideals.drained i) && not (is_in_error view s p)) (session_in view.live i) false
+is_eligible view p i =
+    option_map_or (λ s. not (is_drained view.ideals.drained i) && not (is_in_error view s p)) (session_in view.live i) false
 
 -- how many can before an instance of the list
 abbrev pub eligible_before : View → PartId → List InstanceId → InstanceId → ℕ

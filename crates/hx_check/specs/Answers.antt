@@ -86,7 +86,8 @@ stepped_if c agrees step = where_so (agrees && is_in_range c step && is_none (re
 -- a begin of the leader, whose answer has these numbers
 abbrev pub begun_if : Cluster → ControllerId → Epoch → PassNo → Option Event
 begun_if c k epoch pass =
-    where_so (has_controller c k && is_leader k c.leader && ((begun_of c k).epoch.0 == epoch.0) && ((begun_of c k).pass.0 == pass.0)) (events.Begin k (begun_of c k))
+    where_so (has_controller c k && is_leader k c.leader && ((begun_of c k).epoch.0 == epoch.0) && ((begun_of c k).pass.0 == pass.0))
+    (events.Begin k (begun_of c k))
 
 -- a dispatch, of which each proposal gets the answer that the log gives it
 abbrev pub proposal_of : LogMove → Proposal
@@ -105,11 +106,13 @@ dispatched_if c k epoch pass moves =
 
 -- a post of the rows that the controller was shown
 abbrev pub posted_if : Cluster → ControllerId → Epoch → ℕ → List Seen → Option Event
-posted_if c k epoch n rows = where_so (has_controller c k && is_epoch c epoch && (length rows == n) && list_all (is_postable c) rows) (events.Post k epoch rows)
+posted_if c k epoch n rows =
+    where_so (has_controller c k && is_epoch c epoch && (length rows == n) && list_all (is_postable c) rows) (events.Post k epoch rows)
 
 -- a fetch, of an instance's session and the number of its messages
 abbrev pub fetched_if : Cluster → InstanceId → Option SessionId → ℕ → Option Event
-fetched_if c i s n = where_so (has_instance c i && option_eq same_session s (session_of c i) && (length (messages_for c s) == n)) (events.Fetch i s n)
+fetched_if c i s n =
+    where_so (has_instance c i && option_eq same_session s (session_of c i) && (length (messages_for c s) == n)) (events.Fetch i s n)
 
 -- what each entry tells
 abbrev pub answered_in : Standing → Cluster → LogEntry → Option Event
@@ -117,10 +120,12 @@ answered_in w c (logs.Line n) = where_so (is_later c.line n) (events.Line n)
 answered_in w c (logs.Join i s) = stepped_if c (s.0 == c.next_session) (steps.Join i)
 answered_in w c (logs.End i s) = stepped_if c (is_session_now c i s) (steps.End i)
 answered_in w c (logs.Beat i s) = stepped_if c (is_session_now c i s) (steps.Beat i)
-answered_in w c (logs.Tick n ended) = stepped_if c (pointwise same_ended ended (map (ended_told (shown_of c.live)) (ended_by c n))) (steps.Tick n)
+answered_in w c (logs.Tick n ended) =
+    stepped_if c (pointwise same_ended ended (map (ended_told (shown_of c.live)) (ended_by c n))) (steps.Tick n)
 answered_in w c (logs.Drain i) = stepped_if c true (steps.Drain i)
 answered_in w c (logs.Undrain i) = stepped_if c true (steps.Undrain i)
-answered_in w c (logs.Add name r model replicas parts mode) = stepped_if c (r.0 == length c.resources) (steps.Add name model (bare_ideal replicas parts mode))
+answered_in w c (logs.Add name r model replicas parts mode) =
+    stepped_if c (r.0 == length c.resources) (steps.Add name model (bare_ideal replicas parts mode))
 answered_in w c (logs.Drop name r) = stepped_if c (is_named c name r) (steps.Drop r)
 answered_in w c (logs.List p list) = stepped_if c (is_part c p) (steps.SetList (part_of p) list)
 answered_in w c (logs.Map p entries) = stepped_if c (is_part c p) (steps.SetMap (part_of p) entries)

@@ -1,33 +1,55 @@
--- What a history leaves: the cluster, each controller's turn, and the messages that fetches showed.
-use Rattle.std.specs.Prelude.{ℕ, ◌+◌, List, [], ◌∷◌, ◌++◌, replicate, slice_index_or}
+-- What a history leaves: the cluster, each controller's turn, and how far each session's messages were fetched.
+use Rattle.std.specs.Prelude.{◌≡◌, ℕ, ◌+◌, Bool, true, false, ◌==◌, List, [], ◌∷◌, Some, replicate, slice_index_or, nat_lt, find, if◌then◌else◌}
+use Rattle.std.specs.List.{list_any}
+use Rattle.std.specs.Option.{option_map_or}
 use Rattle.hx_ids.specs.declared.ControllerId.{ControllerId}
+use Rattle.hx_ids.specs.declared.SessionId.{SessionId}
+use Rattle.hx_ids.specs.declared.MsgId.{MsgId}
 use Rattle.hx_cluster.specs.declared.description.Spec.{Spec}
-use Rattle.hx_cluster.specs.declared.state.Message.{Message}
 use Rattle.hx_cluster.specs.declared.state.Cluster.{Cluster}
 use Rattle.hx_cluster.specs.declared.happenings.Event.{Event}
+use Rattle.hx_cluster.specs.declared.happenings.Event.TheVariants as events
 use Rattle.hx_cluster.specs.Steps.{opening}
-use Rattle.hx_cluster.specs.Events.{next}
+use Rattle.hx_cluster.specs.Messages.{has_id}
+use Rattle.hx_cluster.specs.Events.{next, replay, can_take}
 use Rattle.hx_pass.specs.Turns.{Turn, idle_turn, turn_after}
-use Rattle.hx_pass.specs.Lawful.{shown_by}
+use Rattle.hx_pass.specs.Lawful.{fetched_from}
+
+-- a session that fetched, and the next message number at its last fetch
+pub record Mark : Type 0 where
+  pub session : SessionId
+  pub next : ℕ
 
 pub record Standing : Type 0 where
   pub cluster : Cluster
   pub turns : List Turn
-  pub fetched : List Message
+  pub marks : List Mark
 
 abbrev pub opening_standing : Spec → Standing
-opening_standing spec = record { cluster = opening spec; turns = replicate spec.controllers idle_turn; fetched = [] }
+opening_standing spec = record { cluster = opening spec; turns = replicate spec.controllers idle_turn; marks = [] }
 
 -- the turns after an event, of the controllers from a number on
 abbrev pub turns_after : Cluster → Event → ℕ → List Turn → List Turn
 turns_after c e k [] = []
 turns_after c e k (t ∷ ts) = turn_after c (record { 0 = k }) t e ∷ turns_after c e (k + 1) ts
 
+-- a fetch moves its session's mark
+abbrev pub is_mark_of : SessionId → Mark → Bool
+is_mark_of s m = m.session.0 == s.0
+
+abbrev pub with_mark : List Mark → Mark → List Mark
+with_mark [] m = m ∷ []
+with_mark (x ∷ xs) m = if is_mark_of m.session x then m ∷ xs else x ∷ with_mark xs m
+
+abbrev pub marks_after : Cluster → List Mark → Event → List Mark
+marks_after c marks (events.Fetch i (Some s) n) = with_mark marks (record { session = s; next = c.next_msg })
+marks_after c marks _ = marks
+
 abbrev pub stood_after : Standing → Event → Standing
 stood_after w e = record {
   cluster = next w.cluster e;
   turns = turns_after w.cluster e 0 w.turns;
-  fetched = w.fetched ++ shown_by w.cluster e;
+  marks = marks_after w.cluster w.marks e;
 }
 
 -- what all events of a history leave
@@ -40,3 +62,14 @@ standing_of spec h = stood_from (opening_standing spec) h
 
 abbrev pub turn_in : Standing → ControllerId → Turn
 turn_in w k = slice_index_or w.turns k.0 idle_turn
+
+-- whether a number is below its session's mark
+abbrev pub is_marked : Standing → SessionId → MsgId → Bool
+is_marked w s id = option_map_or (λ m. nat_lt id.0 m.next) (find (is_mark_of s) w.marks) false
+
+-- once a message can be taken, a fetch showed it exactly where its number is below the mark of its session: this is to be shown of
+-- every legal history
+abbrev pub MarksTell : Spec → List Event → Type 0
+MarksTell spec h =
+    (s : SessionId) → (id : MsgId) → can_take (replay (opening spec) h) s id ≡ true →
+    is_marked (standing_of spec h) s id ≡ list_any (has_id s id) (fetched_from (opening spec) h)

@@ -16,7 +16,7 @@ use Rattle.hx_cluster.specs.Steps.{is_leader}
 use Rattle.hx_cluster.specs.Reads.{pass_of}
 use Rattle.hx_cluster.specs.Events.{begun_of, dispatched_of, is_epoch, is_pass}
 use Rattle.hx_pass.specs.Plans.{plan}
-use Rattle.hx_pass.specs.Views.{is_well_formed}
+use Rattle.hx_cluster.specs.Views.{is_well_formed}
 use Rattle.hx_pass.specs.Turns.{Call, Live, Mail, States, Ideals, Send, Post, Turn, turn_after, posted_of}
 use Rattle.hx_control.specs.declared.PassOutcome.{PassOutcome}
 use Rattle.hx_control.specs.declared.PassOutcome.TheVariants as ends

@@ -97,7 +97,8 @@ pub record Stretches : Type 0 where
   pub lines : List Stretch
 
 abbrev pub with_event : Cluster → Event → Stretches → Stretches
-with_event c (events.Line n) t = record { before = []; lines = (record { number = n; cluster = next c (events.Line n); events = t.before }) ∷ t.lines }
+with_event c (events.Line n) t =
+    record { before = []; lines = (record { number = n; cluster = next c (events.Line n); events = t.before }) ∷ t.lines }
 with_event c e t = record t { before = e ∷ t.before }
 
 abbrev pub stretches : Cluster → List Event → Stretches

@@ -47,7 +47,8 @@ at_most n test h = nat_le (count test h) n
 -- a controller's calls, in n rounds with so many instances
 abbrev pub is_thrifty_controller : ℕ → ℕ → List Event → ℕ → Bool
 is_thrifty_controller n instances h k =
-    at_most n (is_begin k) h && at_most n (is_live_read k) h && at_most n (is_ideals_read k) h && at_most n (is_dispatch k) h && at_most n (is_post k) h
+    at_most n (is_begin k) h && at_most n (is_live_read k) h && at_most n (is_ideals_read k) h
+    && at_most n (is_dispatch k) h && at_most n (is_post k) h
     && at_most (n * instances) (is_mail_read k) h && at_most (n * instances) (is_states_read k) h
 
 -- the partitions of all resources, of those that were added too

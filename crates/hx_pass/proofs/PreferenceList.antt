@@ -4,7 +4,7 @@ use Rattle.hx_ideal.specs.declared.Mode.TheVariants as modes
 use Rattle.hx_cluster.specs.declared.planning.View.{View}
 use Rattle.hx_best.specs.Targets.{all_targets}
 use Rattle.hx_pass.specs.Plans.{all_candidates}
-use Rattle.hx_pass.specs.Views.{is_well_formed}
+use Rattle.hx_cluster.specs.Views.{is_well_formed}
 use Rattle.hx_pass.proofs.Examples.{n, s, master, slave, offline, models, resource, target, candidate}
 
 abbrev view : View

@@ -8,7 +8,7 @@ use Rattle.hx_cluster.specs.declared.planning.View.{View}
 use Rattle.hx_cluster.specs.declared.planning.Entry.{Entry}
 use Rattle.hx_cluster.specs.declared.planning.Finding.TheVariants as findings
 use Rattle.hx_pass.specs.Plans.{plan}
-use Rattle.hx_pass.specs.Views.{is_well_formed}
+use Rattle.hx_cluster.specs.Views.{is_well_formed}
 use Rattle.hx_pass.proofs.Examples.{n, s, offline, online, models, resource, db, target, candidate}
 
 abbrev view : View

@@ -25,7 +25,8 @@ pub record IsFull (c : Cluster) (t : Target) (f : Full) : Type 0 where
   pub count : f.count ≡ count_of c t.part f.candidate.to
   pub bound : limit_at c t.part f.candidate.to ≡ Some f.bound
   pub reached : f.bound ≤ f.count
-  pub holders : (s : SessionId) → list_any (λ h. h.0 == s.0) f.holders ≡ is_live c.live s && has_end c.rows c.mail t.part f.candidate.to s
+  pub holders : (s : SessionId) →
+      list_any (λ h. h.0 == s.0) f.holders ≡ is_live c.live s && has_end c.rows c.mail t.part f.candidate.to s
   pub each : length f.holders ≡ f.count
 
 -- a replica is at its goal, or in ERROR without a reset, or waits for a state that is full
@@ -33,9 +34,7 @@ abbrev pub IsReason : Cluster → Target → Finding → Type 0
 IsReason c t findings.AtBest = is_at_goal (model_of c.models c.resources t.part.resource) t ≡ true
 IsReason c t findings.Failed = is_failed (view_at c) t ≡ true
 IsReason c t (findings.Full f) = IsFull c t f
-IsReason c t (findings.Pending id) = ⊥
-IsReason c t findings.Sent = ⊥
-IsReason c t (findings.Held h) = ⊥
+IsReason c t _ = ⊥
 
 -- a report has an entry for each replica and each wanted place of a live session, and each entry says why
 pub record IsExplained (c : Cluster) (report : Report) : Type 0 where

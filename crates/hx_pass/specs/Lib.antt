@@ -1,5 +1,4 @@
 pub mod Plans
-pub mod Views
 pub mod Turns
 pub mod Lawful
 pub mod Explained

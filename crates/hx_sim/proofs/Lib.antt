@@ -1,0 +1,3 @@
+mod Brought
+mod BroughtByTurns
+mod BroughtByLines

@@ -18,7 +18,7 @@ use Rattle.hx_print.specs.Texts.{accept_text}
 use Rattle.hx_handler.specs.Counts.{count_up, tried_of}
 use Rattle.hx_replicas.specs.declared.DeliverFault.{DeliverFault}
 use Rattle.hx_replicas.specs.declared.DeliverFault.TheVariants as faults
-use Rattle.hx_replicas.specs.Participants.{Participant, slot_of, deliver_fault, accept, accepted_by, accepted_all, makes, leaves_error, made_ready, hand_out, finish, adopt}
+use Rattle.hx_replicas.specs.Participants.{slot_of, deliver_fault, accept, accepted_by, accepted_all, makes, leaves_error, made_ready, hand_out, finish, adopt}
 use Rattle.hx_sim.specs.World.{Job, State, participant_of, with_participant, with_jobs, with_bag, answer_of, answered}
 use Rattle.hx_sim.specs.Runs.{Deed, Voice, done, and_then, make, happen, note, say_if_loud, for_each}
 

@@ -1,6 +1,6 @@
 -- What an operation on a world comes to: the items that it brought, and the world as it then is. It goes on, or it stops because the
 -- history has no room.
-use Rattle.std.specs.Prelude.{ℕ, ◌+◌, List, [], ◌∷◌, ◌++◌, if◌then◌else◌, nat_lt}
+use Rattle.std.specs.Prelude.{ℕ, ◌+◌, Bool, true, false, List, [], ◌∷◌, ◌++◌, if◌then◌else◌, nat_lt}
 use Rattle.hx_cluster.specs.declared.happenings.Event.{Event}
 use Rattle.hx_cluster.specs.Events.{next}
 use Rattle.hx_cluster.specs.Weight.{weight_of}
@@ -23,6 +23,19 @@ gives x answer = GoesOn [] x answer
 
 abbrev pub done : State → Deed
 done x = gives x tt
+
+-- the items that it brought, the state that it left, and whether it stopped
+abbrev pub items_of : {A : Type 0} → Run A → List Item
+items_of (GoesOn items x answer) = items
+items_of (Stops items x) = items
+
+abbrev pub state_of : {A : Type 0} → Run A → State
+state_of (GoesOn items x answer) = x
+state_of (Stops items x) = x
+
+abbrev pub is_stopped : {A : Type 0} → Run A → Bool
+is_stopped (GoesOn items x answer) = false
+is_stopped (Stops items x) = true
 
 -- what comes after items
 abbrev pub after_items : {A : Type 0} → List Item → Run A → Run A

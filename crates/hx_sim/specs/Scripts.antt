@@ -1,7 +1,5 @@
 -- A whole script: what each line does, what that brings, and the text and the history that come of it.
-use Rattle.std.specs.Prelude.{◌≡◌, ℕ, ◌+◌, Bool, true, false, not, ◌==◌, ◌&&◌, List, [], ◌∷◌, ◌++◌, map, filter, length, Option, None, Some}
-use Rattle.std.specs.List.{sum_by}
-use Rattle.hx_lists.specs.Lists.{count}
+use Rattle.std.specs.Prelude.{◌≡◌, ℕ, ◌+◌, Bool, ◌==◌, ◌&&◌, List, [], ◌++◌, map, filter, length, Option, None, Some}
 use Rattle.hx_ids.specs.declared.InstanceId.{InstanceId}
 use Rattle.hx_ids.specs.declared.ResourceId.{ResourceId}
 use Rattle.hx_ids.specs.declared.PartId.{PartId}
@@ -18,18 +16,18 @@ use Rattle.hx_cluster.specs.declared.happenings.Event.TheVariants as events
 use Rattle.hx_cluster.specs.Ends.{part_eq}
 use Rattle.hx_cluster.specs.Steps.{opening, refusal_of, did_of, newest}
 use Rattle.hx_print.specs.declared.Note.TheVariants as notes
-use Rattle.hx_print.specs.Texts.{view_line, view_of_part, viewed_parts, route_text, summary_text, history_full_text}
+use Rattle.hx_print.specs.Texts.{view_line, view_of_part, viewed_parts, route_text, history_full_text}
 use Rattle.hx_script.specs.declared.What.{What}
 use Rattle.hx_script.specs.declared.What.TheVariants as asks
 use Rattle.hx_script.specs.declared.Line.{Line}
 use Rattle.hx_script.specs.Asked.{part_at, step_asked}
-use Rattle.hx_control.specs.Steps.{is_sent}
 use Rattle.hx_sim.specs.World.{World, State, Answered, opening_world, told_by}
 use Rattle.hx_sim.specs.Items.{Item, events_in, items_text}
-use Rattle.hx_sim.specs.Runs.{Run, Deed, GoesOn, Stops, Voice, done, and_then, happen, say, note, for_each}
+use Rattle.hx_sim.specs.Runs.{Deed, GoesOn, Stops, Voice, items_of, is_stopped, done, and_then, happen, say, note, for_each}
 use Rattle.hx_sim.specs.Turns.{do_begin, do_read, do_send, do_post, do_pass, without_outcome}
-use Rattle.hx_sim.specs.Jobs.{adopt_in, do_fetch, do_deliver, do_take, do_write, do_ack, do_work, is_failed}
+use Rattle.hx_sim.specs.Jobs.{adopt_in, do_fetch, do_deliver, do_take, do_write, do_ack, do_work}
 use Rattle.hx_sim.specs.Settles.{do_settle}
+use Rattle.hx_sim.specs.Summaries.{summary_of}
 
 -- a step of the cluster
 abbrev pub stepped : Voice → Admin → Option StepFault → State → Deed
@@ -73,28 +71,7 @@ route_on v index t (Some r) x = say_route (part_at index r) t (routed x.world.cl
 abbrev pub do_route : Voice → ℕ → ℕ → StateId → State → Deed
 do_route v name index t x = route_on v index t (newest x.world.cluster name) x
 
--- what happened so far: messages sent, writes by outcome, joins, and sessions that ended
-abbrev pub sent_in : Event → ℕ
-sent_in (events.Dispatch k epoch pass proposals answer) = count is_sent answer.placed
-sent_in _ = 0
-
-abbrev pub is_write : (Outcome → Bool) → Event → Bool
-is_write test (events.Write s id outcome) = test outcome
-is_write test _ = false
-
-abbrev pub joined_in : Event → ℕ
-joined_in (events.Admin (steps.Join i) did) = 1
-joined_in _ = 0
-
-abbrev pub ended_in : Event → ℕ
-ended_in (events.Admin (steps.End i) did) = 1
-ended_in (events.Admin step (dids.Ended sessions)) = length sessions
-ended_in _ = 0
-
-abbrev pub summary_of : List Event → List ℕ
-summary_of h =
-    summary_text (sum_by sent_in h) (count (is_write (λ o. not (is_failed o))) h) (count (is_write is_failed) h) (sum_by joined_in h) (sum_by ended_in h)
-
+-- the counts of all that happened so far
 abbrev pub do_summary : State → Deed
 do_summary x = say 1 (summary_of x.world.history) x
 
@@ -147,19 +124,7 @@ opening_state spec = record { world = opening_world spec most_weight; answers = 
 abbrev pub sim_run : Spec → List Line → Deed
 sim_run spec lines = do_script lines (opening_state spec)
 
--- what a run brought, the world that it left, and what it adds at its end: a history without room ends it
-abbrev pub items_of : Deed → List Item
-items_of (GoesOn items x answer) = items
-items_of (Stops items x) = items
-
-abbrev pub state_of : Deed → State
-state_of (GoesOn items x answer) = x
-state_of (Stops items x) = x
-
-abbrev pub is_stopped : Deed → Bool
-is_stopped (GoesOn items x answer) = false
-is_stopped (Stops items x) = true
-
+-- what a run prints, and what it adds at its end: a history without room ends it
 abbrev pub end_text : Deed → List ℕ
 end_text (GoesOn items x answer) = []
 end_text (Stops items x) = history_full_text x.world.weight

@@ -29,7 +29,8 @@ enough_rounds c =
     let replicas = length c.live * all_parts c.resources in
     (2 * replicas + 2) * (replicas * (most_states c.models + 2) + 2)
 
--- what a settle came to: how many rounds there were, and the report of the turn that settled
+-- what a settle came to: how many rounds there were, and the report of the turn that settled. It has one wherever the settle goes on to
+-- its end, since these rounds are enough
 pub record Settled : Type 0 where
   pub passes : ℕ
   pub report : Option Report

@@ -61,12 +61,12 @@ controller_of w k = slice_index_or w.controllers k.0 (idle_controller k)
 abbrev pub participant_of : World → InstanceId → Participant
 participant_of w i = slice_index_or w.participants i.0 new_participant
 
--- how makings and runs of handlers end: as the list of each participant says; or as they were answered, in order. None is left where
+-- how makings and runs of handlers end: as the list of each participant says; or as they were answered, in order. One is missing where
 -- more of them ended than were answered
 pub data Answers : Type 0 where
   Told : List (List Failure) → Answers
   Answered : List Outcome → Answers
-  None_left : Answers
+  Missing : Answers
 
 abbrev pub told_outcome : Bool → Outcome
 told_outcome fails = if fails then outcomes.Failed else outcomes.Ok
@@ -80,7 +80,7 @@ answer_of _ i p make k = outcomes.Ok
 abbrev pub rest_of : Answers → Answers
 rest_of (Told lists) = Told lists
 rest_of (Answered (o ∷ os)) = Answered os
-rest_of _ = None_left
+rest_of _ = Missing
 
 -- the list of each instance of a description
 abbrev pub told_by : Spec → Answers
