@@ -18,6 +18,7 @@ use Rattle.hx_ideal.specs.declared.kinds.ModeKind.TheVariants as modes
 use Rattle.hx_text.specs.Spellings.{is_name, number_of}
 use Rattle.hx_text.specs.Lines.{words_of}
 use Rattle.hx_cluster.specs.declared.description.Spec.{Spec}
+use Rattle.hx_cluster.specs.Valid.{is_within}
 use Rattle.hx_script.specs.declared.What.{What}
 use Rattle.hx_script.specs.declared.What.TheVariants as asks
 use Rattle.hx_script.specs.declared.Line.{Line}
@@ -28,7 +29,7 @@ use Rattle.hx_script.specs.declared.faults.ScriptKind.TheVariants as kinds
 use Rattle.hx_script.specs.Modes.{mode_number, mode_numbered}
 use Rattle.hx_script.specs.Grammar.{map_ok, one_word, two_words, three_words, five_words, two_and_more, instance_word, resource_word, model_word, state_word, name_word, in_range, number_word, part_word, part_words, numbered_by, controller_word, message_word, mode_word, read_kind_word, pair_word, all_words, instance_alone, controller_alone, instance_and_message, tick_line, add_line, drop_line, list_line, map_line, reset_line, read_line, route_line, bare_line, what_of, spec_with}
 use Rattle.hx_script.specs.LineTexts.{IsAsked}
-use Rattle.hx_script.specs.Ranges.{is_within, has_instance, has_state, has_entry, has_model, has_controller, has_resource_name, is_part, is_message, is_in_range, is_line_in_range}
+use Rattle.hx_script.specs.Ranges.{has_instance, has_state, has_entry, has_model, has_controller, has_resource_name, is_part, is_message, is_in_range, is_line_in_range}
 use Rattle.hx_script.proofs.WordsAgain.{map_ok_from, then_ok_from, or_fault_from, option_map_from, pair_split}
 use Rattle.hx_script.proofs.FormsAgain.{five_from, interned_within}
 use Rattle.hx_script.proofs.LinesAgain.{verb_line}

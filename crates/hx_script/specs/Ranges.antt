@@ -1,5 +1,5 @@
 -- Script lines in range: they name what the description has, and their numbers are those of the grammar.
-use Rattle.std.specs.Prelude.{ℕ, ◌-◌, ◌^◌, Bool, true, ◌&&◌, nat_lt, nat_le, is_some, length}
+use Rattle.std.specs.Prelude.{ℕ, ◌-◌, ◌^◌, Bool, true, ◌&&◌, nat_lt, is_some, length}
 use Rattle.std.specs.List.{list_all}
 use Rattle.hx_ids.specs.declared.InstanceId.{InstanceId}
 use Rattle.hx_ids.specs.declared.StateId.{StateId}
@@ -8,14 +8,11 @@ use Rattle.hx_ids.specs.declared.MsgId.{MsgId}
 use Rattle.hx_ids.specs.declared.ControllerId.{ControllerId}
 use Rattle.hx_ideal.specs.declared.TheConstants.{MOST_PARTS, MOST_REPLICAS}
 use Rattle.hx_cluster.specs.declared.description.Spec.{Spec}
+use Rattle.hx_cluster.specs.Valid.{is_within}
 use Rattle.hx_script.specs.declared.What.{What}
 use Rattle.hx_script.specs.declared.What.TheVariants as asks
 use Rattle.hx_script.specs.declared.Line.{Line}
 use Rattle.hx_script.specs.Modes.{mode_numbered}
-
--- a number from a least to a most
-abbrev pub is_within : ℕ → ℕ → ℕ → Bool
-is_within least most n = nat_le least n && nat_le n most
 
 -- what the description has
 abbrev pub has_instance : Spec → InstanceId → Bool
