@@ -15,6 +15,12 @@ pub use kinds::ModeKind;
 use std::alloc::{AllocError, Global};
 use std::marker::Model;
 
+/// The most replicas that a partition has.
+pub const MOST_REPLICAS: u32 = 64;
+
+/// The most partitions that a resource has.
+pub const MOST_PARTS: u32 = 1024;
+
 /// Who says where the replicas of a resource are wanted.
 #[derive(Debug, PartialEq, Drop)]
 pub enum Mode {

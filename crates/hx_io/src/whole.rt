@@ -1,5 +1,5 @@
 //! Reading to the end, and writing whole.
-ghost use Rattle.std.specs.Prelude.{◌≡◌, ◌<◌, ◌≤◌, length, take, IfOk, IfErr, OnOk, OnErr, IsErrOf, ⊤};
+ghost use Rattle.std.specs.Prelude.{◌≡◌, ◌<◌, ◌≤◌, length, take, IfOk, IfErr, OnOk, OnErr, IsErrOf};
 ghost use Rattle.std.specs.Io.KnownBytes.{Consumes, Appends, IsAtEnd};
 ghost use Rattle.hx_lists.specs.Counts.{Rose};
 ghost use Rattle.hx_io.specs.Faults.{CountsFault};
@@ -64,28 +64,32 @@ pub fn read_all<S: Source>(
         Consumes (S.left source.old) (S.left source.new) bytes.items) }
     ensures end { OnOk result (IsAtEnd (S.left source.new)) }
 
-    // It is too long exactly where the source gave more bytes than the limit, if memory sufficed.
+    // It is too long exactly where the source gave more bytes than the limit.
     ensures within { IfOk result (λ bytes. length bytes.items ≤ limit) }
     ensures too_long { IsErrOf result ReadFault.TooLong →
         Gave (S.left source.old) (S.left source.new) (λ bytes. limit < length bytes) }
     ensures short { IsErrOf result ReadFault.Failed →
         Gave (S.left source.old) (S.left source.new) (λ bytes. length bytes ≤ limit) }
+    ensures short_of_memory { IsErrOf result ReadFault.OutOfMemory →
+        Gave (S.left source.old) (S.left source.new) (λ bytes. length bytes ≤ limit) }
 
+    // It fails only where the source did.
     ensures failed { IsErrOf result ReadFault.Failed →
         Rose (S.faults source.old) (S.faults source.new) }
     ensures later { S.faults source.old ≤ S.faults source.new }
-    ensures err { OnErr result (Gave (S.left source.old) (S.left source.new) (λ _. ⊤)) }
 {
     let mut bytes = Vec::new(alloc);
     let mut buf = [0u8; PIECE];
-    while bytes.len() <= limit {
+    loop {
         let n = source.read(&mut buf)?;
         if n == 0 {
             return Ok(bytes);
         }
+        if n > limit - bytes.len() {
+            return Err(ReadFault::TooLong);
+        }
         bytes.extend_from_slice(&buf[..n])?;
     }
-    Err(ReadFault::TooLong)
 }
 
 /// Writes all the bytes. It takes no memory of its own.

@@ -1,11 +1,12 @@
 -- The answers to proposals, printed one by one.
-use Rattle.std.proofs.Common.{◌≡◌, ℕ, ◌+◌, ◌<◌, ◌≤◌, suc, List, [], ◌∷◌, ◌++◌, length, get_or, drop, refl, sym, ap, ◌∙◌, add-one, drop-cons}
+use Rattle.std.proofs.Common.{◌≡◌, ℕ, ◌+◌, ◌<◌, ◌≤◌, suc, List, [], ◌∷◌, ◌++◌, length, get_or, drop, refl, sym, ap, subst, ◌∙◌, add-one, drop-cons}
 use Rattle.std.proofs.Math.ListN.{drop_of_length-le}
 use Rattle.hx_cluster.specs.declared.description.Spec.{Spec}
 use Rattle.hx_cluster.specs.declared.happenings.Proposal.{Proposal}
 use Rattle.hx_cluster.specs.declared.happenings.Placed.{Placed}
 use Rattle.hx_print.specs.Texts.{placed_line, placed_lines}
-use Rattle.hx_print.proofs.Printing.{part_of-first}
+use Rattle.hx_text.specs.Texts.{PutsFront}
+use Rattle.hx_text.proofs.Printing.{IsMidway, puts_next}
 
 placed_lines-nil : (spec : Spec) (names : List ℕ) (qs : List Proposal) → placed_lines spec names qs [] ≡ []
 placed_lines-nil spec names [] = refl
@@ -21,13 +22,14 @@ pub placed_lines-drop : (spec : Spec) (names : List ℕ) (qs : List Proposal) (a
 placed_lines-drop spec names qs answers i q a lq la =
     rw add-one (ap (λ t. placed_lines spec names t (drop i answers)) (drop-cons qs i q lq) ∙ ap (λ t. placed_lines spec names (get_or qs i q ∷ drop (suc i) qs) t) (drop-cons answers i a la))
 
--- what follows a part of an answer's line is its rest, and the lines behind it
-pub part_of-placed : (spec : Spec) (names : List ℕ) (qs : List Proposal) (answers : List Placed) (i : ℕ) (q : Proposal) (a : Placed) (whole mid new rest : List ℕ) → i < length qs → i < length answers
-    → a ≡ get_or answers i a
-    → mid ++ placed_lines spec names (drop i qs) (drop i answers) ≡ whole → new ++ rest ≡ mid ++ placed_line spec names (get_or qs i q) a
-    → new ++ (rest ++ placed_lines spec names (drop (i + 1) qs) (drop (i + 1) answers)) ≡ whole
-part_of-placed spec names qs answers i q a whole mid new rest lq la is all part =
-    part_of-first mid new (placed_line spec names (get_or qs i q) (get_or answers i a)) (placed_lines spec names (drop (i + 1) qs) (drop (i + 1) answers)) rest
-    (part ∙ ap (λ x. mid ++ placed_line spec names (get_or qs i q) x) is)
-    ∙ ap (λ t. mid ++ t) (sym (placed_lines-drop spec names qs answers i q a lq la))
-    ∙ all
+-- a front of an answer's line is a front of all lines
+pub puts_placed : (spec : Spec) (names : List ℕ) (qs : List Proposal) (answers : List Placed) (i : ℕ) (q : Proposal) (a : Placed) (old page new : List ℕ)
+    → i < length qs → i < length answers → a ≡ get_or answers i a
+    → IsMidway (placed_lines spec names qs answers) old page (placed_lines spec names (drop i qs) (drop i answers)) → PutsFront (placed_line spec names (get_or qs i q) a) page new
+    → PutsFront (placed_lines spec names qs answers) old new
+puts_placed spec names qs answers i q a old page new lq la is m p =
+    let line = placed_line spec names (get_or qs i q) (get_or answers i a) in
+    let more = placed_lines spec names (drop (i + 1) qs) (drop (i + 1) answers) in
+    puts_next (placed_lines spec names qs answers) old page new line more
+    (record { whole = ap (λ t. page ++ t) (sym (placed_lines-drop spec names qs answers i q a lq la)) ∙ m.whole; grown = m.grown })
+    (subst (λ x. PutsFront (placed_line spec names (get_or qs i q) x) page new) is p)

@@ -14,7 +14,7 @@ use Rattle.hx_ids.specs.declared.PassNo.{PassNo}
 use Rattle.hx_ids.specs.declared.ControllerId.{ControllerId}
 use Rattle.hx_ids.specs.declared.PartId.{PartId}
 use Rattle.hx_ideal.specs.declared.Mode.{Mode}
-use Rattle.hx_ideal.specs.declared.Mode.TheVariants as modes
+use Rattle.hx_ideal.specs.ModeKinds.{kind_of, kind_name}
 use Rattle.hx_ideal.specs.declared.IdealFault.{IdealFault}
 use Rattle.hx_ideal.specs.declared.IdealFault.TheVariants as ideal_faults
 use Rattle.hx_cluster.specs.declared.description.Resource.{Resource}
@@ -82,9 +82,7 @@ abbrev pub pass_name : PassNo → List ℕ
 pass_name p = codes "p" ++ decimal p.0
 
 abbrev pub mode_name : Mode → List ℕ
-mode_name modes.Full = codes "FULL_AUTO"
-mode_name (modes.Semi lists) = codes "SEMI_AUTO"
-mode_name (modes.Custom maps) = codes "CUSTOMIZED"
+mode_name mode = kind_name (kind_of mode)
 
 abbrev pub outcome_name : Outcome → List ℕ
 outcome_name outcomes.Ok = codes "ok"
@@ -141,31 +139,19 @@ session_line word spec i (Some s) = line_of (word ∷ instance_name spec i ∷ s
 -- the session that a join opened, those that a tick ended, the number of an added resource, the epoch of a leader
 abbrev pub joined_by : Did → Option SessionId
 joined_by (dids.Joined s) = Some s
-joined_by (dids.Ended ss) = None
-joined_by (dids.Added r) = None
-joined_by (dids.Leads e) = None
-joined_by dids.Done = None
+joined_by _ = None
 
 abbrev pub ended_by_tick : Did → List SessionId
-ended_by_tick (dids.Joined s) = []
 ended_by_tick (dids.Ended ss) = ss
-ended_by_tick (dids.Added r) = []
-ended_by_tick (dids.Leads e) = []
-ended_by_tick dids.Done = []
+ended_by_tick _ = []
 
 abbrev pub added_as : Did → Option ResourceId
-added_as (dids.Joined s) = None
-added_as (dids.Ended ss) = None
 added_as (dids.Added r) = Some r
-added_as (dids.Leads e) = None
-added_as dids.Done = None
+added_as _ = None
 
 abbrev pub leads_in : Did → Option Epoch
-leads_in (dids.Joined s) = None
-leads_in (dids.Ended ss) = None
-leads_in (dids.Added r) = None
 leads_in (dids.Leads e) = Some e
-leads_in dids.Done = None
+leads_in _ = None
 
 -- a session that a tick ended, with the instance that it had
 abbrev pub ended_line : Spec → List (SessionId × InstanceId) → SessionId → List ℕ
@@ -254,14 +240,9 @@ log_text spec c (e ∷ es) = entry_text spec c e ++ log_text spec (next c e) es
 
 -- the words of a note: a refusal with what it tells. Faults that no script line meets have none
 abbrev pub ideal_fault_words : IdealFault → List (List ℕ)
-ideal_fault_words ideal_faults.ZeroReplicas = []
-ideal_fault_words ideal_faults.TooManyReplicas = []
-ideal_fault_words ideal_faults.ZeroParts = []
-ideal_fault_words ideal_faults.TooManyParts = []
-ideal_fault_words (ideal_faults.PartCount has wants) = []
-ideal_fault_words (ideal_faults.UnknownInstance part place) = []
 ideal_fault_words (ideal_faults.UnknownState part place) = codes "unknown-state" ∷ decimal place ∷ []
 ideal_fault_words (ideal_faults.TwiceInList part place) = codes "twice-in-list" ∷ decimal place ∷ []
+ideal_fault_words _ = []
 
 abbrev pub step_fault_words : Spec → StepFault → List (List ℕ)
 step_fault_words spec (faults.AlreadyLive s) = codes "already-live" ∷ session_name s ∷ []

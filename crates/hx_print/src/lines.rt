@@ -1,8 +1,8 @@
 //! Lines, printed word by word.
 ghost use Rattle.std.specs.Prelude.{◌≡◌, ◌∷◌, ◌++◌, map, codes};
 ghost use Rattle.hx_text.specs.Texts.{Prints};
-ghost use Rattle.hx_print.specs.Texts.{spaced, line_of, instance_name, pair_name, is_holder, holder_names};
-ghost use Rattle.hx_print.specs.Tokens.{token_word, words_of, rest_words};
+ghost use Rattle.hx_print.specs.Texts;
+ghost use Rattle.hx_print.specs.Tokens;
 
 use crate::names::{instance_name, state_name};
 use hx_cluster::Spec;
@@ -42,7 +42,7 @@ pub enum Rest<'a> {
 
 /// Prints a word, with a space before it.
 pub fn print_word(word: &Token, page: &mut Page) -> Result<(), AllocError>
-    ensures { Prints (codes " " ++ token_word word.now) page.old result page.new }
+    ensures { Prints (codes " " ++ Tokens.token_word word.now) page.old result page.new }
 {
     let space = Piece::Text(" ");
     match word {
@@ -75,7 +75,7 @@ pub fn print_word(word: &Token, page: &mut Page) -> Result<(), AllocError>
 
 /// Prints words, each with a space before it.
 pub fn print_words(words: &[Token], page: &mut Page) -> Result<(), AllocError>
-    ensures { Prints (spaced (words_of words.now)) page.old result page.new }
+    ensures { Prints (Texts.spaced (Tokens.words_of words.now)) page.old result page.new }
 {
     for word in words {
         print_word(word, page)?;
@@ -85,7 +85,8 @@ pub fn print_words(words: &[Token], page: &mut Page) -> Result<(), AllocError>
 
 /// Prints a line: its first word, and the others.
 pub fn print_line(first: &str, others: &[Token], page: &mut Page) -> Result<(), AllocError>
-    ensures { Prints (line_of (first.now ∷ words_of others.now)) page.old result page.new }
+    ensures { Prints (Texts.line_of (first.now ∷ Tokens.words_of others.now))
+        page.old result page.new }
 {
     page.push_str(first)?;
     print_words(others, page)?;
@@ -94,7 +95,8 @@ pub fn print_line(first: &str, others: &[Token], page: &mut Page) -> Result<(), 
 
 /// Prints the names of instances, each with a space before it.
 fn print_instances(list: &[InstanceId], spec: &Spec, page: &mut Page) -> Result<(), AllocError>
-    ensures { Prints (spaced (map (instance_name spec.now) list.now)) page.old result page.new }
+    ensures { Prints (Texts.spaced (map (Texts.instance_name spec.now) list.now))
+        page.old result page.new }
 {
     for instance in list {
         print_word(&Token::Text(instance_name(spec, *instance)), page)?;
@@ -109,7 +111,8 @@ fn print_pairs(
     spec: &Spec,
     page: &mut Page,
 ) -> Result<(), AllocError>
-    ensures { Prints (spaced (map (pair_name spec.now sign.now) entries.now)) page.old result page.new }
+    ensures { Prints (Texts.spaced (map (Texts.pair_name spec.now sign.now) entries.now))
+        page.old result page.new }
 {
     for entry in entries {
         let instance = instance_name(spec, entry.0);
@@ -121,7 +124,7 @@ fn print_pairs(
 
 /// Whether a shown session is among the holders.
 fn is_holder(holders: &[SessionId], shown: (SessionId, InstanceId)) -> bool
-    ensures { result ≡ is_holder holders.now shown }
+    ensures { result ≡ Texts.is_holder holders.now shown }
 {
     holders.iter().any(|s| *s == shown.0)
 }
@@ -133,7 +136,8 @@ fn print_holders(
     spec: &Spec,
     page: &mut Page,
 ) -> Result<(), AllocError>
-    ensures { Prints (spaced (holder_names spec.now shown.now holders.now)) page.old result page.new }
+    ensures { Prints (Texts.spaced (Texts.holder_names spec.now shown.now holders.now))
+        page.old result page.new }
 {
     for entry in shown {
         if is_holder(holders, *entry) {
@@ -145,7 +149,7 @@ fn print_holders(
 
 /// Prints the words at the end of a line.
 fn print_rest(rest: &Rest, spec: &Spec, page: &mut Page) -> Result<(), AllocError>
-    ensures { Prints (spaced (rest_words spec.now rest.now)) page.old result page.new }
+    ensures { Prints (Texts.spaced (Tokens.rest_words spec.now rest.now)) page.old result page.new }
 {
     match rest {
         Rest::Instances(list) => print_instances(list, spec, page),
@@ -162,7 +166,10 @@ pub fn print_long_line(
     spec: &Spec,
     page: &mut Page,
 ) -> Result<(), AllocError>
-    ensures { Prints (line_of (first.now ∷ (words_of words.now ++ rest_words spec.now rest.now))) page.old result page.new }
+    ensures { Prints
+        (Texts.line_of (first.now ∷
+        (Tokens.words_of words.now ++ Tokens.rest_words spec.now rest.now)))
+        page.old result page.new }
 {
     page.push_str(first)?;
     print_words(words, page)?;

@@ -2,8 +2,8 @@
 ghost use Rattle.std.specs.Prelude.{◌≡◌, ◌∷◌, ◌++◌, codes};
 ghost use Rattle.std.specs.List.{flat_map};
 ghost use Rattle.hx_text.specs.Texts.{Prints};
-ghost use Rattle.hx_print.specs.Tokens.{words_of};
-ghost use Rattle.hx_print.specs.Texts.{line_of, session_line, joined_by, ended_by_tick, added_as, leads_in, ended_line, tick_text, add_text, reset_text, lead_text, step_text, placed_line, placed_lines, event_text};
+ghost use Rattle.hx_print.specs.Tokens;
+ghost use Rattle.hx_print.specs.Texts;
 
 use crate::lines::{Rest, Token, print_line, print_long_line};
 use crate::names::{
@@ -18,8 +18,8 @@ use hx_text::Page;
 use std::alloc::AllocError;
 
 /// The session that a join opened.
-fn joined_by(did: &Did) -> Option<SessionId>
-    ensures { result ≡ joined_by did.now }
+pub(crate) fn joined_by(did: &Did) -> Option<SessionId>
+    ensures { result ≡ Texts.joined_by did.now }
 {
     match did {
         Did::Joined(session) => Some(*session),
@@ -28,8 +28,8 @@ fn joined_by(did: &Did) -> Option<SessionId>
 }
 
 /// The sessions that a tick ended.
-fn ended_by_tick(did: &Did) -> &[SessionId]
-    ensures { result.now ≡ ended_by_tick did.now }
+pub(crate) fn ended_by_tick(did: &Did) -> &[SessionId]
+    ensures { result.now ≡ Texts.ended_by_tick did.now }
 {
     match did {
         Did::Ended(sessions) => sessions.as_slice(),
@@ -39,7 +39,7 @@ fn ended_by_tick(did: &Did) -> &[SessionId]
 
 /// The number of an added resource.
 fn added_as(did: &Did) -> Option<ResourceId>
-    ensures { result ≡ added_as did.now }
+    ensures { result ≡ Texts.added_as did.now }
 {
     match did {
         Did::Added(resource) => Some(*resource),
@@ -49,7 +49,7 @@ fn added_as(did: &Did) -> Option<ResourceId>
 
 /// The epoch of a leader.
 fn leads_in(did: &Did) -> Option<Epoch>
-    ensures { result ≡ leads_in did.now }
+    ensures { result ≡ Texts.leads_in did.now }
 {
     match did {
         Did::Leads(epoch) => Some(*epoch),
@@ -65,7 +65,8 @@ fn print_session(
     spec: &Spec,
     page: &mut Page,
 ) -> Result<(), AllocError>
-    ensures { Prints (session_line word.now spec.now instance session) page.old result page.new }
+    ensures { Prints (Texts.session_line word.now spec.now instance session)
+        page.old result page.new }
 {
     match session {
         Some(s) => {
@@ -83,7 +84,7 @@ fn print_ended(
     spec: &Spec,
     page: &mut Page,
 ) -> Result<(), AllocError>
-    ensures { Prints (ended_line spec.now live.now session) page.old result page.new }
+    ensures { Prints (Texts.ended_line spec.now live.now session) page.old result page.new }
 {
     let instance = match instance_in(live, session) {
         Some(i) => instance_name(spec, i),
@@ -103,7 +104,8 @@ fn print_all_ended(
     spec: &Spec,
     page: &mut Page,
 ) -> Result<(), AllocError>
-    ensures { Prints (flat_map (ended_line spec.now live.now) ended.now) page.old result page.new }
+    ensures { Prints (flat_map (Texts.ended_line spec.now live.now) ended.now)
+        page.old result page.new }
 {
     for session in ended {
         print_ended(*session, live, spec, page)?;
@@ -119,7 +121,7 @@ fn print_tick(
     spec: &Spec,
     page: &mut Page,
 ) -> Result<(), AllocError>
-    ensures { Prints (tick_text spec.now live.now n ended.now) page.old result page.new }
+    ensures { Prints (Texts.tick_text spec.now live.now n ended.now) page.old result page.new }
 {
     print_line("tick", &[Token::Number(n)], page)?;
     print_all_ended(ended, live, spec, page)
@@ -134,7 +136,10 @@ fn print_add(
     spec: &Spec,
     page: &mut Page,
 ) -> Result<(), AllocError>
-    ensures { Prints (add_text spec.now name model ideal.now.replicas ideal.now.parts ideal.now.mode resource) page.old result page.new }
+    ensures { Prints
+        (Texts.add_text spec.now name model
+        ideal.now.replicas ideal.now.parts ideal.now.mode resource)
+        page.old result page.new }
 {
     let Some(r) = resource else { return Ok(()) };
     let name = Token::Resource(name_at(&spec.resource_names, name), r);
@@ -154,7 +159,8 @@ fn print_reset(
     spec: &Spec,
     page: &mut Page,
 ) -> Result<(), AllocError>
-    ensures { Prints (reset_text spec.now names.now instance part session) page.old result page.new }
+    ensures { Prints (Texts.reset_text spec.now names.now instance part session)
+        page.old result page.new }
 {
     let Some(s) = session else { return Ok(()) };
     let instance = Token::Text(instance_name(spec, instance));
@@ -168,7 +174,7 @@ fn print_lead(
     epoch: Option<Epoch>,
     page: &mut Page,
 ) -> Result<(), AllocError>
-    ensures { Prints (lead_text controller epoch) page.old result page.new }
+    ensures { Prints (Texts.lead_text controller epoch) page.old result page.new }
 {
     match epoch {
         Some(e) => print_line(
@@ -188,7 +194,7 @@ fn print_step(
     spec: &Spec,
     page: &mut Page,
 ) -> Result<(), AllocError>
-    ensures { Prints (step_text spec.now roll.now step.now did.now) page.old result page.new }
+    ensures { Prints (Texts.step_text spec.now roll.now step.now did.now) page.old result page.new }
 {
     let names = roll.resources.as_slice();
     let live = roll.live.as_slice();
@@ -256,7 +262,8 @@ fn print_placed(
     spec: &Spec,
     page: &mut Page,
 ) -> Result<(), AllocError>
-    ensures { Prints (placed_line spec.now names.now proposal.now answer) page.old result page.new }
+    ensures { Prints (Texts.placed_line spec.now names.now proposal.now answer)
+        page.old result page.new }
 {
     let session = Token::Session(proposal.session);
     let name = name_of_resource(spec, names, proposal.part.resource);
@@ -306,7 +313,8 @@ fn print_all_placed(
     spec: &Spec,
     page: &mut Page,
 ) -> Result<(), AllocError>
-    ensures { Prints (placed_lines spec.now names.now proposals.now placed.now) page.old result page.new }
+    ensures { Prints (Texts.placed_lines spec.now names.now proposals.now placed.now)
+        page.old result page.new }
 {
     for (i, proposal) in proposals.iter().enumerate() {
         let Some(answer) = placed.get(i) else {
@@ -326,7 +334,10 @@ fn print_dispatch(
     spec: &Spec,
     page: &mut Page,
 ) -> Result<(), AllocError>
-    ensures { Prints (line_of (codes "send" ∷ words_of turn.now) ++ placed_lines spec.now names.now proposals.now placed.now) page.old result page.new }
+    ensures { Prints
+        (Texts.line_of (codes "send" ∷ Tokens.words_of turn.now) ++
+        Texts.placed_lines spec.now names.now proposals.now placed.now)
+        page.old result page.new }
 {
     print_line("send", turn, page)?;
     print_all_placed(proposals, placed, names, spec, page)
@@ -339,7 +350,7 @@ pub fn print_event(
     spec: &Spec,
     page: &mut Page,
 ) -> Result<(), AllocError>
-    ensures { Prints (event_text spec.now roll.now event.now) page.old result page.new }
+    ensures { Prints (Texts.event_text spec.now roll.now event.now) page.old result page.new }
 {
     match event {
         Event::Admin(step, did) => print_step(step, did, roll, spec, page),

@@ -1,6 +1,6 @@
 //! Outcomes, views and the other lines that are neither log lines nor notes.
 ghost use Rattle.hx_text.specs.Texts.{Prints};
-ghost use Rattle.hx_print.specs.Texts.{sent_text, waiting_text, moved_text, settled_text, settle_text, accept_text, failed_line, full_line, seen_line, route_line, summary_text, history_full_text};
+ghost use Rattle.hx_print.specs.Texts;
 
 use crate::lines::{Rest, Token, print_line, print_long_line};
 use crate::names::{instance_name, state_name};
@@ -11,7 +11,7 @@ use std::alloc::AllocError;
 
 /// Prints that a dispatch sent so many messages.
 pub fn print_sent(controller: ControllerId, n: u32, page: &mut Page) -> Result<(), AllocError>
-    ensures { Prints (sent_text controller n) page.old result page.new }
+    ensures { Prints (Texts.sent_text controller n) page.old result page.new }
 {
     let n = Token::Number(n as u64);
     print_line(
@@ -23,7 +23,7 @@ pub fn print_sent(controller: ControllerId, n: u32, page: &mut Page) -> Result<(
 
 /// Prints that a pass waits for so many pending messages.
 pub fn print_waiting(controller: ControllerId, n: u32, page: &mut Page) -> Result<(), AllocError>
-    ensures { Prints (waiting_text controller n) page.old result page.new }
+    ensures { Prints (Texts.waiting_text controller n) page.old result page.new }
 {
     let n = Token::Number(n as u64);
     print_line(
@@ -40,7 +40,7 @@ pub fn print_moved(
     to: u64,
     page: &mut Page,
 ) -> Result<(), AllocError>
-    ensures { Prints (moved_text controller from to) page.old result page.new }
+    ensures { Prints (Texts.moved_text controller from to) page.old result page.new }
 {
     let [from, to] = [Token::Number(from), Token::Number(to)];
     print_line(
@@ -57,7 +57,7 @@ pub fn print_moved(
 
 /// Prints that a pass found nothing to do.
 pub fn print_settled(controller: ControllerId, page: &mut Page) -> Result<(), AllocError>
-    ensures { Prints (settled_text controller) page.old result page.new }
+    ensures { Prints (Texts.settled_text controller) page.old result page.new }
 {
     print_line(
         "?",
@@ -68,7 +68,7 @@ pub fn print_settled(controller: ControllerId, page: &mut Page) -> Result<(), Al
 
 /// Prints that a leader settled the cluster in so many passes.
 pub fn print_settle(controller: ControllerId, n: u64, page: &mut Page) -> Result<(), AllocError>
-    ensures { Prints (settle_text controller n) page.old result page.new }
+    ensures { Prints (Texts.settle_text controller n) page.old result page.new }
 {
     let leader = Token::Controller(controller);
     print_line(
@@ -85,7 +85,7 @@ pub fn print_accept(
     spec: &Spec,
     page: &mut Page,
 ) -> Result<(), AllocError>
-    ensures { Prints (accept_text spec.now instance id) page.old result page.new }
+    ensures { Prints (Texts.accept_text spec.now instance id) page.old result page.new }
 {
     let instance = Token::Text(instance_name(spec, instance));
     print_line(
@@ -103,7 +103,7 @@ pub fn print_failed<'a>(
     spec: &'a Spec,
     page: &mut Page,
 ) -> Result<(), AllocError>
-    ensures { Prints (failed_line spec.now name.now instance part) page.old result page.new }
+    ensures { Prints (Texts.failed_line spec.now name.now instance part) page.old result page.new }
 {
     let instance = Token::Text(instance_name(spec, instance));
     print_line(
@@ -113,7 +113,8 @@ pub fn print_failed<'a>(
     )
 }
 
-/// Prints that a replica can't reach a state since others have it. The name is that of the part's resource.
+/// Prints that a replica can't reach a state since others have it. The name is that of the part's
+/// resource.
 pub fn print_full<'a>(
     full: &'a Full,
     name: &'a str,
@@ -121,7 +122,8 @@ pub fn print_full<'a>(
     spec: &'a Spec,
     page: &mut Page,
 ) -> Result<(), AllocError>
-    ensures { Prints (full_line spec.now name.now shown.now full.now) page.old result page.new }
+    ensures { Prints (Texts.full_line spec.now name.now shown.now full.now)
+        page.old result page.new }
 {
     let candidate = &full.candidate;
     let instance = Token::Text(instance_name(spec, candidate.instance));
@@ -154,7 +156,7 @@ pub fn print_seen(
     spec: &Spec,
     page: &mut Page,
 ) -> Result<(), AllocError>
-    ensures { Prints (seen_line spec.now name.now part holders.now) page.old result page.new }
+    ensures { Prints (Texts.seen_line spec.now name.now part holders.now) page.old result page.new }
 {
     match holders {
         [] => print_line("=", &[Token::Part(name, part), Token::Text("-")], page),
@@ -174,7 +176,8 @@ pub fn print_route<'a>(
     spec: &'a Spec,
     page: &mut Page,
 ) -> Result<(), AllocError>
-    ensures { Prints (route_line spec.now name.now part state instances.now) page.old result page.new }
+    ensures { Prints (Texts.route_line spec.now name.now part state instances.now)
+        page.old result page.new }
 {
     let state = Token::Text(state_name(spec, state));
     let part = Token::Part(name, part);
@@ -197,7 +200,8 @@ pub fn print_route<'a>(
     }
 }
 
-/// Prints how many messages were sent, were written ok or failed, and how many sessions began and ended.
+/// Prints how many messages were sent, were written ok or failed, and how many sessions began and
+/// ended.
 pub fn print_summary(
     sent: u64,
     ok: u64,
@@ -206,7 +210,7 @@ pub fn print_summary(
     ended: u64,
     page: &mut Page,
 ) -> Result<(), AllocError>
-    ensures { Prints (summary_text sent ok failed joined ended) page.old result page.new }
+    ensures { Prints (Texts.summary_text sent ok failed joined ended) page.old result page.new }
 {
     let words = [
         Token::Text("summary"),
@@ -226,7 +230,7 @@ pub fn print_summary(
 
 /// Prints that the history has no room for more than this weight.
 pub fn print_history_full(weight: u64, page: &mut Page) -> Result<(), AllocError>
-    ensures { Prints (history_full_text weight) page.old result page.new }
+    ensures { Prints (Texts.history_full_text weight) page.old result page.new }
 {
     print_line(
         "history",

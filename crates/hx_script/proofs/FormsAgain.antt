@@ -166,7 +166,7 @@ route_again spec ws what e =
     ∙ ap (λ l. verb_name verbs.Route ∷ l) (sym (three_from ws t.0 t.1))
 
 -- a new name that the description has
-interned_within : (names : List (List ℕ)) (w : List ℕ) → interned names w ≡ names → position_or_len (bytes_eq w) names < length names
+pub interned_within : (names : List (List ℕ)) (w : List ℕ) → interned names w ≡ names → position_or_len (bytes_eq w) names < length names
 interned_within names w e = one (list_any (bytes_eq w) names) refl e
   where
     one : (b : Bool) → list_any (bytes_eq w) names ≡ b → (if b then names else names ++ w ∷ []) ≡ names → position_or_len (bytes_eq w) names < length names

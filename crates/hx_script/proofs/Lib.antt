@@ -7,6 +7,8 @@ pub mod Letters
 pub mod LinesAgain
 pub mod NamesKept
 pub mod PlainWords
+pub mod RangesGiven
 pub mod Scripts
+pub mod Shapes
 pub mod TextsAgain
 pub mod WordsAgain

@@ -1,5 +1,5 @@
 -- The words of a good line have no line feed and no carriage return, where the names of the description are names.
-use Rattle.std.proofs.Common.{◌≡◌, ℕ, ◌-◌, ◌^◌, ◌<◌, Bool, true, false, not, ◌&&◌, ◌==◌, List, [], ◌∷◌, get_or, Some, None, Result, Ok, Err, if◌then◌else◌, codes, refl, sym, ap, ◌∙◌, subst, arith}
+use Rattle.std.proofs.Common.{◌≡◌, ℕ, ◌-◌, ◌^◌, ◌<◌, Bool, true, false, not, ◌&&◌, ◌==◌, List, [], ◌∷◌, get_or, Option, Some, None, Result, Ok, Err, if◌then◌else◌, codes, refl, sym, ap, ◌∙◌, subst, arith}
 use Rattle.std.proofs.lemmas.Bool.{and_parts, and_from}
 use Rattle.std.proofs.lemmas.Bool.Decides.{nat_tests}
 use Rattle.std.proofs.lemmas.List.Folds.{list_all-append}
@@ -7,6 +7,7 @@ use Rattle.std.proofs.lemmas.List.Quantifiers.{position-Some}
 use Rattle.std.proofs.lemmas.List.Sums.{AllPass-from_list_all, list_all-from_AllPass}
 use Rattle.std.proofs.lemmas.Option.{unwrap_or-slice_get}
 use Rattle.std.specs.Fmt.{decimal}
+use Rattle.std.specs.Option.{option_map_or}
 use Rattle.std.specs.List.{list_all, before_first, after_first}
 use Rattle.hx_ids.specs.Names.{place_of, place_after}
 use Rattle.hx_ids.specs.declared.InstanceId.{InstanceId}
@@ -14,6 +15,9 @@ use Rattle.hx_ids.specs.declared.StateId.{StateId}
 use Rattle.hx_ids.specs.declared.ModelId.{ModelId}
 use Rattle.hx_ids.specs.declared.MsgId.{MsgId}
 use Rattle.hx_ids.specs.declared.ControllerId.{ControllerId}
+use Rattle.hx_ideal.specs.ModeKinds.{kind_name}
+use Rattle.hx_ideal.specs.declared.kinds.ModeKind.{ModeKind}
+use Rattle.hx_ideal.specs.declared.kinds.ModeKind.TheVariants as modes
 use Rattle.hx_text.specs.Spellings.{is_name_byte, is_name, number_of}
 use Rattle.hx_text.proofs.Names.{name_bytes}
 use Rattle.hx_text.proofs.Numbers.{decimal-number_of, decimal-without}
@@ -28,6 +32,7 @@ use Rattle.hx_script.specs.declared.faults.ScriptKind.{ScriptKind}
 use Rattle.hx_script.specs.declared.faults.ScriptKind.TheVariants as kinds
 use Rattle.hx_script.specs.Grammar.{map_ok, then_ok, one_word, two_words, three_words, five_words, two_and_more, instance_word, resource_word, model_word, state_word, name_word, in_range, number_word, part_word, part_words, numbered_by, controller_word, message_word, mode_word, read_kind_word, is_equals, pair_word, all_words, instance_alone, controller_alone, instance_and_message, tick_line, add_line, drop_line, reset_line, route_line, bare_line, what_of, verb_name}
 use Rattle.hx_script.specs.LineTexts.{read_kind_text, has_names}
+use Rattle.hx_script.specs.Modes.{mode_numbered}
 use Rattle.hx_script.proofs.WordsAgain.{map_ok_from, then_ok_from, or_fault_from, option_map_from, in_range_from, name_again, mode_again, read_kind_again, pair_split}
 use Rattle.hx_script.proofs.FormsAgain.{one_from, two_from, three_from, five_from, more_from}
 
@@ -81,14 +86,14 @@ plain_message w m e =
     plain_numbered 109 w from.0 refl (in_range_from 1 (2 ^ 64 - 1) (numbered_by 109 w) from.0 from.1).0
 
 -- words of a few
-plain_mode_text : (a b c : Bool) → is_plain (if a then codes "FULL_AUTO" else if b then codes "SEMI_AUTO" else if c then codes "CUSTOMIZED" else []) ≡ true
-plain_mode_text true b c = refl
-plain_mode_text false true c = refl
-plain_mode_text false false true = refl
-plain_mode_text false false false = refl
+plain_mode_name : (kind : Option ModeKind) → is_plain (option_map_or kind_name kind []) ≡ true
+plain_mode_name None = refl
+plain_mode_name (Some modes.FullAuto) = refl
+plain_mode_name (Some modes.SemiAuto) = refl
+plain_mode_name (Some modes.Customized) = refl
 
 plain_mode : (w : List ℕ) (mode : ℕ) → mode_word w ≡ Ok mode → is_plain w ≡ true
-plain_mode w mode e = subst (λ t. is_plain t ≡ true) (mode_again w mode e) (plain_mode_text (mode == 0) (mode == 1) (mode == 2))
+plain_mode w mode e = subst (λ t. is_plain t ≡ true) (mode_again w mode e) (plain_mode_name (mode_numbered mode))
 
 plain_kind_text : (kind : ReadKind) → is_plain (read_kind_text kind) ≡ true
 plain_kind_text reads.Live = refl

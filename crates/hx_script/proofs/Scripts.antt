@@ -1,6 +1,6 @@
 -- Scripts, read line by line.
 use Rattle.std.proofs.Common.{◌≡◌, ℕ, ◌+◌, ◌≤◌, suc, Bool, true, false, List, [], ◌∷◌, ◌++◌, length, drop, slice_get, Option, Some, Result, Ok, Err, refl, sym, ap, ◌∙◌, append_assoc, add-one, arith, if◌then◌else◌}
-use Rattle.std.proofs.lemmas.List.{append-nil, length-append}
+use Rattle.std.proofs.lemmas.List.{append-nil, length-append, drop_all}
 use Rattle.std.proofs.lemmas.Option.{slice_get_within, get_or_from_slice_get}
 use Rattle.std.proofs.Math.Seq.{drop-cons}
 use Rattle.std.specs.List.{list_any}
@@ -30,6 +30,12 @@ script_from-drop lines i line n spec at =
     ap (λ ls. script_from n ls spec) (drop-cons lines i line (slice_get_within lines i line at))
     ∙ ap (λ l. script_from n (l ∷ drop (suc i) lines) spec) (get_or_from_slice_get lines i line line at)
     ∙ ap (λ k. script_from n (line ∷ drop k lines) spec) (sym (add-one i))
+
+-- behind the last line nothing is left
+pub read_whole : (lines : List (List ℕ)) (n : ℕ) (spec : Spec) (done : List Line) (whole : Result (List Line × Spec) ScriptFault) → length lines ≤ n
+    → whole ≡ before done (script_from (n + 1) (drop n lines) spec) → whole ≡ Ok (done, spec)
+read_whole lines n spec done whole past all =
+    all ∙ ap (λ ls. before done (script_from (n + 1) ls spec)) (drop_all n lines past) ∙ ap (λ ls. Ok (ls, spec)) (append-nil done)
 
 -- a line that is good, and a fault
 pub after_line : (lines : List (List ℕ)) (i : ℕ) (line : List ℕ) (spec : Spec) (done : List Line) (what : Option What) (whole : Result (List Line × Spec) ScriptFault) → slice_get lines i ≡ Some line

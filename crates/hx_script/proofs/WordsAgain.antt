@@ -17,6 +17,9 @@ use Rattle.hx_ids.specs.declared.StateId.{StateId}
 use Rattle.hx_ids.specs.declared.ModelId.{ModelId}
 use Rattle.hx_ids.specs.declared.MsgId.{MsgId}
 use Rattle.hx_ids.specs.declared.ControllerId.{ControllerId}
+use Rattle.hx_ideal.specs.ModeKinds.{kind_name, kind_named}
+use Rattle.hx_ideal.specs.declared.kinds.ModeKind.{ModeKind}
+use Rattle.hx_ideal.specs.declared.kinds.ModeKind.TheVariants as modes
 use Rattle.hx_text.specs.Spellings.{number_of}
 use Rattle.hx_text.proofs.Numbers.{decimal-number_of}
 use Rattle.hx_cluster.specs.declared.description.Spec.{Spec}
@@ -27,6 +30,7 @@ use Rattle.hx_script.specs.declared.faults.ScriptKind.{ScriptKind}
 use Rattle.hx_script.specs.declared.faults.ScriptKind.TheVariants as kinds
 use Rattle.hx_script.specs.Grammar.{map_ok, then_ok, or_fault, instance_word, resource_word, model_word, state_word, in_range, number_word, numbered_by, controller_word, message_word, mode_word, read_kind_word, is_equals, pair_word, all_words}
 use Rattle.hx_script.specs.LineTexts.{mode_text, read_kind_text}
+use Rattle.hx_script.specs.Modes.{mode_number}
 
 -- where a value comes from
 pub map_ok_from : {A B E : Type 0} (f : A → B) (r : Result A E) (y : B) → map_ok f r ≡ Ok y → (x : A) × (r ≡ Ok x) × (f x ≡ y)
@@ -125,16 +129,25 @@ message_again w m e =
     ap message_name (sym from.2) ∙ numbered_again 109 w from.0 (in_range_from 1 (2 ^ 64 - 1) (numbered_by 109 w) from.0 from.1).0
 
 -- the words that are one of a few
-pub mode_again : (w : List ℕ) (mode : ℕ) → mode_word w ≡ Ok mode → mode_text mode ≡ w
-mode_again w mode e =
-    one (bytes_eq w (codes "FULL_AUTO")) (bytes_eq w (codes "SEMI_AUTO")) (bytes_eq w (codes "CUSTOMIZED")) refl refl refl (or_fault_from _ _ mode e)
+kind_again : (w : List ℕ) (kind : ModeKind) → kind_named w ≡ Some kind → kind_name kind ≡ w
+kind_again w kind e = one (bytes_eq w (codes "FULL_AUTO")) (bytes_eq w (codes "SEMI_AUTO")) (bytes_eq w (codes "CUSTOMIZED")) refl refl refl e
   where
     one : (a b c : Bool) → bytes_eq w (codes "FULL_AUTO") ≡ a → bytes_eq w (codes "SEMI_AUTO") ≡ b → bytes_eq w (codes "CUSTOMIZED") ≡ c
-        → (if a then Some 0 else if b then Some 1 else if c then Some 2 else None) ≡ Some mode → mode_text mode ≡ w
-    one true b c ea eb ec e = let m : 0 ≡ mode = cc in ap mode_text (sym m) ∙ sym (same_bytes w (codes "FULL_AUTO") ea)
-    one false true c ea eb ec e = let m : 1 ≡ mode = cc in ap mode_text (sym m) ∙ sym (same_bytes w (codes "SEMI_AUTO") eb)
-    one false false true ea eb ec e = let m : 2 ≡ mode = cc in ap mode_text (sym m) ∙ sym (same_bytes w (codes "CUSTOMIZED") ec)
+        → (if a then Some modes.FullAuto else if b then Some modes.SemiAuto else if c then Some modes.Customized else None) ≡ Some kind → kind_name kind ≡ w
+    one true b c ea eb ec e = let k : modes.FullAuto ≡ kind = cc in ap kind_name (sym k) ∙ sym (same_bytes w (codes "FULL_AUTO") ea)
+    one false true c ea eb ec e = let k : modes.SemiAuto ≡ kind = cc in ap kind_name (sym k) ∙ sym (same_bytes w (codes "SEMI_AUTO") eb)
+    one false false true ea eb ec e = let k : modes.Customized ≡ kind = cc in ap kind_name (sym k) ∙ sym (same_bytes w (codes "CUSTOMIZED") ec)
     one false false false ea eb ec e = cc
+
+number_text : (kind : ModeKind) → mode_text (mode_number kind) ≡ kind_name kind
+number_text modes.FullAuto = refl
+number_text modes.SemiAuto = refl
+number_text modes.Customized = refl
+
+pub mode_again : (w : List ℕ) (mode : ℕ) → mode_word w ≡ Ok mode → mode_text mode ≡ w
+mode_again w mode e =
+    let from = option_map_from mode_number (kind_named w) mode (or_fault_from _ _ mode e) in
+    ap mode_text (sym from.2) ∙ number_text from.0 ∙ kind_again w from.0 from.1
 
 pub read_kind_again : (w : List ℕ) (kind : ReadKind) → read_kind_word w ≡ Ok kind → read_kind_text kind ≡ w
 read_kind_again w kind e =

@@ -11,7 +11,9 @@ use Rattle.hx_ids.specs.declared.ControllerId.{ControllerId}
 use Rattle.hx_ids.specs.Names.{place_of, place_after, interned}
 use Rattle.hx_text.specs.Spellings.{is_name, number_of}
 use Rattle.hx_text.specs.Lines.{words_of}
+use Rattle.hx_ideal.specs.ModeKinds.{kind_named}
 use Rattle.hx_cluster.specs.declared.description.Spec.{Spec}
+use Rattle.hx_script.specs.Modes.{mode_number}
 use Rattle.hx_script.specs.declared.ReadKind.{ReadKind}
 use Rattle.hx_script.specs.declared.ReadKind.TheVariants as reads
 use Rattle.hx_script.specs.declared.What.{What}
@@ -73,11 +75,9 @@ controller_word spec w = or_fault kinds.UnknownController (option_map (λ n. rec
 abbrev pub message_word : List ℕ → Result MsgId ScriptKind
 message_word w = or_fault kinds.BadMessage (option_map (λ n. record { 0 = n }) (in_range 1 (2 ^ 64 - 1) (numbered_by 109 w)))
 
-abbrev pub mode_of : List ℕ → Option ℕ
-mode_of w = if bytes_eq w (codes "FULL_AUTO") then Some 0 else if bytes_eq w (codes "SEMI_AUTO") then Some 1 else if bytes_eq w (codes "CUSTOMIZED") then Some 2 else None
-
+-- a mode, by its number
 abbrev pub mode_word : List ℕ → Result ℕ ScriptKind
-mode_word w = or_fault kinds.BadMode (mode_of w)
+mode_word w = or_fault kinds.BadMode (option_map mode_number (kind_named w))
 
 abbrev pub read_kind_of : List ℕ → Option ReadKind
 read_kind_of w =

@@ -4,5 +4,7 @@ pub mod LineTexts
 pub mod Parsing
 pub mod Logs
 pub mod LogEntries
+pub mod Modes
 pub mod NewIdeals
+pub mod Ranges
 pub mod Asked

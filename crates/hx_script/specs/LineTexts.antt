@@ -1,10 +1,13 @@
 -- The texts of script lines, as they are printed: one space between words.
-use Rattle.std.specs.Prelude.{◌≡◌, ℕ, Bool, ◌==◌, ◌&&◌, List, [], ◌∷◌, map, codes, decimal, Some, Ok, if◌then◌else◌}
+use Rattle.std.specs.Prelude.{◌≡◌, ℕ, Bool, ◌&&◌, List, [], ◌∷◌, map, codes, decimal, Some, Ok}
 use Rattle.std.specs.List.{list_all}
+use Rattle.std.specs.Option.{option_map_or}
 use Rattle.hx_text.specs.Spellings.{is_name}
 use Rattle.hx_text.specs.Lines.{lines_of}
+use Rattle.hx_ideal.specs.ModeKinds.{kind_name}
 use Rattle.hx_cluster.specs.declared.description.Spec.{Spec}
 use Rattle.hx_print.specs.Texts.{line_of, name_at, instance_name, state_name, model_name, controller_name, message_name, mapped_name}
+use Rattle.hx_script.specs.Modes.{mode_numbered}
 use Rattle.hx_script.specs.declared.ReadKind.{ReadKind}
 use Rattle.hx_script.specs.declared.ReadKind.TheVariants as reads
 use Rattle.hx_script.specs.declared.What.{What}
@@ -14,7 +17,7 @@ use Rattle.hx_script.specs.Grammar.{verb_name, asked_by, spec_after, script_of}
 
 -- a number that is no mode has the empty name
 abbrev pub mode_text : ℕ → List ℕ
-mode_text mode = if mode == 0 then codes "FULL_AUTO" else if mode == 1 then codes "SEMI_AUTO" else if mode == 2 then codes "CUSTOMIZED" else []
+mode_text mode = option_map_or kind_name (mode_numbered mode) []
 
 abbrev pub read_kind_text : ReadKind → List ℕ
 read_kind_text reads.Live = codes "live"

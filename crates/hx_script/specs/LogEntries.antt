@@ -4,8 +4,7 @@ use Rattle.std.specs.Option.{option_map}
 use Rattle.hx_ids.specs.declared.InstanceId.{InstanceId}
 use Rattle.hx_ids.specs.declared.SessionId.{SessionId}
 use Rattle.hx_ids.specs.declared.PartId.{PartId}
-use Rattle.hx_ideal.specs.declared.Mode.{Mode}
-use Rattle.hx_ideal.specs.declared.Mode.TheVariants as modes
+use Rattle.hx_ideal.specs.ModeKinds.{kind_of}
 use Rattle.hx_cluster.specs.declared.state.Cluster.{Cluster}
 use Rattle.hx_cluster.specs.declared.happenings.Admin.{Admin}
 use Rattle.hx_cluster.specs.declared.happenings.Admin.TheVariants as steps
@@ -17,6 +16,7 @@ use Rattle.hx_cluster.specs.declared.happenings.Event.TheVariants as events
 use Rattle.hx_cluster.specs.Ends.{instance_in, session_in}
 use Rattle.hx_print.specs.declared.roll.Roll.{Roll}
 use Rattle.hx_print.specs.Texts.{roll_of, joined_by, ended_by_tick, added_as, leads_in}
+use Rattle.hx_script.specs.Modes.{mode_number}
 use Rattle.hx_script.specs.declared.log.LogPart.{LogPart}
 use Rattle.hx_script.specs.declared.log.LogMove.{LogMove}
 use Rattle.hx_script.specs.declared.log.LogEntry.{LogEntry}
@@ -25,12 +25,6 @@ use Rattle.hx_script.specs.declared.log.LogEntry.TheVariants as logs
 -- a part, with the name of its resource
 abbrev pub part_told : List ℕ → PartId → LogPart
 part_told names p = record { name = slice_get names p.resource.0; resource = p.resource; index = p.index }
-
--- modes are 0, 1 and 2 for FULL_AUTO, SEMI_AUTO and CUSTOMIZED
-abbrev pub mode_number : Mode → ℕ
-mode_number modes.Full = 0
-mode_number (modes.Semi lists) = 1
-mode_number (modes.Custom maps) = 2
 
 -- a session that a tick ended, with its instance
 abbrev pub ended_told : List (SessionId × InstanceId) → SessionId → InstanceId × SessionId
@@ -45,7 +39,7 @@ step_told roll (steps.Tick n) did = Some (logs.Tick n (map (ended_told roll.live
 step_told roll (steps.Drain i) did = Some (logs.Drain i)
 step_told roll (steps.Undrain i) did = Some (logs.Undrain i)
 step_told roll (steps.Add name model ideal) did =
-    option_map (λ r. logs.Add name r model ideal.replicas ideal.parts (mode_number ideal.mode)) (added_as did)
+    option_map (λ r. logs.Add name r model ideal.replicas ideal.parts (mode_number (kind_of ideal.mode))) (added_as did)
 step_told roll (steps.Drop r) did = Some (logs.Drop (slice_get roll.resources r.0) r)
 step_told roll (steps.SetList p list) did = Some (logs.List (part_told roll.resources p) list)
 step_told roll (steps.SetMap p map) did = Some (logs.Map (part_told roll.resources p) map)

@@ -1,81 +1,90 @@
 //! The forms of script lines.
 ghost use Rattle.std.specs.Prelude.{◌≡◌, ℕ, ◌≤◌, map, length, IfOk};
-ghost use Rattle.hx_script.specs.Grammar.{instance_alone, controller_alone, instance_and_message, tick_line, add_line, drop_line, list_line, map_line, reset_line, read_line, route_line, bare_line, all_words, instance_word, pair_word, what_of};
+ghost use Rattle.hx_script.specs.Grammar;
 
 use crate::What;
 use crate::faults::ScriptKind;
 use crate::verbs::Verb;
 use crate::words::{
-    controller_word, five_words, instance_word, message_word, mode_word, model_word, name_word,
-    no_words, number_word, one_word, pair_word, part_words, read_kind_word, resource_word,
-    small_number_word, state_word, three_words, two_and_more, two_words,
+    controller_word, instance_word, message_word, mode_word, model_word, name_word, number_word,
+    pair_word, part_words, read_kind_word, resource_word, small_number_word, state_word,
 };
 use hx_cluster::Spec;
+use hx_ideal::{MOST_PARTS, MOST_REPLICAS};
 use hx_ids::{ControllerId, InstanceId, MsgId, StateId};
 use hx_lists::Seq;
 use std::alloc::{AllocError, Global};
 
 /// An instance.
 fn instance_alone(spec: &Spec, words: &[&str]) -> Result<InstanceId, ScriptKind>
-    ensures { result ≡ instance_alone spec.now (map (λ w. w.now) words.now) }
+    ensures { result ≡ Grammar.instance_alone spec.now (map (λ w. w.now) words.now) }
 {
-    instance_word(spec, one_word(words)?)
+    let [instance] = words else {
+        return Err(ScriptKind::WordCount);
+    };
+    instance_word(spec, instance)
 }
 
 /// A controller.
 fn controller_alone(spec: &Spec, words: &[&str]) -> Result<ControllerId, ScriptKind>
-    ensures { result ≡ controller_alone spec.now (map (λ w. w.now) words.now) }
+    ensures { result ≡ Grammar.controller_alone spec.now (map (λ w. w.now) words.now) }
 {
-    controller_word(spec, one_word(words)?)
+    let [controller] = words else {
+        return Err(ScriptKind::WordCount);
+    };
+    controller_word(spec, controller)
 }
 
 /// An instance and a message.
 fn instance_and_message(spec: &Spec, words: &[&str]) -> Result<(InstanceId, MsgId), ScriptKind>
-    ensures { result ≡ instance_and_message spec.now (map (λ w. w.now) words.now) }
+    ensures { result ≡ Grammar.instance_and_message spec.now (map (λ w. w.now) words.now) }
 {
-    let (instance, message) = two_words(words)?;
-    let instance = instance_word(spec, instance)?;
-    let message = message_word(message)?;
-    Ok((instance, message))
+    let [instance, message] = words else {
+        return Err(ScriptKind::WordCount);
+    };
+    Ok((instance_word(spec, instance)?, message_word(message)?))
 }
 
 fn tick_line(words: &[&str]) -> Result<What, ScriptKind>
-    ensures { result ≡ tick_line (map (λ w. w.now) words.now) }
+    ensures { result ≡ Grammar.tick_line (map (λ w. w.now) words.now) }
 {
-    let n = number_word(0, u64::MAX, one_word(words)?)?;
-    Ok(What::Tick(n))
+    let [ticks] = words else {
+        return Err(ScriptKind::WordCount);
+    };
+    Ok(What::Tick(number_word(0, u64::MAX, ticks)?))
 }
 
 fn add_line(spec: &Spec, words: &[&str]) -> Result<What, ScriptKind>
     requires { length spec.now.model_names ≤ 256 }
-    ensures { result ≡ add_line spec.now (map (λ w. w.now) words.now) }
+    ensures { result ≡ Grammar.add_line spec.now (map (λ w. w.now) words.now) }
 {
-    let (name, model, replicas, parts, mode) = five_words(words)?;
-    let name = name_word(spec, name)?;
-    let model = model_word(spec, model)?;
-    let replicas = small_number_word(1, 64, replicas)?;
-    let parts = small_number_word(1, 1024, parts)?;
-    let mode = mode_word(mode)?;
+    let [name, model, replicas, parts, mode] = words else {
+        return Err(ScriptKind::WordCount);
+    };
     Ok(What::Add {
-        name,
-        model,
-        replicas,
-        parts,
-        mode,
+        name: name_word(spec, name)?,
+        model: model_word(spec, model)?,
+        replicas: small_number_word(1, MOST_REPLICAS, replicas)?,
+        parts: small_number_word(1, MOST_PARTS, parts)?,
+        mode: mode_word(mode)?,
     })
 }
 
 fn drop_line(spec: &Spec, words: &[&str]) -> Result<What, ScriptKind>
-    ensures { result ≡ drop_line spec.now (map (λ w. w.now) words.now) }
+    ensures { result ≡ Grammar.drop_line spec.now (map (λ w. w.now) words.now) }
 {
-    let name = resource_word(spec, one_word(words)?)?;
-    Ok(What::Drop(name))
+    let [name] = words else {
+        return Err(ScriptKind::WordCount);
+    };
+    Ok(What::Drop(resource_word(spec, name)?))
 }
 
 fn reset_line(spec: &Spec, words: &[&str]) -> Result<What, ScriptKind>
-    ensures { result ≡ reset_line spec.now (map (λ w. w.now) words.now) }
+    ensures { result ≡ Grammar.reset_line spec.now (map (λ w. w.now) words.now) }
 {
-    let (instance, name, part) = three_words(words)?;
+    let [instance, name, part] = words else {
+        return Err(ScriptKind::WordCount);
+    };
     let instance = instance_word(spec, instance)?;
     let (name, part) = part_words(spec, name, part)?;
     Ok(What::Reset {
@@ -86,30 +95,33 @@ fn reset_line(spec: &Spec, words: &[&str]) -> Result<What, ScriptKind>
 }
 
 fn read_line(spec: &Spec, words: &[&str]) -> Result<What, ScriptKind>
-    ensures { result ≡ read_line spec.now (map (λ w. w.now) words.now) }
+    ensures { result ≡ Grammar.read_line spec.now (map (λ w. w.now) words.now) }
 {
-    let (controller, kind) = two_words(words)?;
+    let [controller, kind] = words else {
+        return Err(ScriptKind::WordCount);
+    };
     let controller = controller_word(spec, controller)?;
-    let kind = read_kind_word(kind)?;
-    Ok(What::Read(controller, kind))
+    Ok(What::Read(controller, read_kind_word(kind)?))
 }
 
 fn route_line(spec: &Spec, words: &[&str]) -> Result<What, ScriptKind>
     requires { length spec.now.states ≤ 256 }
-    ensures { result ≡ route_line spec.now (map (λ w. w.now) words.now) }
+    ensures { result ≡ Grammar.route_line spec.now (map (λ w. w.now) words.now) }
 {
-    let (name, part, state) = three_words(words)?;
+    let [name, part, state] = words else {
+        return Err(ScriptKind::WordCount);
+    };
     let (name, part) = part_words(spec, name, part)?;
     let state = state_word(spec, state)?;
     Ok(What::Route { name, part, state })
 }
 
 fn bare_line(what: What, words: &[&str]) -> Result<What, ScriptKind>
-    ensures { result ≡ bare_line what (map (λ w. w.now) words.now) }
+    ensures { result ≡ Grammar.bare_line what (map (λ w. w.now) words.now) }
 {
-    match no_words(words) {
-        Ok(()) => Ok(what),
-        Err(kind) => Err(kind),
+    match words {
+        [] => Ok(what),
+        _ => Err(ScriptKind::WordCount),
     }
 }
 
@@ -119,7 +131,8 @@ fn instance_words(
     spec: &Spec,
     words: &[&str],
 ) -> Result<Result<Seq<InstanceId>, ScriptKind>, AllocError>
-    ensures { IfOk result (λ r. r ≡ all_words (instance_word spec.now) (map (λ w. w.now) words.now)) }
+    ensures { IfOk result (λ r.
+        r ≡ Grammar.all_words (Grammar.instance_word spec.now) (map (λ w. w.now) words.now)) }
 {
     let mut list = Seq::new(alloc);
     for word in words {
@@ -138,7 +151,8 @@ fn pair_words(
     words: &[&str],
 ) -> Result<Result<Seq<(InstanceId, StateId)>, ScriptKind>, AllocError>
     requires { length spec.now.states ≤ 256 }
-    ensures { IfOk result (λ r. r ≡ all_words (pair_word spec.now) (map (λ w. w.now) words.now)) }
+    ensures { IfOk result (λ r.
+        r ≡ Grammar.all_words (Grammar.pair_word spec.now) (map (λ w. w.now) words.now)) }
 {
     let mut map = Seq::new(alloc);
     for word in words {
@@ -155,11 +169,10 @@ fn list_line(
     spec: &Spec,
     words: &[&str],
 ) -> Result<Result<What, ScriptKind>, AllocError>
-    ensures { IfOk result (λ r. r ≡ list_line spec.now (map (λ w. w.now) words.now)) }
+    ensures { IfOk result (λ r. r ≡ Grammar.list_line spec.now (map (λ w. w.now) words.now)) }
 {
-    let (name, part, rest) = match two_and_more(words) {
-        Ok(found) => found,
-        Err(kind) => return Ok(Err(kind)),
+    let [name, part, rest @ ..] = words else {
+        return Ok(Err(ScriptKind::WordCount));
     };
     let (name, part) = match part_words(spec, name, part) {
         Ok(found) => found,
@@ -177,11 +190,10 @@ fn map_line(
     words: &[&str],
 ) -> Result<Result<What, ScriptKind>, AllocError>
     requires { length spec.now.states ≤ 256 }
-    ensures { IfOk result (λ r. r ≡ map_line spec.now (map (λ w. w.now) words.now)) }
+    ensures { IfOk result (λ r. r ≡ Grammar.map_line spec.now (map (λ w. w.now) words.now)) }
 {
-    let (name, part, rest) = match two_and_more(words) {
-        Ok(found) => found,
-        Err(kind) => return Ok(Err(kind)),
+    let [name, part, rest @ ..] = words else {
+        return Ok(Err(ScriptKind::WordCount));
     };
     let (name, part) = match part_words(spec, name, part) {
         Ok(found) => found,
@@ -202,7 +214,7 @@ pub fn what_of(
 ) -> Result<Result<What, ScriptKind>, AllocError>
     requires models { length spec.now.model_names ≤ 256 }
     requires states { length spec.now.states ≤ 256 }
-    ensures { IfOk result (λ r. r ≡ what_of spec.now verb (map (λ w. w.now) words.now)) }
+    ensures { IfOk result (λ r. r ≡ Grammar.what_of spec.now verb (map (λ w. w.now) words.now)) }
 {
     match verb {
         Verb::Join => Ok(instance_alone(spec, words).map(What::Join)),

@@ -4,6 +4,7 @@
 mod faults;
 mod forms;
 mod log;
+mod modes;
 mod parsing;
 mod printing;
 mod verbs;
@@ -14,6 +15,7 @@ use hx_ids::{ControllerId, InstanceId, ModelId, MsgId, StateId};
 use hx_lists::Seq;
 pub use hx_print::{Note, Word};
 pub use log::{LogEntry, LogLine, LogMove, LogPart, LogVerb};
+pub use modes::{mode_number, mode_numbered};
 pub use parsing::parse;
 pub use printing::{print_line, printed_lines_are_read_again};
 pub use verbs::Verb;
@@ -27,8 +29,8 @@ pub enum ReadKind {
     Ideals,
 }
 
-/// What a script line asks for. A resource is given by the place of its name among the resource names, a mode
-/// as 0, 1 or 2 for FULL_AUTO, SEMI_AUTO and CUSTOMIZED.
+/// What a script line asks for. A resource is given by the place of its name among the resource
+/// names, a mode as 0, 1 or 2 for FULL_AUTO, SEMI_AUTO and CUSTOMIZED.
 #[derive(Debug, PartialEq, Drop)]
 pub enum What {
     Join(InstanceId),
@@ -91,6 +93,3 @@ pub struct Line {
     pub number: u32,
     pub what: What,
 }
-
-#[cfg(test)]
-mod tests;

@@ -5,8 +5,8 @@ use hx_ids::{
 };
 use hx_lists::Seq;
 
-/// A part as a log writes it: the resource's name and number, and the partition. The name is its place among the
-/// resource names, and None where it isn't among them.
+/// A part as a log writes it: the resource's name and number, and the partition. The name is its
+/// place among the resource names, and None where it isn't among them.
 #[derive(Clone, Copy, Debug, PartialEq, Eq)]
 pub struct LogPart {
     pub name: Option<u32>,
@@ -96,8 +96,8 @@ pub enum LogEntry {
     Ack(SessionId, MsgId),
 }
 
-/// A line of a log, with the indented lines that belong to it: what it tells, and None where it is no line of a
-/// log.
+/// A line of a log, with the indented lines that belong to it: what it tells, and None where it is
+/// no line of a log.
 #[derive(Debug, PartialEq, Drop)]
 pub struct LogLine {
     pub line: u32,

@@ -1,21 +1,23 @@
 //! Scripts, read line by line.
-ghost use Rattle.std.specs.Prelude.{◌≡◌, ◌⊎◌, ℕ, ◌-◌, ◌^◌, ◌<◌, ◌≤◌, ◌++◌, map, length, IfOk, OnErr, IfErr};
+ghost use Rattle.std.specs.Prelude.{◌≡◌, ◌⊎◌, ℕ, ◌-◌, ◌^◌, ◌<◌, ◌≤◌, ◌++◌, map, length};
+ghost use Rattle.std.specs.Prelude.{IfOk, OnErr, IfErr, Ok, Err, true};
+ghost use Rattle.std.specs.List.{list_all};
 ghost use Rattle.hx_text.specs.Lines.{words_of};
-ghost use Rattle.hx_script.specs.Grammar.{is_comment, is_add, asked_by_words, asked_by, with_name, spec_after, line_asked, script_of};
+ghost use Rattle.hx_script.specs.Grammar;
 ghost use Rattle.hx_script.specs.Parsing.{IsReadable, KeepsAllButNames};
+ghost use Rattle.hx_script.specs.Ranges.{is_line_in_range};
 
 use crate::faults::{ScriptFault, ScriptKind, ScriptRefusal};
 use crate::forms::what_of;
 use crate::verbs::Verb;
-use crate::words::two_and_more;
 use crate::{Line, What};
 use hx_cluster::Spec;
-use hx_text::{Lines, words};
+use hx_text::{Lines, split_words};
 use std::alloc::{AllocError, Global};
 
 /// Whether the first word of a line makes it a comment.
 fn is_comment(word: &str) -> bool
-    ensures { result ≡ is_comment word.now }
+    ensures { result ≡ Grammar.is_comment word.now }
 {
     match word.as_bytes() {
         [first, ..] => *first == b'#',
@@ -25,7 +27,7 @@ fn is_comment(word: &str) -> bool
 
 /// Whether a line adds a resource.
 fn is_add(what: &Option<What>) -> bool
-    ensures { result ≡ is_add what.now }
+    ensures { result ≡ Grammar.is_add what.now }
 {
     matches!(what, Some(What::Add { .. }))
 }
@@ -38,7 +40,7 @@ fn asked_by_words(
 ) -> Result<Result<Option<What>, ScriptKind>, AllocError>
     requires models { length spec.now.model_names ≤ 256 }
     requires states { length spec.now.states ≤ 256 }
-    ensures { IfOk result (λ r. r ≡ asked_by_words spec.now (map (λ w. w.now) words.now)) }
+    ensures { IfOk result (λ r. r ≡ Grammar.asked_by_words spec.now (map (λ w. w.now) words.now)) }
 {
     let [first, rest @ ..] = words else {
         return Ok(Ok(None));
@@ -58,43 +60,46 @@ fn asked_by_words(
 /// Brings in the name of an added resource, which is the second word of its line.
 fn add_name(spec: &mut Spec, words: &[&str]) -> Result<(), AllocError>
     requires { length spec.old.resource_names < 2 ^ 32 - 1 }
-    ensures ok { IfOk result (λ _. spec.new ≡ with_name spec.old (map (λ w. w.now) words.now)) }
+    ensures ok { IfOk result (λ _.
+        spec.new ≡ Grammar.with_name spec.old (map (λ w. w.now) words.now)) }
     ensures err { OnErr result (spec.new ≡ spec.old) }
 {
-    match two_and_more(words) {
-        Ok((_, name, _)) => {
-            spec.resource_names.intern(name)?;
-            Ok(())
-        }
-        Err(_) => Ok(()),
+    if let [_, name, ..] = words {
+        spec.resource_names.intern(name)?;
     }
+    Ok(())
 }
 
-/// What a line asks for. The name that an `add` line brings is added.
-fn asked_by(
+/// What a line asks for. The name that an `add` line brings is added. The list is room for its
+/// words.
+fn asked_by<'a>(
     alloc: Global,
     spec: &mut Spec,
-    line: &str,
+    line: &'a str,
+    words: &mut Vec<&'a str>,
 ) -> Result<Result<Option<What>, ScriptKind>, AllocError>
     requires models { length spec.old.model_names ≤ 256 }
     requires states { length spec.old.states ≤ 256 }
     requires names { length spec.old.resource_names < 2 ^ 32 - 1 }
-    ensures ok { IfOk result (λ r. (r ≡ asked_by spec.old line.now) × (spec.new ≡ spec_after spec.old line.now)) }
+    ensures ok { IfOk result (λ r.
+        (r ≡ Grammar.asked_by spec.old line.now) ×
+        (spec.new ≡ Grammar.spec_after spec.old line.now)) }
     ensures err { OnErr result (spec.new ≡ spec.old) }
 {
-    let words = words(alloc, line)?;
-    let asked = asked_by_words(alloc, spec, words.as_slice())?;
+    split_words(line, words)?;
+    let asked = asked_by_words(alloc, spec, words)?;
     if let Ok(what) = &asked
         && is_add(what)
     {
-        add_name(spec, words.as_slice())?;
+        add_name(spec, words)?;
     }
     Ok(asked)
 }
 
 /// Adds what a line asks for, unless it is a comment.
 fn add_line(script: &mut Vec<Line>, number: u32, what: Option<What>) -> Result<(), AllocError>
-    ensures { IfOk result (λ _. script.new.items ≡ script.old.items ++ line_asked number what) }
+    ensures { IfOk result (λ _.
+        script.new.items ≡ script.old.items ++ Grammar.line_asked number what) }
 {
     match what {
         Some(what) => {
@@ -105,19 +110,27 @@ fn add_line(script: &mut Vec<Line>, number: u32, what: Option<What>) -> Result<(
     }
 }
 
-/// The lines of a script that ask for something, each with its number. The names that `add` lines bring are
-/// added to the resource names; nothing else of the description changes.
+/// The lines of a script that ask for something, each with its number. The names that `add` lines
+/// bring are added to the resource names; nothing else of the description changes.
 ///
 /// A fault is the first of the script. The names of the lines before it may have been added.
 pub fn parse(alloc: Global, lines: &Lines, spec: &mut Spec) -> Result<Vec<Line>, ScriptRefusal>
     requires { IsReadable spec.old lines.now }
-    ensures ok { IfOk result (λ script. script_of lines.now spec.old ≡ Ok (script.items, spec.new)) }
-    ensures err { IfErr result (λ e. (e ≡ ScriptRefusal.OutOfMemory) ⊎ ((fault : ScriptFault) × (e ≡ ScriptRefusal.Fault fault) × (script_of lines.now spec.old ≡ Err fault))) }
+    ensures ok { IfOk result (λ script.
+        Grammar.script_of lines.now spec.old ≡ Ok (script.items, spec.new)) }
+    ensures err { IfErr result (λ e. (e ≡ ScriptRefusal.OutOfMemory) ⊎
+        ((fault : ScriptFault) × (e ≡ ScriptRefusal.Fault fault) ×
+        (Grammar.script_of lines.now spec.old ≡ Err fault))) }
     ensures kept { KeepsAllButNames spec.old spec.new }
+
+    // The lines name what the description has by then, and their numbers are those of the grammar.
+    ensures in_range { IfOk result (λ script.
+        list_all (is_line_in_range spec.new) script.items ≡ true) }
 {
     let mut script = Vec::new(alloc);
+    let mut words = Vec::new(alloc);
     for place in 0..lines.len() {
-        match asked_by(alloc, spec, lines.get(place))? {
+        match asked_by(alloc, spec, lines.get(place), &mut words)? {
             Ok(what) => add_line(&mut script, place + 1, what)?,
             Err(kind) => {
                 return Err(ScriptRefusal::Fault(ScriptFault {

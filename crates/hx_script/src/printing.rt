@@ -2,14 +2,15 @@
 ghost use Rattle.std.specs.Prelude.{◌≡◌, ℕ, List, [], ◌∷◌, map, decimal, Ok, true};
 ghost use Rattle.std.specs.List.{AllByRecursion};
 ghost use Rattle.hx_text.specs.Texts.{Prints};
-ghost use Rattle.hx_print.specs.Texts.{line_of, name_at, instance_name, controller_name, message_name, mapped_name};
+ghost use Rattle.hx_print.specs.Texts;
 ghost use Rattle.hx_cluster.specs.declared.description.Spec.{Spec};
 ghost use Rattle.hx_script.specs.declared.Line.{Line};
 ghost use Rattle.hx_script.specs.declared.What.{What};
 ghost use Rattle.hx_script.specs.declared.What.TheVariants as asks;
 ghost use Rattle.hx_script.specs.Grammar.{verb_name, script_of};
-ghost use Rattle.hx_script.specs.LineTexts.{mode_text, read_kind_text, line_text, has_names, IsAsked, IsReadAs};
+ghost use Rattle.hx_script.specs.LineTexts;
 
+use crate::modes::mode_numbered;
 use crate::verbs::Verb;
 use crate::{Line, ReadKind, What};
 use hx_cluster::Spec;
@@ -21,21 +22,19 @@ use hx_print::{
 use hx_text::Page;
 use std::alloc::AllocError;
 
-/// How a script writes a mode.
-fn mode_text(mode: u8) -> &'static str
-    ensures { result.now ≡ mode_text mode }
+/// How a script writes the mode that has a number.
+fn mode_text(number: u8) -> &'static str
+    ensures { result.now ≡ LineTexts.mode_text number }
 {
-    match mode {
-        0 => "FULL_AUTO",
-        1 => "SEMI_AUTO",
-        2 => "CUSTOMIZED",
-        _ => "",
+    match mode_numbered(number) {
+        Some(kind) => kind.name(),
+        None => "",
     }
 }
 
 /// How a script writes one of a turn's reads.
 fn read_kind_text(kind: ReadKind) -> &'static str
-    ensures { result.now ≡ read_kind_text kind }
+    ensures { result.now ≡ LineTexts.read_kind_text kind }
 {
     match kind {
         ReadKind::Live => "live",
@@ -52,7 +51,8 @@ fn print_with_instance(
     spec: &Spec,
     page: &mut Page,
 ) -> Result<(), AllocError>
-    ensures { Prints (line_of (verb_name verb ∷ instance_name spec.now instance ∷ [])) page.old result page.new }
+    ensures { Prints (Texts.line_of (verb_name verb ∷ Texts.instance_name spec.now instance ∷ []))
+        page.old result page.new }
 {
     let instance = Token::Text(instance_name(spec, instance));
     print_short_line(verb.name(), &[instance], page)
@@ -64,7 +64,8 @@ fn print_with_controller(
     controller: ControllerId,
     page: &mut Page,
 ) -> Result<(), AllocError>
-    ensures { Prints (line_of (verb_name verb ∷ controller_name controller ∷ [])) page.old result page.new }
+    ensures { Prints (Texts.line_of (verb_name verb ∷ Texts.controller_name controller ∷ []))
+        page.old result page.new }
 {
     print_short_line(verb.name(), &[Token::Controller(controller)], page)
 }
@@ -77,7 +78,10 @@ fn print_with_message(
     spec: &Spec,
     page: &mut Page,
 ) -> Result<(), AllocError>
-    ensures { Prints (line_of (verb_name verb ∷ instance_name spec.now instance ∷ message_name id ∷ [])) page.old result page.new }
+    ensures { Prints
+        (Texts.line_of (verb_name verb ∷
+        Texts.instance_name spec.now instance ∷ Texts.message_name id ∷ []))
+        page.old result page.new }
 {
     let instance = Token::Text(instance_name(spec, instance));
     print_short_line(verb.name(), &[instance, Token::Message(id)], page)
@@ -93,7 +97,8 @@ fn print_add(
     spec: &Spec,
     page: &mut Page,
 ) -> Result<(), AllocError>
-    ensures { Prints (line_text spec.now (asks.Add name model replicas parts mode)) page.old result page.new }
+    ensures { Prints (LineTexts.line_text spec.now (asks.Add name model replicas parts mode))
+        page.old result page.new }
 {
     let name = Token::Text(name_at(&spec.resource_names, name));
     let model = Token::Text(model_name(spec, model));
@@ -115,7 +120,10 @@ fn print_list(
     spec: &Spec,
     page: &mut Page,
 ) -> Result<(), AllocError>
-    ensures { Prints (line_of (verb_name Verb.List ∷ name_at spec.now.resource_names name ∷ decimal part ∷ map (instance_name spec.now) list.now)) page.old result page.new }
+    ensures { Prints
+        (Texts.line_of (verb_name Verb.List ∷ Texts.name_at spec.now.resource_names name ∷
+        decimal part ∷ map (Texts.instance_name spec.now) list.now))
+        page.old result page.new }
 {
     let name = Token::Text(name_at(&spec.resource_names, name));
     let part = Token::Number(part as u64);
@@ -131,7 +139,10 @@ fn print_map(
     spec: &Spec,
     page: &mut Page,
 ) -> Result<(), AllocError>
-    ensures { Prints (line_of (verb_name Verb.Map ∷ name_at spec.now.resource_names name ∷ decimal part ∷ map (mapped_name spec.now) entries.now)) page.old result page.new }
+    ensures { Prints
+        (Texts.line_of (verb_name Verb.Map ∷ Texts.name_at spec.now.resource_names name ∷
+        decimal part ∷ map (Texts.mapped_name spec.now) entries.now))
+        page.old result page.new }
 {
     let name = Token::Text(name_at(&spec.resource_names, name));
     let part = Token::Number(part as u64);
@@ -147,7 +158,8 @@ fn print_reset(
     spec: &Spec,
     page: &mut Page,
 ) -> Result<(), AllocError>
-    ensures { Prints (line_text spec.now (asks.Reset instance name part)) page.old result page.new }
+    ensures { Prints (LineTexts.line_text spec.now (asks.Reset instance name part))
+        page.old result page.new }
 {
     let instance = Token::Text(instance_name(spec, instance));
     let name = Token::Text(name_at(&spec.resource_names, name));
@@ -163,7 +175,8 @@ fn print_route(
     spec: &Spec,
     page: &mut Page,
 ) -> Result<(), AllocError>
-    ensures { Prints (line_text spec.now (asks.Route name part state)) page.old result page.new }
+    ensures { Prints (LineTexts.line_text spec.now (asks.Route name part state))
+        page.old result page.new }
 {
     let name = Token::Text(name_at(&spec.resource_names, name));
     let part = Token::Number(part as u64);
@@ -171,9 +184,10 @@ fn print_route(
     print_short_line(Verb::Route.name(), &[name, part, state], page)
 }
 
-/// Prints a script line, with one space between its words. A name that the description lacks is empty.
+/// Prints a script line, with one space between its words. A name that the description lacks is
+/// empty.
 pub fn print_line(line: &Line, spec: &Spec, page: &mut Page) -> Result<(), AllocError>
-    ensures { Prints (line_text spec.now line.now.what) page.old result page.new }
+    ensures { Prints (LineTexts.line_text spec.now line.now.what) page.old result page.new }
 {
     match &line.what {
         What::Join(i) => print_with_instance(Verb::Join, *i, spec, page),
@@ -225,10 +239,16 @@ pub fn print_line(line: &Line, spec: &Spec, page: &mut Page) -> Result<(), Alloc
     }
 }
 
-/// A law: a line that `parse` gives is read again, but for its number, from the text that `print_line` writes for
-/// it, where the names of the description are spelt as names are.
+/// A law: a line that `parse` gives is read again, but for its number, from the text that
+/// `print_line` writes for it, where the names of the description are spelt as names are.
 pub fn printed_lines_are_read_again()
-    ensures asked { (lines : List (List ℕ)) (spec after : Spec) (script : List Line) → script_of lines spec ≡ Ok (script, after) → AllByRecursion (λ line. IsAsked after line.what) script }
-    ensures named { (lines : List (List ℕ)) (spec after : Spec) (script : List Line) → script_of lines spec ≡ Ok (script, after) → has_names spec ≡ true → has_names after ≡ true }
-    ensures again { (spec : Spec) (what : What) → has_names spec ≡ true → IsAsked spec what → IsReadAs spec (line_text spec what) what }
+    ensures asked { (lines : List (List ℕ)) (spec after : Spec) (script : List Line) →
+        script_of lines spec ≡ Ok (script, after) →
+        AllByRecursion (λ line. LineTexts.IsAsked after line.what) script }
+    ensures named { (lines : List (List ℕ)) (spec after : Spec) (script : List Line) →
+        script_of lines spec ≡ Ok (script, after) →
+        LineTexts.has_names spec ≡ true → LineTexts.has_names after ≡ true }
+    ensures again { (spec : Spec) (what : What) →
+        LineTexts.has_names spec ≡ true → LineTexts.IsAsked spec what →
+        LineTexts.IsReadAs spec (LineTexts.line_text spec what) what }
 {}

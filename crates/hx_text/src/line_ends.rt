@@ -1,11 +1,11 @@
 //! Where lines end, where an input is cut, and the words of a line.
-ghost use Rattle.std.specs.Prelude.{◌≡◌, map, length, IfOk};
+ghost use Rattle.std.specs.Prelude.{◌≡◌, map, length, OnOk};
 ghost use Rattle.std.specs.List.{position};
 ghost use Rattle.std.specs.Option.{option_map};
 ghost use Rattle.std.specs.Str.Lines.{strip_carriage_return};
 ghost use Rattle.hx_text.specs.Lines.{is_line_feed, first_line, after_line, cut_of, words_of};
 
-use std::alloc::{AllocError, Global};
+use std::alloc::AllocError;
 
 /// The line between a description and what follows it.
 const SEPARATOR: [u8; 3] = *b"---";
@@ -67,11 +67,15 @@ pub fn cut(bytes: &[u8]) -> Option<Input<'_>>
     None
 }
 
-/// The words of a line, which one or more spaces part.
-pub fn words(alloc: Global, line: &str) -> Result<Vec<&str>, AllocError>
-    ensures { IfOk result (λ ws. map (λ w. w.now) ws.items ≡ words_of line.now) }
+/// Puts the words of a line, which one or more spaces part, into a list in place of what it holds.
+pub fn split_words<'a>(line: &'a str, words: &mut Vec<&'a str>) -> Result<(), AllocError>
+    ensures { OnOk result (map (λ w. w.now) words.new.items ≡ words_of line.now) }
 {
-    line.split(' ')
-        .filter(|word| !word.is_empty())
-        .collect(alloc)
+    words.clear();
+    for word in line.split(' ') {
+        if !word.is_empty() {
+            words.push(word)?;
+        }
+    }
+    Ok(())
 }

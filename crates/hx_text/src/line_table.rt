@@ -107,7 +107,8 @@ impl Lines {
 
 /// A line as text, if nothing is wrong with it.
 fn check_line(line: &[u8], number: u32, most: usize) -> Result<&str, TextFault>
-    ensures ok { IfOk result (λ text. (text.now ≡ line.now) × (line_fault most number line.now ≡ None)) }
+    ensures ok { IfOk result (λ text.
+        (text.now ≡ line.now) × (line_fault most number line.now ≡ None)) }
     ensures err { IfErr result (λ e. line_fault most number line.now ≡ Some e) }
 {
     match str::from_utf8(line) {
@@ -119,13 +120,15 @@ fn check_line(line: &[u8], number: u32, most: usize) -> Result<&str, TextFault>
 
 /// Takes a text apart into its lines, of which each has `most` bytes at most.
 ///
-/// A line ends at `\n` or at the end of the text. One `\r` before that `\n` isn't part of it. The fault is
-/// that of the first line that has one, where lines are numbered from 1. Of a line that isn't UTF-8 the
-/// length isn't asked.
+/// A line ends at `\n` or at the end of the text. One `\r` before that `\n` isn't part of it. The
+/// fault is that of the first line that has one, where lines are numbered from 1. Of a line that
+/// isn't UTF-8 the length isn't asked.
 pub fn split_lines(alloc: Global, bytes: &[u8], most: usize) -> Result<Lines, TextFault>
     requires { length bytes.now < 2 ^ 32 - 1 }
-    ensures ok { IfOk result (λ lines. (lines ≡ lines_of bytes.now) × (lines_fault most bytes.now ≡ None)) }
-    ensures err { IfErr result (λ e. (e ≡ TextFault.OutOfMemory) ⊎ (lines_fault most bytes.now ≡ Some e)) }
+    ensures ok { IfOk result (λ lines.
+        (lines ≡ lines_of bytes.now) × (lines_fault most bytes.now ≡ None)) }
+    ensures err { IfErr result (λ e.
+        (e ≡ TextFault.OutOfMemory) ⊎ (lines_fault most bytes.now ≡ Some e)) }
 {
     let mut lines = Lines::with_room(alloc, bytes.len())?;
     let mut rest = bytes;

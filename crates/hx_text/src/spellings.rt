@@ -17,7 +17,8 @@ fn are_name_bytes(bytes: &[u8]) -> bool
     bytes.iter().all(|b| is_name_byte(*b))
 }
 
-/// Whether a text is a name: an ASCII letter, and behind it at most 62 ASCII letters, digits, `_`, `.` and `-`.
+/// Whether a text is a name: an ASCII letter, and behind it at most 62 ASCII letters, digits, `_`,
+/// `.` and `-`.
 #[tactic(auto, using(crate::proofs::Names::name_by_parts))]
 pub fn is_name(text: &str) -> bool
     ensures { result ≡ is_name text.now }

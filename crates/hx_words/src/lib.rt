@@ -3,6 +3,7 @@
 
 ghost use Rattle.std.specs.Prelude.{◌≡◌};
 
+mod limits;
 mod options;
 mod reading;
 mod texts;

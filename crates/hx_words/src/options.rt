@@ -5,6 +5,7 @@ ghost use Rattle.clap.specs.Walk.{rule_of};
 ghost use Rattle.clap.specs.declared.builder.value_parser.ValueParser.{ValueParser};
 ghost use Rattle.hx_words.specs.CommandLine.{option_rule, mode_rule, lanes_rule, rounds_rule, seed_rule, size_rule, command_line};
 
+use crate::limits::{LANES, Limits, ROUNDS, SEED, SIZE};
 use clap::builder::ValueParser;
 use clap::{Arg, ArgAction, Command};
 use std::alloc::{AllocError, Global};
@@ -19,6 +20,13 @@ fn value_option<'a>(alloc: Global, name: &'a str, parser: ValueParser<'a>) -> Ar
         .value_parser(parser)
 }
 
+/// A parser of the numbers of an option.
+fn numbers<'a>(limits: Limits) -> ValueParser<'a>
+    ensures { result ≡ ValueParser.Unsigned limits.least limits.most }
+{
+    ValueParser::Unsigned(limits.least, limits.most)
+}
+
 fn mode_option<'a>(alloc: Global, modes: ValueParser<'a>) -> Arg<'a>
     ensures { rule_of result ≡ mode_rule modes.entry }
 {
@@ -28,25 +36,25 @@ fn mode_option<'a>(alloc: Global, modes: ValueParser<'a>) -> Arg<'a>
 fn lanes_option<'a>(alloc: Global) -> Arg<'a>
     ensures { rule_of result ≡ lanes_rule }
 {
-    value_option(alloc, "lanes", ValueParser::Unsigned(1, 16))
+    value_option(alloc, "lanes", numbers(LANES))
 }
 
 fn rounds_option<'a>(alloc: Global) -> Arg<'a>
     ensures { rule_of result ≡ rounds_rule }
 {
-    value_option(alloc, "rounds", ValueParser::Unsigned(0, 1000))
+    value_option(alloc, "rounds", numbers(ROUNDS))
 }
 
 fn seed_option<'a>(alloc: Global) -> Arg<'a>
     ensures { rule_of result ≡ seed_rule }
 {
-    value_option(alloc, "seed", ValueParser::Unsigned(0, u64::MAX))
+    value_option(alloc, "seed", numbers(SEED))
 }
 
 fn size_option<'a>(alloc: Global) -> Arg<'a>
     ensures { rule_of result ≡ size_rule }
 {
-    value_option(alloc, "size", ValueParser::Unsigned(1, 256))
+    value_option(alloc, "size", numbers(SIZE))
 }
 
 /// The command with all options. The mode is one that a parser takes.

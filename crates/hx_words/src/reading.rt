@@ -6,6 +6,7 @@ ghost use Rattle.clap.specs.Walk.{rows_of};
 ghost use Rattle.hx_words.specs.CommandLine.{mode_names};
 ghost use Rattle.hx_words.specs.Tasks.{number_in, mode_named, mode_in, HasRanges, MeetsRanges, task_of, answer_to, HoldsOfAsked, IsAnswer};
 
+use crate::limits::{LANES, Limits, ROUNDS, SEED, SIZE};
 use crate::options::command_line;
 use crate::{RunMode, Task, Words, WordsFault};
 use clap::ArgMatches;
@@ -35,16 +36,16 @@ fn mode_in(matches: &ArgMatches) -> RunMode
 }
 
 /// The number of an option, or its default.
-fn number_in(matches: &ArgMatches, name: &str, least: u64, most: u64, default: u64) -> u64
-    requires low { least ≤ default }
-    requires high { default ≤ most }
-    ensures value { result ≡ number_in least most default (one_text (found_of matches.now) name.now) }
-    ensures low { least ≤ result }
-    ensures high { result ≤ most }
+fn number_in(matches: &ArgMatches, name: &str, limits: Limits) -> u64
+    requires low { limits.least ≤ limits.default }
+    requires high { limits.default ≤ limits.most }
+    ensures value { result ≡ number_in limits.least limits.most limits.default (one_text (found_of matches.now) name.now) }
+    ensures low { limits.least ≤ result }
+    ensures high { result ≤ limits.most }
 {
     match matches.get_one::<u64>(name) {
-        Some(n) if least <= n && n <= most => n,
-        _ => default,
+        Some(n) if limits.least <= n && n <= limits.most => n,
+        _ => limits.default,
     }
 }
 
@@ -53,10 +54,10 @@ fn task_of(matches: &ArgMatches) -> Task
     ensures value { result ≡ task_of (rows_of (found_of matches.now)) }
     ensures ranges { HasRanges result }
 {
-    let lanes = number_in(matches, "lanes", 1, 16, 4) as u32;
-    let rounds = number_in(matches, "rounds", 0, 1000, 10) as u32;
-    let seed = number_in(matches, "seed", 0, u64::MAX, 1);
-    let size = number_in(matches, "size", 1, 256, 64) as u32;
+    let lanes = number_in(matches, "lanes", LANES) as u32;
+    let rounds = number_in(matches, "rounds", ROUNDS) as u32;
+    let seed = number_in(matches, "seed", SEED);
+    let size = number_in(matches, "size", SIZE) as u32;
     Task {
         mode: mode_in(matches),
         lanes,
@@ -94,8 +95,8 @@ fn read_words_with(alloc: Global, modes: &[&str], words: &[String]) -> Result<Wo
 
 /// What the words of a command line ask for. The first is the program's name.
 ///
-/// Help and the version are asked for where a request for them stands before any fault. Words that are
-/// refused may tell of want of memory in place of their fault.
+/// Help and the version are asked for where a request for them stands before any fault. Words that
+/// are refused may tell of want of memory in place of their fault.
 pub fn read_words(alloc: Global, words: &[String]) -> Result<Words, WordsFault>
     ensures asked { HoldsOfAsked (map string_bytes words.now) (IsAnswer result) }
     ensures ranges { IfOk result MeetsRanges }

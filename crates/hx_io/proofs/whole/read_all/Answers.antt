@@ -1,13 +1,24 @@
-use Rattle.std.proofs.Common.{◌++◌, take, OnErr, Result, Ok, Err}
+use Rattle.std.proofs.Common.{◌≡◌, ℕ, ◌+◌, ◌≤◌, ◌<◌, List, ◌++◌, length, take, length-append, arith}
+use Rattle.std.proofs.lemmas.List.{length-take-le}
 use Rattle.std.proofs.KnownBytes.{Consumes-trans}
 use Rattle.hx_io.proofs.whole.read_all.Goals as goal
 
-always : {T E : Type 0} (P : Type 0) (r : Result T E) → P → OnErr r P
-always P (Ok _) p = tt
-always P (Err _) p = p
-
 -- the bytes kept and those of the last piece
-pub returns-in_err-extend_from_slice-clause-err : goal.returns-in_err-extend_from_slice-clause-err
-returns-in_err-extend_from_slice-clause-err g c =
-    always _ c.from_residual-in_err-extend_from_slice.result
-    (c.loop-buf.bytes.items ++ take c.in_ok-n.n c.read.new.buf, Consumes-trans _ _ _ _ _ c.loop-buf.invariant.taken c.in_ok-n.ensures.bytes.0, tt)
+both : (kept buf : List ℕ) (n : ℕ) → n ≤ length buf → length (kept ++ take n buf) ≡ length kept + n
+both kept buf n within = omega (arith, length-append kept (take n buf), length-take-le n buf within)
+
+pub returns-then-n-limit-clause-too_long : goal.returns-then-n-limit-clause-too_long
+returns-then-n-limit-clause-too_long g c = λ is.
+    let kept = c.loop-bytes.bytes.items in (
+      kept ++ take c.in_ok-n.n c.read.new.buf,
+      Consumes-trans _ _ _ _ _ c.loop-bytes.invariant.taken c.in_ok-n.ensures.bytes.0,
+      omega (arith, both kept c.read.new.buf c.in_ok-n.n c.in_ok-n.ensures.bound.0, c.if-n-limit.true, c.len.ensures),
+    )
+
+pub returns-in_err-extend_from_slice-clause-short_of_memory : goal.returns-in_err-extend_from_slice-clause-short_of_memory
+returns-in_err-extend_from_slice-clause-short_of_memory g c = λ is.
+    let kept = c.loop-bytes.bytes.items in (
+      kept ++ take c.in_ok-n.n c.read.new.buf,
+      Consumes-trans _ _ _ _ _ c.loop-bytes.invariant.taken c.in_ok-n.ensures.bytes.0,
+      omega (arith, both kept c.read.new.buf c.in_ok-n.n c.in_ok-n.ensures.bound.0, c.if-n-limit.false, c.len.ensures),
+    )

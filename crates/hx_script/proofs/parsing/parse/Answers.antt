@@ -1,6 +1,8 @@
-use Rattle.std.proofs.Common.{inr, refl, sym, ◌∙◌}
+use Rattle.std.proofs.Common.{inr, refl, sym, ◌∙◌, arith}
 use Rattle.hx_script.specs.Grammar.{script_of}
-use Rattle.hx_script.proofs.Scripts.{after_line, at_fault, kept_after, few_after}
+use Rattle.hx_script.proofs.LinesAgain.{lines_asked}
+use Rattle.hx_script.proofs.RangesGiven.{all_asked_in_range}
+use Rattle.hx_script.proofs.Scripts.{after_line, at_fault, kept_after, few_after, read_whole}
 use Rattle.hx_script.proofs.parsing.parse.Goals as goal
 
 pub returns-in_err-add_line-in-Ok-clause-kept : goal.returns-in_err-add_line-in-Ok-clause-kept
@@ -24,3 +26,10 @@ loop-place-preserved c =
       kept = kept_after c.args.spec.now c.loop-place.spec c.get.result.now c.loop-place.invariant.kept;
       few = few_after c.args.spec.now c.loop-place.spec c.get.result.now c.loop-place.place c.loop-place.invariant.few;
     })
+
+pub returns-clause-in_range : goal.returns-clause-in_range
+returns-clause-in_range c =
+    let lines = c.args.lines.now in
+    let script = c.loop-place.script.items in
+    let whole = read_whole lines c.loop-place.place c.loop-place.spec script (script_of lines c.args.spec.now) (omega (arith, c.loop-place-test.false, c.len-place-end.ensures)) c.loop-place.invariant.script in
+    all_asked_in_range c.loop-place.spec script (lines_asked lines 1 c.args.spec.now script c.loop-place.spec whole)

@@ -1,0 +1,118 @@
+use super::small_spec;
+use hx_cluster::Spec;
+use hx_script::{Line, ScriptFault, ScriptKind, ScriptRefusal, parse, print_line};
+use hx_text::{Page, split_lines};
+use std::alloc::{AllocError, Global};
+use std::test::Fail;
+
+/// The lines of a short script, with the names that they bring.
+fn parsed(alloc: Global, spec: &mut Spec, text: &str) -> Result<Vec<Line>, ScriptRefusal> {
+    let bytes = text.as_bytes();
+    let is_small = bytes.len() < 10_000
+        && spec.model_names.len() <= 256
+        && spec.states.len() <= 256
+        && spec.resource_names.len() < 10_000;
+    if !is_small {
+        return Err(ScriptRefusal::OutOfMemory);
+    }
+    match split_lines(alloc, bytes, 16_384) {
+        Ok(lines) if lines.len() < 10_000 => parse(alloc, &lines, spec),
+        _ => Err(ScriptRefusal::OutOfMemory),
+    }
+}
+
+/// The script's lines, printed.
+fn printed(alloc: Global, script: &[Line], spec: &Spec) -> Result<Page, AllocError> {
+    let mut page = Page::new(alloc);
+    for line in script {
+        print_line(line, spec, &mut page)?;
+    }
+    Ok(page)
+}
+
+const EACH_LINE: &str = "join n1
+beat n2
+drain n3
+undrain n3
+tick 18446744073709551615
+expire n1
+die n2
+add log.2 MasterSlave 64 1024 FULL_AUTO
+add log-3 OnlineOffline 1 1 SEMI_AUTO
+add log_4 LeaderStandby 3 8 CUSTOMIZED
+drop logs
+list db 0 n3 n1
+list logs 4294967295
+map db 1 n1=MASTER n2=ERROR
+map log.2 0
+reset n1 db 3
+lead c1
+stop c2
+start c2
+begin c1
+read c1 live
+read c1 mail
+read c2 states
+read c2 ideals
+send c1
+post c1
+pass c2
+fetch n1
+deliver n1 m4
+take n1 m4
+write n1 m18446744073709551615
+ack n1 m1
+work n3
+settle
+view
+route db 1 OFFLINE
+summary
+";
+
+const SPACED: &str = "# a comment\n   \n  join   n2 \n#join n9\nsummary";
+
+#[test]
+fn lines_are_printed_as_they_were_written(rt: HostRuntime) -> Result<(), Fail> {
+    for (text, lines, want) in [
+        (EACH_LINE, 37, EACH_LINE),
+        (SPACED, 2, "join n2\nsummary\n"),
+    ] {
+        let mut spec = small_spec(rt.alloc())?;
+        let script = parsed(rt.alloc(), &mut spec, text).map_err(|_| "no script")?;
+        assert_eq!(rt; script.len(), lines);
+        let page = printed(rt.alloc(), &script, &spec)?;
+        assert_eq!(rt; page.as_bytes(), want.as_bytes());
+    }
+    Ok(())
+}
+
+#[test]
+fn the_first_fault_is_named(rt: HostRuntime) -> Result<(), Fail> {
+    for (text, line, kind) in [
+        ("Join n1", 1, ScriptKind::UnknownWord),
+        ("join n1\njoin", 2, ScriptKind::WordCount),
+        ("settle now", 1, ScriptKind::WordCount),
+        ("#\n\njoin n9\njoin", 3, ScriptKind::UnknownInstance),
+        ("join n1\t", 1, ScriptKind::UnknownInstance),
+        ("take n9 m0", 1, ScriptKind::UnknownInstance),
+        ("lead c0", 1, ScriptKind::UnknownController),
+        ("lead c01", 1, ScriptKind::UnknownController),
+        ("drop log", 1, ScriptKind::UnknownResource),
+        ("add log Swap 0 0 AUTO", 1, ScriptKind::UnknownModel),
+        ("map db 0 n1=MASTER=UP", 1, ScriptKind::UnknownState),
+        ("add 1og Swap 0 0 AUTO", 1, ScriptKind::BadName),
+        ("add log MasterSlave 65 1 AUTO", 1, ScriptKind::BadNumber),
+        ("tick 18446744073709551616", 1, ScriptKind::BadNumber),
+        ("list db 4294967296 n9", 1, ScriptKind::BadNumber),
+        ("ack n1 m0", 1, ScriptKind::BadMessage),
+        ("add log MasterSlave 1 1 AUTO", 1, ScriptKind::BadMode),
+        ("map db 0 n1", 1, ScriptKind::BadPair),
+        ("read c1 all", 1, ScriptKind::BadKind),
+    ] {
+        let mut spec = small_spec(rt.alloc())?;
+        let found = parsed(rt.alloc(), &mut spec, text).err();
+        let want = ScriptRefusal::Fault(ScriptFault { line, kind });
+        assert_eq!(rt; found, Some(want), "of {text}");
+    }
+    Ok(())
+}
