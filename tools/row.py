@@ -146,7 +146,7 @@ class Reader:
         """The fields in which it differs from the bare description."""
         d, fields = self.described, []
         texts = lambda names: ' ∷ '.join([f'codes "{n}"' for n in names] + ['[]'])
-        items = lambda xs: '\n    ∷ '.join(list(xs)) + ' ∷ []'
+        items = lambda xs: '\n      ∷ '.join(list(xs)) + ' ∷ []'
         if self.instances != ['n1', 'n2', 'n3']:
             fields.append(('instances', texts(self.instances)))
         if len(self.states) > len(STATES):
@@ -200,124 +200,6 @@ def uses(text):
     lines = ['std.specs.Prelude.{' + ', '.join(prelude) + '}', 'std.specs.Fmt.{digits}', 'std.proofs.Common.{refl}',
              'hx_cluster.specs.declared.description.Spec.{Spec}']
     return ''.join(f'use Rattle.{line}\n' for line in lines) + uses_of_terms(text)
-
-
-def wrapped(line, indent):
-    """A line of a term, broken between the items of its lists where it is too long."""
-    rows, rest = [], line
-    while len(rest) > 100 and ' ∷ ' in rest[len(indent) + 4:100]:
-        at = rest.rindex(' ∷ ', 0, 100)
-        rows.append(rest[:at])
-        rest = indent + rest[at + 1:]
-    return '\n'.join(rows + [rest])
-
-
-class Reader:
-    """Names of a description become numbers, as the program numbers them."""
-
-    def __init__(self, text):
-        self.described = DEMO if text.strip() == 'builtin demo' else json.loads(text)
-        self.instances = sorted(self.described['instances'])
-        self.states = list(STATES)
-        self.models = [(m['name'], m) for m in BUILT_IN]
-        for m in self.described.get('models', []):
-            for s in m['states']:
-                if s['name'] not in self.states:
-                    self.states.append(s['name'])
-            self.models.append((m['name'], m))
-        self.resources = self.described.get('resources', [])
-        self.names = []
-        for r in self.resources:
-            self.name(r['name'])
-
-    def name(self, name):
-        if name not in self.names:
-            self.names.append(name)
-        return self.names.index(name)
-
-    def state(self, name):
-        return self.states.index(name)
-
-    def model_number(self, name):
-        return [n for n, _ in self.models].index(name)
-
-    def bound(self, text):
-        return {'R': 'bounds.Replicas', 'N': 'bounds.Live', '-1': 'bounds.Free'}.get(text, f'bounds.Count {text}')
-
-    def model(self, m):
-        states = listed(f"({self.state(s['name'])}, {self.bound(s['bound'])})" for s in m['states'])
-        moves = listed(self.move(*x.split('>')) for x in m['transitions'])
-        return f"own_model {self.state(m['initial'])} {states} {moves}"
-
-    def move(self, start, end):
-        return f'({self.state(start)}, {self.state(end)})'
-
-    def resource(self, r):
-        shape = f"{self.name(r['name'])} {self.model_number(r['model'])} {r['replicas']}"
-        if r['mode'] == 'FULL_AUTO':
-            return f"taken_in_turn {shape} {r['partitions']}"
-        if r['mode'] == 'SEMI_AUTO':
-            return f'by_lists {shape} ' + listed(listed(str(self.instances.index(i)) for i in x) for x in r['lists'])
-        entry = lambda e: f"({self.instances.index(e['instance'])}, {self.states.index(e['state'])})"
-        return f'by_maps {shape} ' + listed(listed(entry(e) for e in x) for x in r['maps'])
-
-    def rule(self, r):
-        scope = 'scopes.' + r['scope'].capitalize()
-        move = self.move(r['from'], r['to']) if 'from' in r else None
-        return f"rule {scope} {option(move)} {r['limit']}"
-
-    def failure(self, f):
-        resource = [r['name'] for r in self.resources].index(f['resource'])
-        word = 'failed_make' if 'make' in f else 'failed_run'
-        return f"{word} {self.instances.index(f['instance'])} {resource} {f['part']} {f['make'] if 'make' in f else f['run']}"
-
-    def spec(self):
-        """The fields in which it differs from the bare description."""
-        d, fields = self.described, []
-        texts = lambda names: ' ∷ '.join([f'codes "{n}"' for n in names] + ['[]'])
-        items = lambda xs: '\n    ∷ '.join(list(xs)) + ' ∷ []'
-        if self.instances != ['n1', 'n2', 'n3']:
-            fields.append(('instances', texts(self.instances)))
-        if len(self.states) > len(STATES):
-            fields.append(('states', 'built_in_states ++ ' + texts(self.states[len(STATES):])))
-        if self.names:
-            fields.append(('resource_names', texts(self.names)))
-        if len(self.models) > len(BUILT_IN):
-            fields.append(('model_names', 'built_in_names ++ ' + texts(n for n, _ in self.models[3:])))
-            fields.append(('models', 'built_in ++ ' + items(self.model(m) for _, m in self.models[3:])))
-        if d.get('controllers', 1) != 2:
-            fields.append(('controllers', d.get('controllers', 1)))
-        if d.get('timeout', 30) != 30:
-            fields.append(('timeout', d['timeout']))
-        for field, member, write in [('rules', 'throttles', self.rule), ('resources', 'resources', self.resource),
-                                     ('failures', 'failures', self.failure)]:
-            if d.get(member):
-                fields.append((field, items(write(x) for x in d[member])))
-        if not fields:
-            return 'bare'
-        rows = ''.join(f'  {k} = {v};\n' for k, v in fields).splitlines()
-        return '\n'.join(['record bare {'] + [wrapped(row, ' ' * 6) for row in rows] + ['}'])
-
-
-WORDS = ['built_in', 'built_in_states', 'built_in_names', 'bare', 'own_model', 'by_lists', 'by_maps', 'taken_in_turn', 'rule',
-         'failed_make', 'failed_run', 'output', 'fault', 'verdict']
-PRELUDE = [('[]', '[]'), ('∷', '◌∷◌'), ('++', '◌++◌'), ('None', 'None'), ('Some', 'Some')]
-QUALIFIED = [('bounds', 'hx_model.specs.declared.Bound.TheVariants'),
-             ('scopes', 'hx_cluster.specs.declared.description.Scope.TheVariants'),
-             ('kinds', 'hx_script.specs.declared.faults.ScriptKind.TheVariants')]
-
-
-def uses(text):
-    """The lines that import what a file of theorems uses."""
-    words = re.sub(r'"(?:[^"\\]|\\.)*"', '', re.sub(r'(?m)^--.*', '', text))
-    told = set(re.findall(r'[^\s(){};,]+', words))
-    prelude = ['◌≡◌'] + [name for sign, name in PRELUDE if sign in told] + ['codes']
-    lines = ['std.specs.Prelude.{' + ', '.join(prelude) + '}', 'std.specs.Fmt.{digits}', 'std.proofs.Common.{refl}',
-             'hx_cluster.specs.declared.description.Spec.{Spec}']
-    lines += [f'{module} as {name}' for name, module in QUALIFIED if any(word.startswith(name + '.') for word in told)]
-    shared = [word for word in WORDS if word in told]
-    lines += ['hx_rows.proofs.Fixtures.{' + ', '.join(shared) + '}'] if shared else []
-    return ''.join(f'use Rattle.{line}\n' for line in lines)
 
 
 def claim(script, output):

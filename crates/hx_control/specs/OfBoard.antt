@@ -1,5 +1,5 @@
 -- Turns that a board's history tells.
-use Rattle.std.specs.Prelude.{◌≡◌, ◌⊎◌, true, List, Option, None, Some}
+use Rattle.std.specs.Prelude.{◌≡◌, ◌⊎◌, true, List, [], ◌∷◌, Option, None, Some}
 use Rattle.hx_ids.specs.declared.ControllerId.{ControllerId}
 use Rattle.hx_cluster.specs.declared.description.Spec.{Spec}
 use Rattle.hx_cluster.specs.declared.planning.Plan.{Plan}
@@ -7,6 +7,7 @@ use Rattle.hx_cluster.specs.declared.happenings.Event.{Event}
 use Rattle.hx_pass.specs.Plans.{plan}
 use Rattle.hx_pass.specs.Turns.{Send, Turn, idle_turn, is_first, turn_of}
 use Rattle.hx_control.specs.Controllers.{Controller}
+use Rattle.hx_control.specs.Steps.{Step, Calls, Plans, Refuses}
 
 -- a plan that was made is that of what the turn was shown, and its dispatch is next
 abbrev pub IsPlanOf : Spec → Turn → Option Plan → Type 0
@@ -21,3 +22,8 @@ pub record IsOfBoard (spec : Spec) (h : List Event) (k : ControllerId) (t : Turn
 
 abbrev pub OfBoard : Spec → List Event → Controller → Type 0
 OfBoard spec h x = IsOfBoard spec h x.id x.turn x.plan
+
+-- the calls that a step makes: one, or none where it makes the plan or is refused
+abbrev pub calls_of : Step → List Event
+calls_of (Calls e outcome) = e ∷ []
+calls_of _ = []
