@@ -44,7 +44,7 @@ def boolean(b):
 
 
 def quoted(text):
-    return '"' + text.replace('\\', '\\\\').replace('\n', '\\n').replace('"', '\\"') + '"'
+    return json.dumps(text, ensure_ascii=False)
 
 
 def broken(lines, indent):
@@ -202,8 +202,8 @@ def uses(text):
     return ''.join(f'use Rattle.{line}\n' for line in lines) + uses_of_terms(text)
 
 
-def claim(script, output):
-    """What a theorem computes of the script, and the text or the fault that it finds."""
+def claim(output):
+    """What a theorem computes of the script or the log, and the text or the fault that it finds."""
     if output.startswith(('lawful ', 'unlawful ')):
         return 'verdict', f'codes {quoted(output)}'
     if output.startswith('script '):
@@ -221,7 +221,7 @@ def read(case, name):
 def theorem(case, name, sentence):
     raw = read(case, 'input')
     described, script = raw.split('---\n', 1) if '---\n' in raw else (raw.rsplit('---', 1)[0], '')
-    word, found = claim(script, read(case, 'output'))
+    word, found = claim(read(case, 'output'))
     return (f'-- {sentence}\nabbrev {name}_spec : Spec\n{name}_spec = {Reader(described).spec()}\n\n'
             f'pub {name} : {word} {name}_spec (\n    {broken(filled(script), "    ")})\n    ≡ {found}\n'
             f'unfolding digits\n{name} = refl\n')
