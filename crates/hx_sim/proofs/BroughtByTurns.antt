@@ -3,6 +3,7 @@ use Rattle.std.proofs.Common.{ℕ, Bool, true, false, List, [], ◌∷◌}
 use Rattle.std.specs.Prelude.{Option, None, Some}
 use Rattle.hx_ids.specs.declared.ControllerId.{ControllerId}
 use Rattle.hx_cluster.specs.declared.planning.Entry.{Entry}
+use Rattle.hx_cluster.specs.declared.planning.Plan.{Plan}
 use Rattle.hx_cluster.specs.declared.planning.Target.{Target}
 use Rattle.hx_cluster.specs.declared.planning.Finding.{Finding}
 use Rattle.hx_cluster.specs.declared.planning.Finding.TheVariants as findings
@@ -79,12 +80,17 @@ under_way : (calls : List Call) (f : State → Run (Option PassOutcome)) → ((x
 under_way [] f b x = brings_gives _ _
 under_way (call ∷ calls) f b x = b x
 
+plan_made : (v : Voice) (k : ControllerId) (p : Option Plan) (x : State) → BringsIts (past_of x) (Turns.make_plan v k p x)
+plan_made v k None x = brings_step v k x
+plan_made v k (Some p) x = brings_gives x None
+
 call_made : (v : Voice) (k : ControllerId) (call : Call) (x : State) → BringsIts (past_of x) (Turns.do_call v k call x)
 call_made v k Live x = brings_step v k x
 call_made v k (Mail s) x = brings_step v k x
 call_made v k (States s) x = brings_step v k x
 call_made v k Ideals x = brings_step v k x
-call_made v k Send x = brings_on (past_of x) _ _ (brings_step v k x) (λ o y. under_way _ _ (λ z. brings_step v k z) y)
+call_made v k Send x =
+    brings_on (past_of x) _ _ (plan_made v k (controller_of x.world k).plan x) (λ o y. under_way _ _ (λ z. brings_step v k z) y)
 call_made v k Post x = brings_step v k x
 
 calls_made : (v : Voice) (k : ControllerId) (calls : List Call) (x : State) → BringsIts (past_of x) (Turns.do_calls v k calls x)

@@ -15,7 +15,7 @@ use Rattle.hx_cluster.specs.declared.state.Cluster.{Cluster}
 use Rattle.hx_cluster.specs.declared.happenings.Event.{Event}
 use Rattle.hx_cluster.specs.Ends.{part_eq, is_live, state_of, message_of, model_of}
 use Rattle.hx_cluster.specs.Steps.{opening, session_of}
-use Rattle.hx_cluster.specs.Messages.{initial_of, standing_of, state_after}
+use Rattle.hx_cluster.specs.Messages.{initial_of, standing_of, state_after, is_same}
 use Rattle.hx_cluster.specs.Events.{replay, has_part}
 use Rattle.hx_replicas.specs.declared.slots.Work.{Work}
 use Rattle.hx_replicas.specs.declared.slots.Work.TheVariants as works
@@ -25,12 +25,6 @@ use Rattle.hx_control.specs.OfBoard.{OfBoard}
 use Rattle.hx_sim.specs.World.{World, Job}
 use Rattle.hx_sim.specs.Jobs.{is_job}
 use Rattle.hx_sim.specs.Summaries.{joined_in, sent_in}
-
--- the same message but for its marks
-abbrev pub is_same : Message → Message → Bool
-is_same a b =
-    (a.id.0 == b.id.0) && (a.session.0 == b.session.0) && part_eq a.part b.part && (a.from.0 == b.from.0) && (a.to.0 == b.to.0)
-    && (a.initial.0 == b.initial.0) && (a.epoch.0 == b.epoch.0)
 
 -- a board, as far as it matters here: its description and its history
 pub record BoardState : Type 0 where

@@ -1,5 +1,5 @@
 -- A whole script: what each line does, what that brings, and the text and the history that come of it.
-use Rattle.std.specs.Prelude.{◌≡◌, ℕ, ◌+◌, Bool, ◌==◌, ◌&&◌, List, [], ◌++◌, map, filter, length, Option, None, Some}
+use Rattle.std.specs.Prelude.{◌≡◌, ℕ, ◌+◌, Bool, ◌==◌, ◌&&◌, List, [], ◌∷◌, ◌++◌, map, filter, length, Option, None, Some, true}
 use Rattle.hx_ids.specs.declared.InstanceId.{InstanceId}
 use Rattle.hx_ids.specs.declared.ResourceId.{ResourceId}
 use Rattle.hx_ids.specs.declared.PartId.{PartId}
@@ -15,12 +15,14 @@ use Rattle.hx_cluster.specs.declared.happenings.Event.{Event}
 use Rattle.hx_cluster.specs.declared.happenings.Event.TheVariants as events
 use Rattle.hx_cluster.specs.Ends.{part_eq}
 use Rattle.hx_cluster.specs.Steps.{opening, refusal_of, did_of, newest}
+use Rattle.hx_cluster.specs.Events.{is_later}
 use Rattle.hx_print.specs.declared.Note.TheVariants as notes
 use Rattle.hx_print.specs.Texts.{view_line, view_of_part, viewed_parts, route_text, history_full_text}
 use Rattle.hx_script.specs.declared.What.{What}
 use Rattle.hx_script.specs.declared.What.TheVariants as asks
 use Rattle.hx_script.specs.declared.Line.{Line}
 use Rattle.hx_script.specs.Asked.{part_at, step_asked}
+use Rattle.hx_script.specs.Ranges.{is_line_in_range}
 use Rattle.hx_sim.specs.World.{World, State, Answered, opening_world, told_by}
 use Rattle.hx_sim.specs.Items.{Item, events_in, items_text}
 use Rattle.hx_sim.specs.Runs.{Deed, GoesOn, Stops, Voice, items_of, is_stopped, done, and_then, happen, say, note, for_each}
@@ -98,6 +100,14 @@ do_what v what x = do_asked v (step_asked x.world.cluster what) x
 -- a line is recorded as taken, then done
 abbrev pub do_line : Line → State → Deed
 do_line l x = and_then (happen (events.Line l.number) x) (λ y. do_what (Voice.Loud l.number) l.what y)
+
+-- a line that a world can be given: what it asks for is in range, and its number is above the last; and lines that it can be given in turn
+abbrev pub is_next_line : Spec → Option ℕ → Line → Bool
+is_next_line spec last l = is_later last l.number && is_line_in_range spec l
+
+abbrev pub are_next_lines : Spec → Option ℕ → List Line → Bool
+are_next_lines spec last [] = true
+are_next_lines spec last (l ∷ ls) = is_next_line spec last l && are_next_lines spec (Some l.number) ls
 
 -- a world does a line with the answers that its handlers gave, each of them used up: these are the items that it brings, and the world
 -- after it. Where the history had no room it stopped, and the world goes on with the next line

@@ -2,6 +2,7 @@
 use Rattle.std.specs.Prelude.{ℕ, ◌+◌, Bool, true, false, ◌==◌, List, [], ◌∷◌, length, filter, Option, None, Some}
 use Rattle.hx_ids.specs.declared.ControllerId.{ControllerId}
 use Rattle.hx_cluster.specs.declared.planning.Entry.{Entry}
+use Rattle.hx_cluster.specs.declared.planning.Plan.{Plan}
 use Rattle.hx_cluster.specs.declared.planning.Target.{Target}
 use Rattle.hx_cluster.specs.declared.planning.Finding.{Finding}
 use Rattle.hx_cluster.specs.declared.planning.Finding.TheVariants as findings
@@ -80,9 +81,14 @@ abbrev pub if_under_way : List Call → (State → Run (Option PassOutcome)) →
 if_under_way [] f x = gives x None
 if_under_way (call ∷ calls) f x = f x
 
--- a call of a turn; before the dispatch the plan is made
+-- a call of a turn; before the dispatch the plan is made, where it wasn't made before
+abbrev pub make_plan : Voice → ControllerId → Option Plan → State → Run (Option PassOutcome)
+make_plan v k None x = step v k x
+make_plan v k (Some plan) x = gives x None
+
 abbrev pub do_call : Voice → ControllerId → Call → State → Run (Option PassOutcome)
-do_call v k Send x = go_on (step v k x) (λ _ y. if_under_way (left_of y k) (λ z. step v k z) y)
+do_call v k Send x =
+    go_on (make_plan v k (controller_of x.world k).plan x) (λ _ y. if_under_way (left_of y k) (λ z. step v k z) y)
 do_call v k _ x = step v k x
 
 -- the later of two outcomes, if there is one
