@@ -10,7 +10,7 @@ import json
 import os
 import sys
 
-from row import Reader, uses_of_terms
+from row import Reader, quoted, uses_of_terms
 
 WORDS = {'null': 'null', 'true': '(boolean true)', 'false': '(boolean false)'}
 
@@ -29,7 +29,7 @@ def value(v):
 
 
 def text(t):
-    return f'(codes {json.dumps(t)})' if t else '[]'
+    return f'(codes {quoted(t)})' if t else '[]'
 
 
 def listed(items):

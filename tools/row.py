@@ -44,7 +44,7 @@ def boolean(b):
 
 
 def quoted(text):
-    return json.dumps(text, ensure_ascii=False)
+    return re.sub(r'\\u([0-9a-f]{4})', r'\\u{\1}', json.dumps(text, ensure_ascii=False))
 
 
 def broken(lines, indent):
