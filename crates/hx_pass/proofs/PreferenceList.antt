@@ -1,19 +1,20 @@
 -- Three instances of which the second is drained, with nothing on them yet.
 use Rattle.std.specs.Prelude.{◌≡◌, refl, [], ◌∷◌, true, false, None}
+use Rattle.hx_ids.specs.Words.{instance, session}
 use Rattle.hx_ideal.specs.declared.Mode.TheVariants as modes
 use Rattle.hx_cluster.specs.declared.planning.View.{View}
 use Rattle.hx_best.specs.Targets.{all_targets}
 use Rattle.hx_pass.specs.Plans.{all_candidates}
 use Rattle.hx_cluster.specs.Views.{is_well_formed}
-use Rattle.hx_pass.proofs.Examples.{n, s, master, slave, offline, models, resource, target, candidate}
+use Rattle.hx_pass.proofs.Examples.{master, slave, offline, models, placed, target, candidate}
 
 abbrev view : View
 view = record {
-  live = (s 3, n 2) ∷ (s 1, n 0) ∷ (s 2, n 1) ∷ [];
+  live = (session 3, instance 2) ∷ (session 1, instance 0) ∷ (session 2, instance 1) ∷ [];
   mail = [];
   rows = [];
   ideals = record {
-    resources = resource 0 3 1 (modes.Semi ((n 0 ∷ n 1 ∷ n 2 ∷ []) ∷ [])) ∷ [];
+    resources = placed 0 3 1 (modes.Semi ((instance 0 ∷ instance 1 ∷ instance 2 ∷ []) ∷ [])) ∷ [];
     drained = false ∷ true ∷ false ∷ [];
     resets = [];
   };

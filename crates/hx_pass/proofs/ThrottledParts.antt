@@ -1,5 +1,6 @@
 -- Eight parts on one instance, where a throttle allows one transition at a time.
 use Rattle.std.specs.Prelude.{◌≡◌, refl, ℕ, [], ◌∷◌, true, false, None, map, replicate}
+use Rattle.hx_ids.specs.Words.{instance, session}
 use Rattle.hx_ideal.specs.declared.Mode.TheVariants as modes
 use Rattle.hx_lists.specs.Lists.{numbers_from}
 use Rattle.hx_cluster.specs.declared.description.Rule.{Rule}
@@ -9,15 +10,15 @@ use Rattle.hx_cluster.specs.declared.planning.Entry.{Entry}
 use Rattle.hx_cluster.specs.declared.planning.Finding.TheVariants as findings
 use Rattle.hx_pass.specs.Plans.{plan}
 use Rattle.hx_cluster.specs.Views.{is_well_formed}
-use Rattle.hx_pass.proofs.Examples.{n, s, offline, online, models, resource, db, target, candidate}
+use Rattle.hx_pass.proofs.Examples.{offline, online, models, placed, db, target, candidate}
 
 abbrev view : View
 view = record {
-  live = (s 1, n 0) ∷ [];
+  live = (session 1, instance 0) ∷ [];
   mail = [];
   rows = [];
   ideals = record {
-    resources = resource 1 1 8 (modes.Semi (replicate 8 (n 0 ∷ []))) ∷ [];
+    resources = placed 1 1 8 (modes.Semi (replicate 8 (instance 0 ∷ []))) ∷ [];
     drained = false ∷ false ∷ false ∷ [];
     resets = [];
   };
@@ -36,7 +37,7 @@ held k = record {
 }
 
 plan_is : plan models (rule ∷ []) view ≡ record {
-  proposals = record { session = s 1; part = db 0; from = offline; to = online } ∷ [];
+  proposals = record { session = session 1; part = db 0; from = offline; to = online } ∷ [];
   report = record { entries = record { target = target 1 0 0 None online 0; finding = findings.Sent } ∷ map held (numbers_from 1 7) };
 }
 plan_is = refl
