@@ -118,12 +118,16 @@ module _ {T : Type 0} where
       by_count zero chain = refl
       by_count (suc k) chain = absurd chain
 
+  -- the count of links with one more at the end
+  pub held-push : (slots : List (Slot T)) (link : Link T) → held (map link_of (slots ++ Held link ∷ [])) ≡ held (map link_of slots) + 1
+  held-push slots link = rw (map_push link_of slots (Held link)) (sum_by_push (λ o. cond (is_some o) 1 0) (map link_of slots) (Some link))
+
   pub IsLaidOut-push : (slots : List (Slot T)) (idle : ℕ) (link : Link T) → IsLaidOut slots None idle → length slots + 1 < 2 ^ 32 → IsLaidOut (slots ++ Held link ∷ []) None idle
   IsLaidOut-push slots idle link sound few =
       let longer = length_push slots (Held link) in
       let none = no_vacant slots idle sound in
       record {
-        counted = rw (map_push link_of slots (Held link), sum_by_push (λ o. cond (is_some o) 1 0) (map link_of slots) (Some link)) (omega (arith, sound.counted));
+        counted = omega (arith, sound.counted, held-push slots link);
         few = omega arith;
         chain = let P : ℕ → Type 0 = λ k. IsVacantChain (slots ++ Held link ∷ []) k None in subst P (sym none) tt;
       }

@@ -1,6 +1,8 @@
-use Rattle.std.proofs.Common.{arith}
+use Rattle.std.proofs.Common.{◌≡◌, length, map, None, arith}
+use Rattle.std.proofs.lemmas.List.{get_or_past, length-map}
+use Rattle.hx_links.specs.Layout.{link_of}
 use Rattle.hx_links.specs.declared.slots.Slot.TheVariants.{Vacant, Held}
-use Rattle.hx_links.proofs.Vacancy.{first_vacant, held-set, link_from_slot, link_at-fill, IsLaidOut-fill}
+use Rattle.hx_links.proofs.Vacancy.{first_vacant, held-set, held-push, link_from_slot, link_at-fill, link_at-push, no_vacant, IsLaidOut-fill, IsLaidOut-push}
 use Rattle.hx_links.proofs.slots.Slots.insert_reserved.Goals as goal
 
 pub fill-next-requires : goal.fill-next-requires
@@ -26,3 +28,24 @@ returns-clause-held g c =
 pub returns-clause-was_vacant : goal.returns-clause-was_vacant
 returns-clause-was_vacant g c =
     rw (← c.self.view_is) (link_from_slot c.self.inside.slots.items c.in-Some.node (Vacant c.fill-next.result) c.fill-next.ensures.vacant)
+
+pub invariant_of-self : goal.invariant_of-self
+invariant_of-self g c =
+    let sound = rw c.in_default.is at c.self.invariant in
+    let none = no_vacant c.self.inside.slots.items c.self.inside.idle sound in
+    let room = rw (← c.self.view_is) at c.requires in
+    rw (c.push_reserved.ensures.items, c.in_default.is) (IsLaidOut-push c.self.inside.slots.items c.self.inside.idle c.args.link sound (omega (arith, none, room)))
+
+pub returns-in_default : goal.returns-in_default
+returns-in_default g c =
+    let items = c.self.inside.slots.items in
+    let count : c.len.result ≡ length items = omega (arith, c.len.ensures) in
+    let none = no_vacant items c.self.inside.idle (rw c.in_default.is at c.self.invariant) in
+    record {
+      was_vacant = rw (← c.self.view_is, count) (get_or_past (map link_of items) (length items) None (omega (arith, length-map items link_of)));
+      links = λ n. rw (← c.self.view_is, count, c.push_reserved.ensures.items) (link_at-push items c.args.link n);
+      held = rw (← c.self.view_is, c.push_reserved.ensures.items) (held-push items c.args.link);
+      spare =
+          let room = rw (← c.self.view_is) at c.requires in
+          rw (← c.self.view_is) (omega (arith, none, room, c.push_reserved.ensures.capacity, c.push_reserved.ensures.len));
+    }
