@@ -3,6 +3,9 @@ ghost use Rattle.std.specs.Prelude.{◌≡◌};
 ghost use Rattle.std.specs.List.{list_all};
 ghost use Rattle.hx_text.specs.Spellings.{is_name_byte, is_name, number_of};
 
+/// How many bytes stand behind the first of a name, at most.
+const MOST_BEHIND: usize = 62;
+
 /// Whether a byte may stand in a name behind its first.
 fn is_name_byte(byte: u8) -> bool
     ensures { result ≡ is_name_byte byte }
@@ -27,7 +30,7 @@ pub fn is_name(text: &str) -> bool
         [] => false,
         [first, rest @ ..] => first.is_ascii_alphabetic()
             && are_name_bytes(rest)
-            && rest.len() <= 62,
+            && rest.len() <= MOST_BEHIND,
     }
 }
 

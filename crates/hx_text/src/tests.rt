@@ -1,5 +1,4 @@
 use super::*;
-use std::alloc::{AllocError, Global};
 use std::test::Fail;
 
 #[test]
@@ -133,31 +132,6 @@ fn an_input_is_cut_at_its_first_separator(rt: HostRuntime) -> Result<(), Fail> {
             want,
             "of {bytes:?}"
         );
-    }
-    Ok(())
-}
-
-/// The words of a line, with a bar behind each.
-fn barred(alloc: Global, line: &str) -> Result<String, AllocError> {
-    let mut text = String::new(alloc);
-    for word in words(alloc, line)? {
-        text.push_str(word)?;
-        text.push('|')?;
-    }
-    Ok(text)
-}
-
-#[test]
-fn words_stand_between_spaces(rt: HostRuntime) -> Result<(), Fail> {
-    for (line, want) in [
-        ("open n1", "open|n1|"),
-        ("  map db  0 n1=MASTER ", "map|db|0|n1=MASTER|"),
-        ("a\tb", "a\tb|"),
-        ("   ", ""),
-        ("", ""),
-    ] {
-        let found = barred(rt.alloc(), line)?;
-        assert_eq!(rt; found.as_str(), want, "of {line}");
     }
     Ok(())
 }
