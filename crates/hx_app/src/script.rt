@@ -38,7 +38,7 @@ fn holders(
 ) -> Result<Vec<(InstanceId, StateId)>, AllocError>
     ensures { IfOk result (λ holders. holders.items ≡ view_of_part cluster.now part) }
 {
-    let live = hx_calls::read_live(cluster, alloc)?;
+    let live = hx_calls::read_live(cluster)?;
     live.iter()
         .filter_map(|e| holder(cluster, part, *e))
         .collect(alloc)

@@ -7,7 +7,8 @@ ghost use Rattle.hx_cluster.specs.Steps.{refusal_of};
 ghost use Rattle.hx_cluster.specs.Reads.{mail_shown, states_shown};
 ghost use Rattle.hx_cluster.specs.Events.{dispatched_of};
 ghost use Rattle.hx_print.specs.Texts.{entry_text, names_of, roll_of, note_text};
-ghost use Rattle.hx_app.specs.Brings.{Brings, HasRoom};
+ghost use Rattle.hx_cluster.specs.Room.{HasRoom};
+ghost use Rattle.hx_app.specs.Brings.{Brings};
 ghost use Rattle.hx_app.specs.Demo.{built_in};
 ghost use Rattle.hx_app.specs.FirstPath.{Happens, step_items, reads, view_now, seen_at, seen_of_part, seen_now, is_sent, outcome_text, turn_items, pass_items, ack_items, write_items, take_items, run_items, work_items};
 
@@ -23,19 +24,11 @@ use hx_print::{Note, Roll, print_event, print_note, print_sent, print_settled, p
 use hx_text::Page;
 use std::alloc::{AllocError, Global};
 
-/// The largest number that a count of a cluster may come to. No script of 1,000 lines comes near it: a cluster
-/// that did would count as want of memory.
-const MOST: u64 = 1 << 62;
-
 /// Answers an error where a number of the cluster is near the end of its type.
-fn check_room(cluster: &Cluster, controller: ControllerId) -> Result<(), AllocError>
-    ensures { OnOk result (HasRoom cluster.now controller 64) }
+fn check_room(cluster: &Cluster) -> Result<(), AllocError>
+    ensures { OnOk result (HasRoom cluster.now) }
 {
-    if cluster.next_session < MOST
-        && cluster.next_msg < MOST
-        && cluster.change < MOST
-        && cluster.pass_of(controller).0 < MOST
-    {
+    if cluster.has_room() {
         Ok(())
     } else {
         Err(AllocError)
@@ -102,7 +95,7 @@ pub(crate) fn join(
         (step_items spec.now cluster.old line (Admin.Join instance) (refusal_of cluster.old (Admin.Join instance)))
         cluster.old cluster.new page.old page.new) }
 {
-    check_room(cluster, ControllerId(0))?;
+    check_room(cluster)?;
     let roll = roll_of(alloc, cluster)?;
     match cluster.join(instance) {
         Ok(did) => print_event(
@@ -189,7 +182,7 @@ fn mail_of(
 {
     let mut mail = Vec::new(alloc);
     for e in live {
-        let shown = hx_calls::read_mail(cluster, alloc, e.0)?;
+        let shown = hx_calls::read_mail(cluster, e.0)?;
         mail.extend_from_slice(&shown)?;
     }
     Ok(mail)
@@ -205,7 +198,7 @@ fn rows_of(
 {
     let mut rows = Vec::new(alloc);
     for e in live {
-        let shown = hx_calls::read_states(cluster, alloc, e.0)?;
+        let shown = hx_calls::read_states(cluster, e.0)?;
         rows.extend_from_slice(&shown)?;
     }
     Ok(rows)
@@ -215,14 +208,14 @@ fn rows_of(
 fn view_now(alloc: Global, cluster: &Cluster) -> Result<View, AllocError>
     ensures { IfOk result (λ view. view ≡ view_now cluster.now) }
 {
-    let live = hx_calls::read_live(cluster, alloc)?;
+    let live = hx_calls::read_live(cluster)?;
     let mail = mail_of(alloc, cluster, &live)?;
     let rows = rows_of(alloc, cluster, &live)?;
     Ok(View {
         live: Seq::from_vec(live),
         mail: Seq::from_vec(mail),
         rows: Seq::from_vec(rows),
-        ideals: hx_calls::read_ideals(cluster, alloc)?,
+        ideals: hx_calls::read_ideals(cluster)?,
     })
 }
 
@@ -245,7 +238,7 @@ fn seen_at(cluster: &Cluster, part: PartId, shown: (SessionId, InstanceId)) -> O
 fn seen_of_part(alloc: Global, cluster: &Cluster, part: PartId) -> Result<Vec<Seen>, AllocError>
     ensures { IfOk result (λ rows. rows.items ≡ seen_of_part cluster.now part) }
 {
-    let live = hx_calls::read_live(cluster, alloc)?;
+    let live = hx_calls::read_live(cluster)?;
     live.iter()
         .filter_map(|e| seen_at(cluster, part, *e))
         .collect(alloc)
@@ -274,9 +267,6 @@ fn count_sent(placed: &[Placed]) -> usize
     placed.iter().filter(|p| is_sent(p)).count()
 }
 
-/// The most proposals of a pass. The demo has fewer.
-const MOST_PROPOSALS: usize = 64;
-
 /// Dispatches proposals, and answers how many became messages.
 fn dispatch(
     alloc: Global,
@@ -292,10 +282,7 @@ fn dispatch(
         (Happens (Event.Dispatch controller begun.epoch begun.pass proposals.now (dispatched_of cluster.old controller proposals.now)) ∷ [])
         cluster.old cluster.new page.old page.new) }
 {
-    check_room(cluster, controller)?;
-    if proposals.len() > MOST_PROPOSALS {
-        return Err(AllocError);
-    }
+    check_room(cluster)?;
     let roll = roll_of(alloc, cluster)?;
     let copy = Seq::from_vec(Vec::from_slice(alloc, proposals)?);
     let answer = hx_calls::dispatch(cluster, controller, proposals)?;
@@ -402,7 +389,7 @@ pub(crate) fn pass(
         let led_by = cluster.leader;
         return note(line, &Note::NotLeader { led_by }, spec, page);
     }
-    check_room(cluster, controller)?;
+    check_room(cluster)?;
     let roll = roll_of(alloc, cluster)?;
     let begun = hx_calls::begin(cluster, controller);
     print_event(&Event::Begin(controller, begun), &roll, spec, page)?;
@@ -421,9 +408,9 @@ fn ack(
 {
     let Message { session, id, .. } = *message;
     if cluster.can_ack(session, id) {
-        check_room(cluster, ControllerId(0))?;
+        check_room(cluster)?;
         print(alloc, spec, cluster, &Event::Ack(session, id), page)?;
-        hx_calls::ack(cluster, session, id);
+        hx_calls::ack(cluster, session, id).unwrap();
     }
     Ok(())
 }
@@ -442,10 +429,10 @@ fn write(
     if !cluster.can_write(session, id) {
         return Ok(());
     }
-    check_room(cluster, ControllerId(0))?;
+    check_room(cluster)?;
     let event = Event::Write(session, id, Outcome::Ok);
     print(alloc, spec, cluster, &event, page)?;
-    hx_calls::write(cluster, session, id, Outcome::Ok)?;
+    hx_calls::write(cluster, session, id, Outcome::Ok)?.unwrap();
     ack(alloc, spec, cluster, message, page)
 }
 
@@ -463,9 +450,9 @@ fn take(
     if !cluster.can_take(session, id) {
         return Ok(());
     }
-    check_room(cluster, ControllerId(0))?;
+    check_room(cluster)?;
     print(alloc, spec, cluster, &Event::Take(session, id), page)?;
-    hx_calls::take(cluster, session, id);
+    hx_calls::take(cluster, session, id).unwrap();
     write(alloc, spec, cluster, message, page)
 }
 
@@ -495,7 +482,7 @@ pub(crate) fn work(
 ) -> Result<(), AllocError>
     ensures { OnOk result (Brings spec.now (work_items cluster.old instance) cluster.old cluster.new page.old page.new) }
 {
-    let mail = hx_calls::fetch(cluster, alloc, instance)?;
+    let mail = hx_calls::fetch(cluster, instance)?;
     let event = Event::Fetch {
         instance,
         session: mail.session,

@@ -158,3 +158,8 @@ rest_more now next all i d h after =
 pub on_ok : {T E : Type 0} (r : Result T E) {P : Type 0} → is_ok r ≡ true → OnOk r P → P
 on_ok (Ok x) e p = p
 on_ok (Err x) e p = cc
+
+-- each proposal gets an answer
+pub placed_each : (c : Cluster) (qs : List Proposal) → length (placed_all c qs) ≡ length qs
+placed_each c [] = refl
+placed_each c (q ∷ qs) = grind (arith, placed_each (after_proposal c q) qs)

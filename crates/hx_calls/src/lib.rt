@@ -1,4 +1,5 @@
-//! The calls of controllers and participants on a plain cluster: what each answers, and the cluster after it.
+//! The calls of controllers and participants on a plain cluster: what each answers, and the cluster
+//! after it.
 #![tactic(auto)]
 
 mod passes;
@@ -10,6 +11,3 @@ pub use passes::{begin, publish, raise_pass};
 pub use proposals::{dispatch, dispatch_on, place_all_on, place_on};
 pub use reads::{fetch, read_ideals, read_live, read_mail, read_states};
 pub use runs::{ack, take, write, write_on};
-
-#[cfg(test)]
-mod tests;

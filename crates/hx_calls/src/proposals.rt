@@ -1,16 +1,19 @@
 //! How proposals become messages. The rows may stand apart: a caller may keep room for them.
-ghost use Rattle.std.specs.Prelude.{◌≡◌, ℕ, ◌+◌, ◌*◌, ◌^◌, ◌<◌, ◌≤◌, [], ◌∷◌, ◌++◌, List, length, unwrap_or, IfOk, OnOk, OnErr};
+ghost use Rattle.std.specs.Prelude.{◌≡◌, ℕ, ◌+◌, ◌*◌, ◌^◌, ◌<◌, ◌≤◌, [], ◌∷◌, ◌++◌, List, length};
+ghost use Rattle.std.specs.Prelude.{unwrap_or, IfOk, OnOk, OnErr};
 ghost use Rattle.hx_cluster.specs.Ends.{state_of, message_of, limit_at};
-ghost use Rattle.hx_cluster.specs.Reads.{pass_of};
-ghost use Rattle.hx_cluster.specs.Messages.{throttled_from, bounded, placed_idle, placed_of, after_placed, after_proposal, placed_all, after_proposals, next_pass, after_dispatch};
+ghost use Rattle.hx_cluster.specs.Messages.{throttled_from, bounded, placed_idle, placed_of};
+ghost use Rattle.hx_cluster.specs.Messages.{after_placed, after_proposal, placed_all};
+ghost use Rattle.hx_cluster.specs.Messages.{after_proposals, next_pass, after_dispatch};
 ghost use Rattle.hx_cluster.specs.Events.{dispatched_of};
 ghost use Rattle.hx_cluster.specs.Apart.{with_rows};
+ghost use Rattle.hx_cluster.specs.Room.{HasRoom};
 
 use crate::passes::raise_pass;
 use hx_cluster::{Cluster, Dispatched, Message, Placed, Proposal, Row, count_on, state_on};
 use hx_ids::{ControllerId, MsgId};
 use hx_lists::Seq;
-use std::alloc::{AllocError, Global};
+use std::alloc::AllocError;
 
 /// A number of 32 bits. A larger one is want of memory.
 fn number(n: usize) -> Result<u32, AllocError>
@@ -19,9 +22,11 @@ fn number(n: usize) -> Result<u32, AllocError>
     u32::try_from(n).map_err(|_| AllocError)
 }
 
-/// The answer to a proposal that the bounds allow: the first rule without room for it, or it is sent.
+/// The answer to a proposal that the bounds allow: the first rule without room for it, or it is
+/// sent.
 fn throttle(cluster: &Cluster, proposal: &Proposal) -> Result<Placed, AllocError>
-    ensures { IfOk result (λ placed. placed ≡ throttled_from cluster.now proposal.now 0 cluster.now.rules) }
+    ensures { IfOk result (λ placed.
+        placed ≡ throttled_from cluster.now proposal.now 0 cluster.now.rules) }
 {
     let Proposal {
         session,
@@ -46,8 +51,9 @@ fn throttle(cluster: &Cluster, proposal: &Proposal) -> Result<Placed, AllocError
 
 /// Sends a message.
 fn send(cluster: &mut Cluster, id: MsgId, proposal: &Proposal) -> Result<(), AllocError>
-    requires room { (cluster.old.next_msg < 2 ^ 63) × (cluster.old.change < 2 ^ 63) }
-    ensures ok { OnOk result (cluster.new ≡ after_placed cluster.old proposal.now (Placed.Sent id)) }
+    requires room { (cluster.old.next_msg + 1 < 2 ^ 64) × (cluster.old.change + 1 < 2 ^ 64) }
+    ensures ok { OnOk result (
+        cluster.new ≡ after_placed cluster.old proposal.now (Placed.Sent id)) }
     ensures err { OnErr result (cluster.new ≡ cluster.old) }
 {
     let message = Message {
@@ -71,7 +77,10 @@ fn send(cluster: &mut Cluster, id: MsgId, proposal: &Proposal) -> Result<(), All
 #[tactic(auto, using(crate::proofs::Placing::throttled_rows))]
 fn bound_on(rest: &Cluster, rows: &[Row], proposal: &Proposal) -> Result<Placed, AllocError>
     requires { length rest.now.live < 2 ^ 32 }
-    ensures { IfOk result (λ placed. placed ≡ bounded (with_rows rest.now rows.now) proposal.now (limit_at rest.now proposal.now.part proposal.now.to)) }
+    ensures { IfOk result (λ placed.
+        placed
+        ≡ bounded (with_rows rest.now rows.now) proposal.now
+        (limit_at rest.now proposal.now.part proposal.now.to)) }
 {
     if let Some(bound) = rest.limit_at(proposal.part, proposal.to) {
         let count = count_on(rest, rows, proposal.part, proposal.to);
@@ -87,7 +96,8 @@ fn bound_on(rest: &Cluster, rows: &[Row], proposal: &Proposal) -> Result<Placed,
 
 /// The answer to a proposal where no message of the session's part is pending.
 fn idle_on(rest: &Cluster, rows: &[Row], proposal: &Proposal) -> Result<Placed, AllocError>
-    ensures { IfOk result (λ placed. placed ≡ placed_idle (with_rows rest.now rows.now) proposal.now None) }
+    ensures { IfOk result (λ placed.
+        placed ≡ placed_idle (with_rows rest.now rows.now) proposal.now None) }
 {
     let Proposal {
         session,
@@ -109,7 +119,8 @@ fn idle_on(rest: &Cluster, rows: &[Row], proposal: &Proposal) -> Result<Placed, 
 
 /// The answer to a proposal: the first that fits.
 pub fn place_on(rest: &Cluster, rows: &[Row], proposal: &Proposal) -> Result<Placed, AllocError>
-    ensures { IfOk result (λ placed. placed ≡ placed_of (with_rows rest.now rows.now) proposal.now) }
+    ensures { IfOk result (λ placed.
+        placed ≡ placed_of (with_rows rest.now rows.now) proposal.now) }
 {
     let Proposal { session, part, .. } = *proposal;
     if !rest.is_live(session) {
@@ -130,10 +141,12 @@ fn place_one(
     placed: &mut Seq<Placed>,
     proposal: &Proposal,
 ) -> Result<(), AllocError>
-    requires room { (rest.old.next_msg < 2 ^ 63) × (rest.old.change < 2 ^ 63) }
-    ensures after { OnOk result (with_rows rest.new rows.now ≡ after_proposal (with_rows rest.old rows.now) proposal.now) }
+    requires room { (rest.old.next_msg + 1 < 2 ^ 64) × (rest.old.change + 1 < 2 ^ 64) }
+    ensures after { OnOk result (
+        with_rows rest.new rows.now ≡ after_proposal (with_rows rest.old rows.now) proposal.now) }
     ensures rows { OnOk result (rest.new.rows ≡ rest.old.rows) }
-    ensures placed { OnOk result (placed.new ≡ placed.old ++ placed_of (with_rows rest.old rows.now) proposal.now ∷ []) }
+    ensures placed { OnOk result (
+        placed.new ≡ placed.old ++ placed_of (with_rows rest.old rows.now) proposal.now ∷ []) }
     ensures err { OnErr result (rest.new ≡ rest.old) }
 {
     let answer = place_on(rest, rows, proposal)?;
@@ -148,19 +161,22 @@ fn place_one(
 pub fn place_all_on(
     rest: &mut Cluster,
     rows: &[Row],
-    alloc: Global,
     proposals: &[Proposal],
 ) -> Result<Seq<Placed>, AllocError>
-    requires room { (rest.old.next_msg + length proposals.now < 2 ^ 63) × (rest.old.change + length proposals.now < 2 ^ 63) }
-    ensures placed { IfOk result (λ placed. placed ≡ placed_all (with_rows rest.old rows.now) proposals.now) }
-    ensures after { OnOk result (with_rows rest.new rows.now ≡ after_proposals (with_rows rest.old rows.now) proposals.now) }
-    ensures same { OnOk result ((rest.new.rows ≡ rest.old.rows) × (rest.new.controllers ≡ rest.old.controllers)) }
+    requires { HasRoom rest.old }
+    ensures placed { IfOk result (λ placed.
+        placed ≡ placed_all (with_rows rest.old rows.now) proposals.now) }
+    ensures after { OnOk result (
+        with_rows rest.new rows.now
+        ≡ after_proposals (with_rows rest.old rows.now) proposals.now) }
+    ensures same { OnOk result (
+        (rest.new.rows ≡ rest.old.rows) × (rest.new.controllers ≡ rest.old.controllers)) }
     ensures err { OnErr result (rest.new ≡ rest.old) }
 {
     let before = rest.mail.len();
     let next_msg = rest.next_msg;
     let change = rest.change;
-    let mut placed = Seq::new(alloc);
+    let mut placed = Seq::new(rest.mail.allocator());
     for proposal in proposals {
         if place_one(rest, rows, &mut placed, proposal).is_err() {
             rest.mail.truncate(before);
@@ -176,19 +192,21 @@ pub fn place_all_on(
 pub fn dispatch_on(
     rest: &mut Cluster,
     rows: &[Row],
-    alloc: Global,
     controller: ControllerId,
     proposals: &[Proposal],
 ) -> Result<Dispatched, AllocError>
-    requires pass { (pass_of rest.old controller).0 < 2 ^ 63 }
-    requires room { (rest.old.next_msg + length proposals.now < 2 ^ 63) × (rest.old.change + length proposals.now < 2 ^ 63) }
-    ensures answer { IfOk result (λ answer. answer ≡ dispatched_of (with_rows rest.old rows.now) controller proposals.now) }
-    ensures after { OnOk result (with_rows rest.new rows.now ≡ after_dispatch (with_rows rest.old rows.now) controller proposals.now) }
+    requires { HasRoom rest.old }
+    ensures answer { IfOk result (λ answer.
+        answer ≡ dispatched_of (with_rows rest.old rows.now) controller proposals.now) }
+    ensures after { OnOk result (
+        with_rows rest.new rows.now
+        ≡ after_dispatch (with_rows rest.old rows.now) controller proposals.now) }
+    ensures each { IfOk result (λ answer. length answer.placed ≡ length proposals.now) }
     ensures rows { OnOk result (rest.new.rows ≡ rest.old.rows) }
     ensures err { OnErr result (rest.new ≡ rest.old) }
 {
     let change = rest.change;
-    let placed = place_all_on(rest, rows, alloc, proposals)?;
+    let placed = place_all_on(rest, rows, proposals)?;
     raise_pass(rest, controller);
     Ok(Dispatched { change, placed })
 }
@@ -199,15 +217,16 @@ pub fn dispatch(
     controller: ControllerId,
     proposals: &[Proposal],
 ) -> Result<Dispatched, AllocError>
-    requires pass { (pass_of cluster.old controller).0 < 2 ^ 63 }
-    requires room { (cluster.old.next_msg + length proposals.now < 2 ^ 63) × (cluster.old.change + length proposals.now < 2 ^ 63) }
-    ensures answer { IfOk result (λ answer. answer ≡ dispatched_of cluster.old controller proposals.now) }
-    ensures after { OnOk result (cluster.new ≡ after_dispatch cluster.old controller proposals.now) }
+    requires { HasRoom cluster.old }
+    ensures answer { IfOk result (λ answer.
+        answer ≡ dispatched_of cluster.old controller proposals.now) }
+    ensures after { OnOk result (
+        cluster.new ≡ after_dispatch cluster.old controller proposals.now) }
+    ensures each { IfOk result (λ answer. length answer.placed ≡ length proposals.now) }
     ensures err { OnErr result (cluster.new ≡ cluster.old) }
 {
     let rows = cluster.rows.take_all();
-    let alloc = *rows.allocator();
-    let answer = dispatch_on(cluster, &rows, alloc, controller, proposals);
+    let answer = dispatch_on(cluster, &rows, controller, proposals);
     cluster.rows = Seq::from_vec(rows);
     answer
 }

@@ -1,16 +1,25 @@
-//! How a session takes a message, writes its outcome and acknowledges it. Only a new row takes memory.
-ghost use Rattle.std.specs.Prelude.{◌≡◌, ℕ, ◌+◌, ◌^◌, ◌<◌, ◌≤◌, not, true, length, filter, map, vec_len, vec_capacity, nat_lt, OnOk, OnErr};
-ghost use Rattle.std.specs.List.{list_any, position, position_or_len};
+//! How a session takes a message, writes its outcome and acknowledges it. Only a new row takes
+//! memory.
+ghost use Rattle.std.specs.Prelude.{◌≡◌, ℕ, ◌+◌, ◌<◌, ◌≤◌, not, None, length, filter, map, vec_len};
+ghost use Rattle.std.specs.Prelude.{vec_capacity, nat_lt, IfOk, OnOk, OnErr};
+ghost use Rattle.std.specs.List.{list_any};
 ghost use Rattle.hx_lists.specs.Lists.{insert_by};
+ghost use Rattle.hx_lists.specs.Answers.{RefusedAs};
 ghost use Rattle.hx_cluster.specs.Ends.{is_row, part_before};
 ghost use Rattle.hx_cluster.specs.Steps.{is_flag};
-ghost use Rattle.hx_cluster.specs.Messages.{has_id, as_taken as as_taken_of, as_written as as_written_of, after_take, after_write, after_ack, row_before, restated as restated_of, with_row, row_put, state_after, flags_after};
-ghost use Rattle.hx_cluster.specs.Events.{can_take, can_write, can_ack, next};
+ghost use Rattle.hx_cluster.specs.Messages.{has_id, as_taken as as_taken_of};
+ghost use Rattle.hx_cluster.specs.Messages.{as_written as as_written_of, after_write, row_before};
+ghost use Rattle.hx_cluster.specs.Messages.{restated as restated_of, row_put, flags_after};
+ghost use Rattle.hx_cluster.specs.Marks.{take_refusal, write_refusal, ack_refusal};
+ghost use Rattle.hx_cluster.specs.Events.{next};
 ghost use Rattle.hx_cluster.specs.Apart.{with_rows};
+ghost use Rattle.hx_cluster.specs.Room.{HasRoom};
 
-use hx_cluster::{Cluster, Event, Message, Outcome, Row, is_flag_of};
+use hx_cluster::{
+    AckFault, Cluster, Event, Message, Outcome, Row, TakeFault, WriteRefusal, is_flag_of,
+};
 use hx_ids::{MsgId, PartId, SessionId, StateId};
-use hx_lists::Seq;
+use hx_lists::{Seq, insert_reserved};
 use hx_model::DROPPED;
 use std::alloc::AllocError;
 
@@ -50,13 +59,13 @@ fn restated(row: Row, session: SessionId, part: PartId, state: StateId) -> Row
     }
 }
 
-/// Whether a row doesn't come before another one.
-fn is_behind(row: &Row, other: Row) -> bool
-    ensures { result ≡ not (row_before row.now other) }
+/// Whether a row comes before another one.
+fn is_before(row: &Row, other: Row) -> bool
+    ensures { result ≡ row_before row.now other }
 {
     let own = (row.session, row.part);
     let others = (other.session, other.part);
-    !(own < others)
+    own < others
 }
 
 fn mark_taken(mail: &mut [Message], session: SessionId, id: MsgId)
@@ -89,32 +98,14 @@ fn has_row(rows: &[Row], session: SessionId, part: PartId) -> bool
     rows.iter().any(|r| r.is_of(session, part))
 }
 
-fn first_behind(rows: &[Row], row: Row) -> Option<usize>
-    ensures { result ≡ position (λ r. not (row_before r row)) rows.now }
-{
-    rows.iter().position(|r| is_behind(r, row))
-}
-
-#[tactic(auto, using(hx_cluster::proofs::Inserting::place_in, hx_cluster::proofs::Inserting::place_found, hx_cluster::proofs::Inserting::place_none))]
-fn place_of(rows: &[Row], row: Row) -> usize
-    ensures place { result ≡ position_or_len (λ r. not (row_before r row)) rows.now }
-    ensures bound { result ≤ length rows.now }
-{
-    match first_behind(rows, row) {
-        Some(place) => place,
-        None => rows.len(),
-    }
-}
-
 /// Puts a new row into its place.
 fn add_row(rows: &mut Vec<Row>, row: Row)
     requires { vec_len rows.old < vec_capacity rows.old }
     ensures added { rows.new.items ≡ insert_by row_before row rows.old.items }
-    ensures capacity { vec_capacity rows.old ≤ vec_capacity rows.new }
+    ensures capacity { vec_capacity rows.new ≡ vec_capacity rows.old }
     ensures len { vec_len rows.new ≡ vec_len rows.old + 1 }
 {
-    let place = place_of(rows, row);
-    rows.insert(place, row).unwrap();
+    insert_reserved(rows, row, |r| is_before(r, row));
 }
 
 fn remove_row(rows: &mut Vec<Row>, session: SessionId, part: PartId)
@@ -164,39 +155,24 @@ fn settle_flags(flags: &mut Seq<(SessionId, PartId)>, message: &Message, outcome
     }
 }
 
-fn take_in(mail: &mut Seq<Message>, session: SessionId, id: MsgId)
-    ensures { mail.new ≡ map (as_taken_of session id) mail.old }
-{
-    let mut items = mail.take_all();
-    mark_taken(&mut items, session, id);
-    *mail = Seq::from_vec(items);
-}
-
-fn write_in(mail: &mut Seq<Message>, session: SessionId, id: MsgId)
-    ensures { mail.new ≡ map (as_written_of session id) mail.old }
-{
-    let mut items = mail.take_all();
-    mark_written(&mut items, session, id);
-    *mail = Seq::from_vec(items);
-}
-
 fn remove_message(mail: &mut Seq<Message>, session: SessionId, id: MsgId)
     ensures { mail.new ≡ filter (λ m. not (has_id session id m)) mail.old }
 {
     mail.retain(|m| !m.has_id(session, id));
 }
 
-/// Brings the outcome of a message to its row, which stands apart with room for one more. It takes no memory.
-pub fn write_on(
+/// Brings the outcome of a message to its row.
+fn bring_on(
     rest: &mut Cluster,
     rows: &mut Vec<Row>,
     session: SessionId,
     id: MsgId,
     outcome: Outcome,
 )
-    requires room { vec_len rows.old < vec_capacity rows.old }
-    requires change { rest.old.change < 2 ^ 63 }
-    ensures after { with_rows rest.new rows.new.items ≡ after_write (with_rows rest.old rows.old.items) session id outcome }
+    requires space { vec_len rows.old < vec_capacity rows.old }
+    requires room { HasRoom rest.old }
+    ensures after { with_rows rest.new rows.new.items
+        ≡ after_write (with_rows rest.old rows.old.items) session id outcome }
     ensures rows { rest.new.rows ≡ rest.old.rows }
     ensures capacity { vec_capacity rows.old ≤ vec_capacity rows.new }
     ensures len { vec_len rows.new ≤ vec_len rows.old + 1 }
@@ -204,49 +180,96 @@ pub fn write_on(
     if let Some(message) = rest.pending_of(session, id) {
         let state = message.state_after(outcome);
         put_row(rows, message.session, message.part, state);
-        write_in(&mut rest.mail, session, id);
+        mark_written(rest.mail.as_mut_slice(), session, id);
         settle_flags(&mut rest.resets, &message, outcome);
         rest.change += 1;
     }
 }
 
-/// A session begins a transition. It takes no memory.
-pub fn take(cluster: &mut Cluster, session: SessionId, id: MsgId)
-    requires may { can_take cluster.old session id ≡ true }
-    requires change { cluster.old.change < 2 ^ 63 }
-    ensures { cluster.new ≡ next cluster.old (Event.Take session id) }
+/// The outcome of a message comes to its row, which stands apart with space for one more. It takes
+/// no memory.
+pub fn write_on(
+    rest: &mut Cluster,
+    rows: &mut Vec<Row>,
+    session: SessionId,
+    id: MsgId,
+    outcome: Outcome,
+) -> Result<(), WriteRefusal>
+    requires space { vec_len rows.old < vec_capacity rows.old }
+    requires room { HasRoom rest.old }
+    ensures refused { RefusedAs (write_refusal rest.old session id) result }
+    ensures ok { OnOk result (
+        with_rows rest.new rows.new.items
+        ≡ after_write (with_rows rest.old rows.old.items) session id outcome) }
+    ensures err { OnErr result ((rest.new ≡ rest.old) × (rows.new.items ≡ rows.old.items)) }
+    ensures rows { rest.new.rows ≡ rest.old.rows }
+    ensures capacity { vec_capacity rows.old ≤ vec_capacity rows.new }
+    ensures len { vec_len rows.new ≤ vec_len rows.old + 1 }
 {
-    take_in(&mut cluster.mail, session, id);
-    cluster.change += 1;
+    if let Some(refusal) = rest.write_refusal(session, id) {
+        return Err(refusal);
+    }
+    bring_on(rest, rows, session, id, outcome);
+    Ok(())
 }
 
-/// The outcome of a message comes to its row.
+/// A session begins a transition. It takes no memory.
+pub fn take(cluster: &mut Cluster, session: SessionId, id: MsgId) -> Result<(), TakeFault>
+    requires { HasRoom cluster.old }
+    ensures refused { RefusedAs (take_refusal cluster.old session id) result }
+    ensures ok { OnOk result (cluster.new ≡ next cluster.old (Event.Take session id)) }
+    ensures err { OnErr result (cluster.new ≡ cluster.old) }
+{
+    if let Some(fault) = cluster.take_refusal(session, id) {
+        return Err(fault);
+    }
+    mark_taken(cluster.mail.as_mut_slice(), session, id);
+    cluster.change += 1;
+    Ok(())
+}
+
+/// The outcome of a message comes to its row. Want of memory comes only where nothing else refuses
+/// it.
 pub fn write(
     cluster: &mut Cluster,
     session: SessionId,
     id: MsgId,
     outcome: Outcome,
-) -> Result<(), AllocError>
-    requires may { can_write cluster.old session id ≡ true }
-    requires change { cluster.old.change < 2 ^ 63 }
-    ensures ok { OnOk result (cluster.new ≡ next cluster.old (Event.Write session id outcome)) }
+) -> Result<Result<(), WriteRefusal>, AllocError>
+    requires { HasRoom cluster.old }
+    ensures refused { IfOk result (RefusedAs (write_refusal cluster.old session id)) }
+    ensures ok { IfOk result (λ written.
+        OnOk written (cluster.new ≡ next cluster.old (Event.Write session id outcome))) }
+    ensures kept { IfOk result (λ written. OnErr written (cluster.new ≡ cluster.old)) }
+    ensures memory { OnErr result (write_refusal cluster.old session id ≡ None) }
     ensures err { OnErr result (cluster.new ≡ cluster.old) }
 {
+    if let Some(refusal) = cluster.write_refusal(session, id) {
+        return Ok(Err(refusal));
+    }
     let mut rows = cluster.rows.take_all();
-    let room = rows.reserve(1);
-    if room.is_ok() {
-        write_on(cluster, &mut rows, session, id, outcome);
+    let space = rows.reserve(1);
+    if space.is_ok() {
+        bring_on(cluster, &mut rows, session, id, outcome);
     }
     cluster.rows = Seq::from_vec(rows);
-    room
+    match space {
+        Ok(()) => Ok(Ok(())),
+        Err(e) => Err(e),
+    }
 }
 
 /// A message that is written is acknowledged, and goes. It takes no memory.
-pub fn ack(cluster: &mut Cluster, session: SessionId, id: MsgId)
-    requires may { can_ack cluster.old session id ≡ true }
-    requires change { cluster.old.change < 2 ^ 63 }
-    ensures { cluster.new ≡ next cluster.old (Event.Ack session id) }
+pub fn ack(cluster: &mut Cluster, session: SessionId, id: MsgId) -> Result<(), AckFault>
+    requires { HasRoom cluster.old }
+    ensures refused { RefusedAs (ack_refusal cluster.old session id) result }
+    ensures ok { OnOk result (cluster.new ≡ next cluster.old (Event.Ack session id)) }
+    ensures err { OnErr result (cluster.new ≡ cluster.old) }
 {
+    if let Some(fault) = cluster.ack_refusal(session, id) {
+        return Err(fault);
+    }
     remove_message(&mut cluster.mail, session, id);
     cluster.change += 1;
+    Ok(())
 }

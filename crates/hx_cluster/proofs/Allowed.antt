@@ -1,11 +1,9 @@
 -- What an edit that isn't refused may rely on.
-use Rattle.std.proofs.Common.{◌≡◌, ℕ, List, length, get_or, ◌<◌, Bool, true, false, not, refl, Option, Some, None, subst, arith, rules}
+use Rattle.std.proofs.Common.{◌≡◌, ℕ, List, length, ◌<◌, Bool, true, false, not, refl, Option, Some, None, subst, arith, rules}
 use Rattle.std.specs.Prelude.{nat_le, if◌then◌else◌, IsSome}
 use Rattle.std.proofs.lemmas.Bool.Decides.{nat_tests}
-use Rattle.std.proofs.lemmas.Option.{slice_get_read}
 use Rattle.hx_ids.specs.declared.InstanceId.{InstanceId}
 use Rattle.hx_ids.specs.declared.StateId.{StateId}
-use Rattle.hx_ids.specs.declared.ResourceId.{ResourceId}
 use Rattle.hx_ids.specs.declared.PartId.{PartId}
 use Rattle.hx_model.specs.Model.{states_of}
 use Rattle.hx_ideal.specs.Faults.{list_fault, map_fault}
@@ -49,20 +47,10 @@ custom_maps (modes.Semi lists) e = cc
 custom_maps (modes.Custom maps) e = search rules
 
 -- a step that isn't refused lets the resource be edited
-resource_here : (items resources : List Resource) (r : ResourceId) (x : Resource) → items ≡ resources → x ≡ get_or items r.0 x → r.0 < length resources → resource_at resources r ≡ Some x
-resource_here items resources r x same read h = slice_get_read resources (length resources) r.0 x refl h (rw same at read)
-
-pub may_list : (c : Cluster) (p : PartId) (list given : List InstanceId) (n : ℕ) (items : List Resource) (x : Resource) → refusal_of c (steps.SetList p list) ≡ None
-    → items ≡ c.resources → x ≡ get_or items p.resource.0 x → p.resource.0 < length c.resources → n ≡ length c.instances → given ≡ list
-    → edit_fault is_semi p (list_fault n p.index given) (Some x) ≡ None
-may_list c p list given n items x may same read h instances is =
-    let here = resource_here items c.resources p.resource x same read h in
-    rw (instances, is) (rw here at may)
-
-pub may_map : (c : Cluster) (p : PartId) (map given : List (InstanceId × StateId)) (n : ℕ) (states : List StateId) (items : List Resource) (x : Resource) → refusal_of c (steps.SetMap p map) ≡ None
-    → items ≡ c.resources → x ≡ get_or items p.resource.0 x → p.resource.0 < length c.resources → n ≡ length c.instances
+pub may_map : (c : Cluster) (p : PartId) (map given : List (InstanceId × StateId)) (n : ℕ) (states : List StateId) (x : Resource) → refusal_of c (steps.SetMap p map) ≡ None
+    → resource_at c.resources p.resource ≡ Some x → n ≡ length c.instances
     → states ≡ states_of (model_of c.models c.resources p.resource) → given ≡ map
     → edit_fault is_custom p (map_fault n states p.index given) (Some x) ≡ None
-may_map c p map given n states items x may same read h instances model is =
+may_map c p map given n states x may here instances model is =
     let P : Option Resource → Type 0 = λ o. edit_fault is_custom p (map_fault (length c.instances) (states_of (model_of c.models c.resources p.resource)) p.index map) o ≡ None in
-    rw (instances, model, is) (subst P (resource_here items c.resources p.resource x same read h) may)
+    rw (instances, model, is) (subst P here may)

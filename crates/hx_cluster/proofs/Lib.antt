@@ -1,6 +1,6 @@
 pub mod Newest
 pub mod Shown
-pub mod Inserting
 pub mod RowsApart
 pub mod Allowed
 pub mod Bare
+pub mod Rooms

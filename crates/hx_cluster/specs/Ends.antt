@@ -11,6 +11,7 @@ use Rattle.hx_ids.specs.declared.ModelId.{ModelId}
 use Rattle.hx_ids.specs.declared.SessionId.{SessionId}
 use Rattle.hx_ids.specs.declared.PartId.{PartId}
 use Rattle.hx_ids.specs.declared.Live.{Live}
+pub use Rattle.hx_ids.specs.Sessions.{is_session, is_live}
 use Rattle.hx_model.specs.declared.ModelParts.{ModelParts}
 use Rattle.hx_model.specs.Model.{limit_of, bound_of, dropped}
 use Rattle.hx_cluster.specs.declared.description.Resource.{Resource}
@@ -65,12 +66,6 @@ abbrev pub count_over : List SessionId → List Row → List Message → PartId 
 count_over sessions rows mail p t = length (holders_of sessions rows mail p t)
 
 -- live sessions
-abbrev pub is_session : SessionId → Live → Bool
-is_session s l = l.session.0 == s.0
-
-abbrev pub is_live : List Live → SessionId → Bool
-is_live live s = list_any (is_session s) live
-
 abbrev pub sessions_of : List Live → List SessionId
 sessions_of live = map (λ l. l.session) live
 

@@ -1,8 +1,12 @@
 //! What a description says of a cluster.
+ghost use Rattle.std.specs.Prelude.{◌≡◌};
+ghost use Rattle.hx_cluster.specs.Steps.{new_resource};
+
 use hx_ideal::Ideal;
 use hx_ids::{InstanceId, ModelId, Names, PartId, StateId};
 use hx_lists::Seq;
 use hx_model::Model;
+use std::alloc::AllocError;
 
 /// A resource. Its number is its place among the resources, and stays its own when it is dropped.
 #[derive(Debug, Drop)]
@@ -12,6 +16,33 @@ pub struct Resource {
     pub model: ModelId,
     pub ideal: Ideal,
     pub dropped: bool,
+}
+
+impl Resource {
+    /// A resource as it is added.
+    pub fn new(name: u32, model: ModelId, ideal: Ideal) -> Resource
+        ensures { result ≡ new_resource name model ideal }
+    {
+        Resource {
+            name,
+            model,
+            ideal,
+            dropped: false,
+        }
+    }
+}
+
+impl Clone for Resource {
+    ghost is_clone = { λ resource copy. copy ≡ resource };
+
+    fn clone(&self) -> Result<Resource, AllocError> {
+        Ok(Resource {
+            name: self.name,
+            model: self.model,
+            ideal: self.ideal.clone()?,
+            dropped: self.dropped,
+        })
+    }
 }
 
 /// Over what a throttle counts the messages in flight.
@@ -31,8 +62,8 @@ pub struct Rule {
     pub limit: u32,
 }
 
-/// A failure to come. With `make` it is that making of a handler of the part on the instance, else that run
-/// of each such handler; both are counted from 1.
+/// A failure to come. With `make` it is that making of a handler of the part on the instance, else
+/// that run of each such handler; both are counted from 1.
 #[derive(Clone, Copy, Debug, PartialEq, Eq)]
 pub struct Failure {
     pub instance: InstanceId,

@@ -4,7 +4,9 @@ ghost use Rattle.hx_ideal.specs.IdealState.{put_list, put_map};
 ghost use Rattle.hx_ideal.specs.Faults.{list_fault, map_fault};
 ghost use Rattle.hx_model.specs.Model.{states_of};
 ghost use Rattle.hx_cluster.specs.Ends.{model_of};
-ghost use Rattle.hx_cluster.specs.Steps.{edit_fault, is_semi, is_custom, with_mode, refusal_of, after};
+ghost use Rattle.hx_cluster.specs.Room.{HasRoom};
+ghost use Rattle.hx_cluster.specs.Steps.{edit_fault, is_semi, is_custom, with_mode, refusal_of};
+ghost use Rattle.hx_cluster.specs.Steps.{after};
 
 use crate::description::Resource;
 use crate::happenings::Admin;
@@ -12,7 +14,7 @@ use crate::state::Cluster;
 use hx_ids::{InstanceId, PartId, ResourceId, StateId};
 use hx_lists::Seq;
 use hx_model::Model;
-use std::alloc::{AllocError, Global};
+use std::alloc::AllocError;
 
 /// The states of a resource's model. A resource that isn't there has none.
 #[tactic(auto, using(crate::proofs::Shown::model_in_or))]
@@ -35,8 +37,11 @@ pub(crate) fn states_in<'a>(
 impl Resource {
     #[tactic(auto, using(crate::proofs::Allowed::allowed, crate::proofs::Allowed::semi_lists))]
     fn set_list(&mut self, part: PartId, list: Vec<InstanceId>, instances: u32)
-        requires { edit_fault is_semi part (list_fault instances part.index list.items) (Some self.old) ≡ None }
-        ensures { self.new ≡ with_mode self.old (put_list self.old.ideal.mode part.index list.items) }
+        requires { edit_fault is_semi part
+            (list_fault instances part.index list.items) (Some self.old)
+            ≡ None }
+        ensures { self.new
+            ≡ with_mode self.old (put_list self.old.ideal.mode part.index list.items) }
     {
         self.ideal.set_list(part.index, list, instances).unwrap();
     }
@@ -49,7 +54,9 @@ impl Resource {
         instances: u32,
         states: &[StateId],
     )
-        requires { edit_fault is_custom part (map_fault instances states.now part.index map.items) (Some self.old) ≡ None }
+        requires { edit_fault is_custom part
+            (map_fault instances states.now part.index map.items) (Some self.old)
+            ≡ None }
         ensures { self.new ≡ with_mode self.old (put_map self.old.ideal.mode part.index map.items) }
     {
         self.ideal
@@ -62,23 +69,18 @@ impl Cluster {
     /// Replaces the preference list of a part.
     pub(crate) fn set_list(
         &mut self,
-        alloc: Global,
         part: PartId,
         list: &Seq<InstanceId>,
     ) -> Result<(), AllocError>
         requires may { refusal_of self.old (Admin.SetList part list.now) ≡ None }
-        requires few { length self.old.instances < 2 ^ 32 }
-        requires room { self.old.change < 2 ^ 63 }
+        requires room { HasRoom self.old }
         ensures ok { OnOk result (self.new ≡ after self.old (Admin.SetList part list.now)) }
         ensures err { OnErr result (self.new ≡ self.old) }
     {
-        let list = list.copied(alloc)?.into_vec();
+        let list = list.clone()?.into_vec();
         let instances = self.instances.len() as u32;
-        let place = part.resource.0 as usize;
-        if place < self.resources.len() {
-            let mut resources = self.resources.take_all();
-            resources[place].set_list(part, list, instances);
-            self.resources = Seq::from_vec(resources);
+        if let Some(resource) = self.resources.get_mut(part.resource.0 as usize) {
+            resource.set_list(part, list, instances);
             self.change += 1;
         }
         Ok(())
@@ -87,25 +89,20 @@ impl Cluster {
     /// Replaces the map of a part.
     pub(crate) fn set_map(
         &mut self,
-        alloc: Global,
         part: PartId,
         map: &Seq<(InstanceId, StateId)>,
     ) -> Result<(), AllocError>
         requires may { refusal_of self.old (Admin.SetMap part map.now) ≡ None }
-        requires few { length self.old.instances < 2 ^ 32 }
-        requires room { self.old.change < 2 ^ 63 }
+        requires room { HasRoom self.old }
         ensures ok { OnOk result (self.new ≡ after self.old (Admin.SetMap part map.now)) }
         ensures err { OnErr result (self.new ≡ self.old) }
     {
-        let map = map.copied(alloc)?.into_vec();
+        let map = map.clone()?.into_vec();
         let instances = self.instances.len() as u32;
-        let place = part.resource.0 as usize;
-        if place < self.resources.len() {
-            let models = self.models.as_slice();
-            let states = states_in(models, self.resources.as_slice(), part.resource);
-            let mut resources = self.resources.take_all();
-            resources[place].set_map(part, map, instances, states);
-            self.resources = Seq::from_vec(resources);
+        let models = self.models.as_slice();
+        let states = states_in(models, self.resources.as_slice(), part.resource);
+        if let Some(resource) = self.resources.get_mut(part.resource.0 as usize) {
+            resource.set_map(part, map, instances, states);
             self.change += 1;
         }
         Ok(())

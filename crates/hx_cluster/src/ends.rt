@@ -1,7 +1,11 @@
-//! The ends of replicas, how many sessions have a state among them, and what throttles count. Nothing here takes memory.
+//! The ends of replicas, how many sessions have a state among them, and what throttles count.
+//! Nothing here takes memory.
 ghost use Rattle.std.specs.Prelude.{◌≡◌, ℕ, ◌^◌, ◌<◌, ◌==◌, ◌||◌, length, option_copied, unwrap_or};
 ghost use Rattle.hx_model.specs.Model.{is_legal, bound_of};
-ghost use Rattle.hx_cluster.specs.Ends.{message_at, row_at, row_of, message_of, has_end as has_end_of, count_of, limit_at, load_of, matches, key_of, is_counted, shown_of, model_of, no_model, replicas_of, parts_of, instance_in};
+ghost use Rattle.hx_cluster.specs.Ends.{message_at, row_at, row_of, message_of};
+ghost use Rattle.hx_cluster.specs.Ends.{has_end as has_end_of, count_of, limit_at, load_of};
+ghost use Rattle.hx_cluster.specs.Ends.{matches, key_of, is_counted, shown_of, model_of, no_model};
+ghost use Rattle.hx_cluster.specs.Ends.{replicas_of, parts_of, instance_in};
 ghost use Rattle.hx_cluster.specs.Lookups.{model_in};
 ghost use Rattle.hx_cluster.specs.Messages.{initial_of};
 ghost use Rattle.hx_cluster.specs.Apart.{with_rows};
@@ -49,7 +53,6 @@ pub fn count_on(rest: &Cluster, rows: &[Row], part: PartId, state: StateId) -> u
 {
     let mail = rest.mail.as_slice();
     rest.live
-        .as_slice()
         .iter()
         .map(|l| l.session)
         .filter(|session| has_end(rows, mail, part, state, *session))
@@ -79,8 +82,10 @@ impl Cluster {
     /// A resource's model.
     #[tactic(auto, using(crate::proofs::Shown::model_in_or))]
     pub fn model_of(&self, resource: ResourceId) -> Option<&Model>
-        ensures found { option_copied result ≡ model_in self.now.models self.now.resources resource }
-        ensures parts { unwrap_or (option_copied result) no_model ≡ model_of self.now.models self.now.resources resource }
+        ensures found { option_copied result
+            ≡ model_in self.now.models self.now.resources resource }
+        ensures parts { unwrap_or (option_copied result) no_model
+            ≡ model_of self.now.models self.now.resources resource }
     {
         match self.resource(resource) {
             Some(resource) => self.models.as_slice().get(resource.model.0 as usize),
@@ -120,7 +125,8 @@ impl Cluster {
 
     /// Whether a part's model has a transition, or it leads from ERROR to the initial state.
     pub fn is_legal(&self, part: PartId, from: StateId, to: StateId) -> bool
-        ensures { result ≡ is_legal (model_of self.now.models self.now.resources part.resource) from to }
+        ensures { result
+            ≡ is_legal (model_of self.now.models self.now.resources part.resource) from to }
     {
         match self.model_of(part.resource) {
             Some(model) => model.legal(from, to),
@@ -150,8 +156,8 @@ impl Cluster {
         self.live_of(session).map(|l| l.instance)
     }
 
-    /// The key under which a scope counts a message to a session about a part: the instance, the resource, or 0
-    /// for the cluster.
+    /// The key under which a scope counts a message to a session about a part: the instance, the
+    /// resource, or 0 for the cluster.
     pub fn key_of(&self, scope: Scope, session: SessionId, part: PartId) -> u32
         ensures { result ≡ key_of scope (shown_of self.now.live) session part }
     {
@@ -179,7 +185,6 @@ impl Cluster {
         ensures { result ≡ load_of self.now rule.now key }
     {
         self.mail
-            .as_slice()
             .iter()
             .filter(|m| self.is_counted(rule, key, *m))
             .count()

@@ -4,10 +4,10 @@ use hx_ideal::{Ideal, IdealFault};
 use hx_ids::{
     ControllerId, Epoch, InstanceId, ModelId, MsgId, PartId, PassNo, ResourceId, SessionId, StateId,
 };
-use hx_lists::Seq;
+use hx_lists::{Log, Seq};
 
 /// A step that an operator, a session or a controller asks for.
-#[derive(Debug, Drop)]
+#[derive(Clone, Debug, Drop)]
 pub enum Admin {
     Join {
         instance: InstanceId,
@@ -59,7 +59,7 @@ pub enum Admin {
 }
 
 /// What a step answers.
-#[derive(Debug, PartialEq, Drop)]
+#[derive(Clone, Debug, PartialEq, Drop)]
 pub enum Did {
     Joined(SessionId),
     /// The sessions that a tick ended, in order of last beat.
@@ -220,8 +220,8 @@ pub enum Event {
     Ack(SessionId, MsgId),
 }
 
-/// All that happened, in order.
+/// All that happened, in order. Its room is made before what it records.
 #[derive(Debug, Drop)]
 pub struct History {
-    pub entries: Seq<Event>,
+    pub entries: Log<Event>,
 }

@@ -16,7 +16,7 @@ mod refusals;
 mod state;
 mod steps;
 
-pub use admin::admin_on;
+pub use admin::{admin_on, make_on};
 pub use description::{Failure, Resource, Rule, Scope, Spec};
 pub use ends::{count_on, has_end};
 pub use happenings::{
@@ -24,13 +24,9 @@ pub use happenings::{
     StepFault, TakeFault, WriteRefusal,
 };
 pub use hx_ids::Live;
-pub use opening::{copied_models, copied_resources};
 pub use planning::{
     Candidate, Entry, Finding, Full, Held, Ideals, Plan, Report, Selection, Target, Throttled, View,
 };
 pub use readers::{message_on, state_on};
 pub use refusals::{MOST_RESOURCES, is_flag_of, refuses_on};
 pub use state::{Cluster, Message, Row};
-
-#[cfg(test)]
-mod tests;

@@ -1,4 +1,5 @@
-//! Why a message isn't taken, its outcome not written, or its end not acknowledged. Nothing here takes memory.
+//! Why a message isn't taken, its outcome not written, or its end not acknowledged. Nothing here
+//! takes memory.
 ghost use Rattle.std.specs.Prelude.{◌≡◌};
 ghost use Rattle.hx_cluster.specs.Marks.{take_refusal, write_refusal, ack_refusal};
 ghost use Rattle.hx_cluster.specs.Events.{can_take, can_write, can_ack};

@@ -32,7 +32,8 @@ pub struct Target {
     /// None where there is no row.
     pub state: Option<StateId>,
     pub goal: StateId,
-    /// Its place in the preference list; the list's length where it isn't there; 0 for maps and dropped resources.
+    /// Its place in the preference list; the list's length where it isn't there; 0 for maps and
+    /// dropped resources.
     pub place: u32,
 }
 

@@ -1,9 +1,14 @@
-//! The conditions of steps and of the calls about messages, as tests. None takes memory.
-ghost use Rattle.std.specs.Prelude.{◌≡◌, ℕ, ◌+◌, ◌^◌, ◌<◌, ◌≤◌, ◌↔◌, ◌==◌, ◌&&◌, IsTrue, not, length, nat_lt, nat_le};
+//! The conditions of steps and calls, as tests: ids in range, and room. None takes memory.
+ghost use Rattle.std.specs.Prelude.{◌≡◌, ℕ, ◌+◌, ◌^◌, ◌<◌, ◌≤◌, ◌↔◌, ◌==◌, ◌&&◌, IsTrue, not};
+ghost use Rattle.std.specs.Prelude.{length, nat_lt, nat_le};
 ghost use Rattle.std.specs.List.{list_all};
-ghost use Rattle.hx_cluster.specs.Steps.{has_instance, has_resource, has_controller, is_empty_list as is_empty_list_of, is_bare_mode as is_bare_mode_of, is_bare as is_bare_of, is_in_range};
+ghost use Rattle.hx_cluster.specs.Steps.{has_instance, has_resource, has_controller};
+ghost use Rattle.hx_cluster.specs.Steps.{is_empty_list as is_empty_list_of};
+ghost use Rattle.hx_cluster.specs.Steps.{is_bare_mode as is_bare_mode_of, is_bare as is_bare_of};
+ghost use Rattle.hx_cluster.specs.Steps.{is_in_range};
 ghost use Rattle.hx_cluster.specs.Events.{has_part, has_state_name, is_proposable, is_postable};
 ghost use Rattle.hx_cluster.specs.Numbered.{IsNumbered};
+ghost use Rattle.hx_cluster.specs.Room.{half, HasRoom};
 
 use crate::happenings::{Admin, Proposal, Seen};
 use crate::state::Cluster;
@@ -11,12 +16,33 @@ use hx_ideal::{Ideal, Mode};
 use hx_ids::{ControllerId, InstanceId, ModelId, PartId, ResourceId, StateId};
 use hx_lists::Seq;
 
+/// Half of what 64 bits count. No list in memory has so many items.
+const HALFWAY: u64 = 1 << 63;
+
 impl Cluster {
     /// Whether the numbers of instances and resources fit their ids.
-    pub fn is_numbered(&self) -> bool
+    fn is_numbered(&self) -> bool
         ensures { IsTrue result ↔ IsNumbered self.now }
     {
         self.instances.len() <= u32::MAX as usize && self.resources.len() <= u32::MAX as usize
+    }
+
+    fn passes_have_room(&self) -> bool
+        ensures { result ≡ list_all (λ d. nat_lt d.1.0 half) self.now.controllers }
+    {
+        self.controllers.iter().all(|c| c.1.0 < HALFWAY)
+    }
+
+    /// Whether no number comes near the end of its type.
+    pub fn has_room(&self) -> bool
+        ensures { IsTrue result ↔ HasRoom self.now }
+    {
+        self.is_numbered()
+            && self.next_session < HALFWAY
+            && self.next_msg < HALFWAY
+            && self.change < HALFWAY
+            && self.epoch.0 < HALFWAY
+            && self.passes_have_room()
     }
 
     /// Whether there is an instance.
@@ -55,7 +81,10 @@ impl Cluster {
     }
 
     fn is_addable(&self, name: u32, model: ModelId, ideal: &Ideal) -> bool
-        ensures { result ≡ (nat_lt name self.now.resource_names && nat_lt model.0 (length self.now.models) && is_bare_of ideal.now) }
+        ensures { result
+            ≡ (nat_lt name self.now.resource_names
+            && nat_lt model.0 (length self.now.models)
+            && is_bare_of ideal.now) }
     {
         name < self.resource_names && (model.0 as usize) < self.models.len() && is_bare(ideal)
     }
@@ -65,22 +94,22 @@ impl Cluster {
         ensures { result ≡ is_in_range self.now step.now }
     {
         match step {
-            Admin::Join { instance } => self.has_instance(*instance),
-            Admin::End { instance } => self.has_instance(*instance),
-            Admin::Beat { instance } => self.has_instance(*instance),
+            Admin::Join { instance }
+            | Admin::End { instance }
+            | Admin::Beat { instance }
+            | Admin::Drain { instance }
+            | Admin::Undrain { instance } => self.has_instance(*instance),
             Admin::Tick { .. } => true,
-            Admin::Drain { instance } => self.has_instance(*instance),
-            Admin::Undrain { instance } => self.has_instance(*instance),
             Admin::Add { name, model, ideal } => self.is_addable(*name, *model, ideal),
             Admin::Drop { resource } => self.has_resource(*resource),
-            Admin::SetList { part, .. } => self.has_resource(part.resource),
-            Admin::SetMap { part, .. } => self.has_resource(part.resource),
+            Admin::SetList { part, .. } | Admin::SetMap { part, .. } => {
+                self.has_resource(part.resource)
+            }
             Admin::Reset { instance, part } => {
                 self.has_instance(*instance) && self.has_resource(part.resource)
             }
-            Admin::Lead { controller } => self.has_controller(*controller),
-            Admin::Stop { controller } => self.has_controller(*controller),
-            Admin::Start { controller } => self.has_controller(*controller),
+            Admin::Lead { controller } | Admin::Stop { controller } | Admin::Start { controller } =>
+                self.has_controller(*controller),
         }
     }
 

@@ -1,9 +1,12 @@
 //! What stands in a cluster. No reader takes memory.
 ghost use Rattle.std.specs.Prelude.{◌≡◌, ℕ, ◌^◌, ◌<◌, ◌==◌, length, find, option_copied};
 ghost use Rattle.std.specs.List.{list_any};
-ghost use Rattle.hx_cluster.specs.Ends.{is_row, is_message, row_of, message_of, state_of, is_live as is_live_of, is_session, resource_at};
-ghost use Rattle.hx_cluster.specs.Steps.{session_of, is_drained, is_down, is_leader, is_dropped, newest};
+ghost use Rattle.hx_cluster.specs.Ends.{is_row, is_message, row_of, message_of, state_of};
+ghost use Rattle.hx_cluster.specs.Ends.{is_live as is_live_of, is_session, resource_at};
+ghost use Rattle.hx_cluster.specs.Steps.{session_of, is_drained, is_down, is_leader, is_dropped};
+ghost use Rattle.hx_cluster.specs.Steps.{newest};
 ghost use Rattle.hx_cluster.specs.Reads.{pass_of};
+ghost use Rattle.hx_cluster.specs.Numbered.{IsNumbered};
 ghost use Rattle.hx_cluster.specs.Events.{is_pass, is_epoch};
 ghost use Rattle.hx_cluster.specs.Messages.{has_id, pending_of, state_after};
 
@@ -72,7 +75,6 @@ impl Cluster {
         ensures { result ≡ session_of self.now instance }
     {
         self.live
-            .as_slice()
             .iter()
             .find(|l| l.instance == instance)
             .map(|l| l.session)
@@ -82,35 +84,30 @@ impl Cluster {
     pub fn is_live(&self, session: SessionId) -> bool
         ensures { result ≡ is_live_of self.now.live session }
     {
-        self.live.as_slice().iter().any(|l| l.session == session)
+        self.live.iter().any(|l| l.session == session)
     }
 
     /// A live session with its instance and its last beat.
     pub fn live_of(&self, session: SessionId) -> Option<Live>
         ensures { result ≡ find (is_session session) self.now.live }
     {
-        self.live
-            .as_slice()
-            .iter()
-            .copied()
-            .find(|l| l.session == session)
+        self.live.iter().copied().find(|l| l.session == session)
     }
 
     /// Whether an instance is drained.
+    #[tactic(auto, using(crate::proofs::Shown::drained_at))]
     pub fn is_drained(&self, instance: InstanceId) -> bool
         ensures { result ≡ is_drained self.now.instances instance }
     {
-        match self.instances.as_slice().get(instance.0 as usize) {
-            Some(drained) => *drained,
-            None => false,
-        }
+        let place = instance.0 as usize;
+        self.instances.get(place).copied().unwrap_or(false)
     }
 
     /// Whether a controller is down.
     pub fn is_down(&self, controller: ControllerId) -> bool
         ensures { result ≡ is_down self.now controller }
     {
-        match self.controllers.as_slice().get(controller.0 as usize) {
+        match self.controllers.get(controller.0 as usize) {
             Some(entry) => entry.0,
             None => false,
         }
@@ -130,7 +127,7 @@ impl Cluster {
     pub fn pass_of(&self, controller: ControllerId) -> PassNo
         ensures { result ≡ pass_of self.now controller }
     {
-        match self.controllers.as_slice().get(controller.0 as usize) {
+        match self.controllers.get(controller.0 as usize) {
             Some(entry) => entry.1,
             None => PassNo(0),
         }
@@ -168,18 +165,14 @@ impl Cluster {
     pub fn pending_of(&self, session: SessionId, id: MsgId) -> Option<Message>
         ensures { result ≡ pending_of self.now session id }
     {
-        self.mail
-            .as_slice()
-            .iter()
-            .copied()
-            .find(|m| m.has_id(session, id))
+        self.mail.iter().copied().find(|m| m.has_id(session, id))
     }
 
     /// A resource, dropped or not.
     pub fn resource(&self, resource: ResourceId) -> Option<&Resource>
         ensures { option_copied result ≡ resource_at self.now.resources resource }
     {
-        self.resources.as_slice().get(resource.0 as usize)
+        self.resources.get(resource.0 as usize)
     }
 
     /// Whether a resource is dropped.
@@ -194,7 +187,7 @@ impl Cluster {
 
     /// The newest resource of a name, by the name's place among the resource names.
     pub fn newest(&self, name: u32) -> Option<ResourceId>
-        requires { length self.now.resources < 2 ^ 32 }
+        requires { IsNumbered self.now }
         ensures { result ≡ newest self.now name }
     {
         let mut found = None;

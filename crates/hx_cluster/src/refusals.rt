@@ -1,10 +1,16 @@
 //! Why a step is refused. Nothing here takes memory.
-ghost use Rattle.std.specs.Prelude.{◌≡◌, ℕ, ◌+◌, ◌-◌, ◌*◌, ◌^◌, ◌<◌, ◌≤◌, ◌==◌, ◌&&◌, not, length, find};
+ghost use Rattle.std.specs.Prelude.{◌≡◌, ℕ, ◌+◌, ◌-◌, ◌*◌, ◌^◌, ◌<◌, ◌≤◌, ◌==◌, ◌&&◌, not, length};
+ghost use Rattle.std.specs.Prelude.{find};
 ghost use Rattle.std.specs.List.{list_any};
 ghost use Rattle.hx_model.specs.Model.{states_of};
 ghost use Rattle.hx_ideal.specs.Faults.{list_fault as list_fault_of, map_fault as map_fault_of};
 ghost use Rattle.hx_cluster.specs.Ends.{is_live, resource_at, model_of};
-ghost use Rattle.hx_cluster.specs.Steps.{is_of, live_of, is_drained, is_down, is_flag, is_held as is_held_of, is_error as is_error_of, is_semi as is_semi_of, is_custom as is_custom_of, newest, name_in_use, already_so as already_so_of, already_live, not_live, edit_fault as edit_fault_of, reset_fault as reset_fault_of, lead_fault, refusal_of};
+ghost use Rattle.hx_cluster.specs.Steps.{is_of, live_of, is_drained, is_down, is_flag};
+ghost use Rattle.hx_cluster.specs.Steps.{is_held as is_held_of, is_error as is_error_of};
+ghost use Rattle.hx_cluster.specs.Steps.{is_semi as is_semi_of, is_custom as is_custom_of, newest};
+ghost use Rattle.hx_cluster.specs.Steps.{name_in_use, already_so as already_so_of, already_live};
+ghost use Rattle.hx_cluster.specs.Steps.{not_live, edit_fault as edit_fault_of};
+ghost use Rattle.hx_cluster.specs.Steps.{reset_fault as reset_fault_of, lead_fault, refusal_of};
 ghost use Rattle.hx_cluster.specs.Apart.{with_rows};
 ghost use Rattle.hx_cluster.specs.Numbered.{IsNumbered};
 
@@ -34,7 +40,7 @@ fn is_semi(mode: &Mode) -> bool
 {
     match mode {
         Mode::Semi(_) => true,
-        Mode::Full | Mode::Custom(_) => false,
+        _ => false,
     }
 }
 
@@ -43,7 +49,7 @@ fn is_custom(mode: &Mode) -> bool
 {
     match mode {
         Mode::Custom(_) => true,
-        Mode::Full | Mode::Semi(_) => false,
+        _ => false,
     }
 }
 
@@ -74,36 +80,38 @@ impl Cluster {
     pub fn live_at(&self, instance: InstanceId) -> Option<Live>
         ensures { result ≡ live_of self.now.live instance }
     {
-        self.live
-            .as_slice()
-            .iter()
-            .copied()
-            .find(|l| l.instance == instance)
+        self.live.iter().copied().find(|l| l.instance == instance)
     }
 
     fn is_held_by_row(&self, row: &Row, resource: ResourceId) -> bool
-        ensures { result ≡ ((row.now.part.resource.0 == resource.0) && is_live self.now.live row.now.session) }
+        ensures { result
+            ≡ ((row.now.part.resource.0 == resource.0) && is_live self.now.live row.now.session) }
     {
         row.part.resource == resource && self.is_live(row.session)
     }
 
     fn is_held_by_message(&self, message: &Message, resource: ResourceId) -> bool
-        ensures { result ≡ ((message.now.part.resource.0 == resource.0) && is_live self.now.live message.now.session) }
+        ensures { result
+            ≡ ((message.now.part.resource.0 == resource.0)
+            && is_live self.now.live message.now.session) }
     {
         message.part.resource == resource && self.is_live(message.session)
     }
 
     fn is_held_in_mail(&self, resource: ResourceId) -> bool
-        ensures { result ≡ list_any (λ m. (m.part.resource.0 == resource.0) && is_live self.now.live m.session) self.now.mail }
+        ensures { result
+            ≡ list_any (λ m. (m.part.resource.0 == resource.0) && is_live self.now.live m.session)
+            self.now.mail }
     {
         self.mail
-            .as_slice()
             .iter()
             .any(|m| self.is_held_by_message(m, resource))
     }
 
     fn is_held_in_rows(&self, rows: &[Row], resource: ResourceId) -> bool
-        ensures { result ≡ list_any (λ x. (x.part.resource.0 == resource.0) && is_live self.now.live x.session) rows.now }
+        ensures { result
+            ≡ list_any (λ x. (x.part.resource.0 == resource.0) && is_live self.now.live x.session)
+            rows.now }
     {
         rows.iter().any(|r| self.is_held_by_row(r, resource))
     }
@@ -167,8 +175,11 @@ impl Cluster {
     }
 
     fn list_fault(&self, part: PartId, list: &[InstanceId]) -> Option<StepFault>
-        requires { length self.now.instances < 2 ^ 32 }
-        ensures { result ≡ edit_fault_of is_semi_of part (list_fault_of (length self.now.instances) part.index list.now) (resource_at self.now.resources part.resource) }
+        requires { IsNumbered self.now }
+        ensures { result
+            ≡ edit_fault_of is_semi_of part
+            (list_fault_of (length self.now.instances) part.index list.now)
+            (resource_at self.now.resources part.resource) }
     {
         let fault = list_fault(list, part.index, self.instances.len() as u32);
         match self.resource(part.resource) {
@@ -178,8 +189,11 @@ impl Cluster {
     }
 
     fn entry_fault(&self, part: PartId, map: &[(InstanceId, StateId)]) -> Option<IdealFault>
-        requires { length self.now.instances < 2 ^ 32 }
-        ensures { result ≡ map_fault_of (length self.now.instances) (states_of (model_of self.now.models self.now.resources part.resource)) part.index map.now }
+        requires { IsNumbered self.now }
+        ensures { result
+            ≡ map_fault_of (length self.now.instances)
+            (states_of (model_of self.now.models self.now.resources part.resource))
+            part.index map.now }
     {
         let instances = self.instances.len() as u32;
         match self.model_of(part.resource) {
@@ -189,8 +203,13 @@ impl Cluster {
     }
 
     fn map_fault(&self, part: PartId, map: &[(InstanceId, StateId)]) -> Option<StepFault>
-        requires { length self.now.instances < 2 ^ 32 }
-        ensures { result ≡ edit_fault_of is_custom_of part (map_fault_of (length self.now.instances) (states_of (model_of self.now.models self.now.resources part.resource)) part.index map.now) (resource_at self.now.resources part.resource) }
+        requires { IsNumbered self.now }
+        ensures { result
+            ≡ edit_fault_of is_custom_of part
+            (map_fault_of (length self.now.instances)
+            (states_of (model_of self.now.models self.now.resources part.resource))
+            part.index map.now)
+            (resource_at self.now.resources part.resource) }
     {
         let fault = self.entry_fault(part, map);
         match self.resource(part.resource) {
@@ -200,8 +219,8 @@ impl Cluster {
     }
 }
 
-/// Why a list or a map of a part can't be set: the resource is dropped, has another mode or lacks the part, or the
-/// list or map has a fault of its own.
+/// Why a list or a map of a part can't be set: the resource is dropped, has another mode or lacks
+/// the part, or the list or map has a fault of its own.
 fn edit_fault(
     resource: &Resource,
     takes: bool,
@@ -230,7 +249,7 @@ fn is_held(rest: &Cluster, rows: &[Row], resource: ResourceId) -> bool
 }
 
 fn add_fault(rest: &Cluster, rows: &[Row], name: u32) -> Option<StepFault>
-    requires { length rest.now.resources < 2 ^ 32 }
+    requires { IsNumbered rest.now }
     ensures { result ≡ name_in_use (with_rows rest.now rows.now) (newest rest.now name) }
 {
     if let Some(resource) = rest.newest(name)
@@ -251,7 +270,8 @@ fn reset_fault(
     instance: InstanceId,
     part: PartId,
 ) -> Option<StepFault>
-    ensures { result ≡ reset_fault_of (with_rows rest.now rows.now) part (live_of rest.now.live instance) }
+    ensures { result
+        ≡ reset_fault_of (with_rows rest.now rows.now) part (live_of rest.now.live instance) }
 {
     let Some(live) = rest.live_at(instance) else {
         return Some(StepFault::NotLive);
@@ -277,8 +297,7 @@ pub fn refuses_on(rest: &Cluster, rows: &[Row], step: &Admin) -> Option<StepFaul
 {
     match step {
         Admin::Join { instance } => rest.already_live_fault(*instance),
-        Admin::End { instance } => rest.not_live_fault(*instance),
-        Admin::Beat { instance } => rest.not_live_fault(*instance),
+        Admin::End { instance } | Admin::Beat { instance } => rest.not_live_fault(*instance),
         Admin::Tick { n } => rest.tick_fault(*n),
         Admin::Drain { instance } => already_so(rest.is_drained(*instance)),
         Admin::Undrain { instance } => already_so(!rest.is_drained(*instance)),

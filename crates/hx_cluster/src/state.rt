@@ -31,7 +31,8 @@ pub struct Message {
     pub written: bool,
 }
 
-/// A cluster. Rows and reset flags stand by session, then part; messages by number; live sessions by last beat.
+/// A cluster. Rows and reset flags stand by session, then part; messages by number; live sessions
+/// by last beat.
 #[derive(Drop)]
 pub struct Cluster {
     /// For each instance, whether it is drained.

@@ -1,26 +1,25 @@
-//! The steps that an operator, a session or a controller asks for. The rows stand apart where a step changes them.
-ghost use Rattle.std.specs.Prelude.{◌≡◌, ℕ, ◌+◌, ◌^◌, ◌<◌, ◌≤◌, [], ◌∷◌, ◌++◌, ◌==◌, None, Some, not, true, false, length, filter, find, slice_set, slice_get, vec_len, vec_capacity, OnOk, OnErr, IfOk, IsErrOf};
-ghost use Rattle.std.specs.List.{position, position_or_len};
+//! The steps that an operator, a session or a controller asks for. The rows stand apart where a
+//! step changes them.
+ghost use Rattle.std.specs.Prelude.{◌≡◌, ℕ, ◌+◌, ◌^◌, ◌<◌, ◌≤◌, [], ◌∷◌, ◌++◌, ◌==◌, not, length};
+ghost use Rattle.std.specs.Prelude.{filter, slice_set, slice_get, vec_len, vec_capacity, OnOk};
+ghost use Rattle.std.specs.Prelude.{OnErr, IfOk};
 ghost use Rattle.hx_ids.specs.Expiry.{expired, is_expired as is_expired_of};
-ghost use Rattle.hx_ideal.specs.Faults.{list_fault, map_fault};
-ghost use Rattle.hx_model.specs.Model.{states_of};
 ghost use Rattle.hx_lists.specs.Lists.{insert_by};
-ghost use Rattle.hx_cluster.specs.Ends.{is_session, model_of};
-ghost use Rattle.hx_cluster.specs.Steps.{refusal_of, after, did_of, without, live_of, with_flag, flag_before, with_down, is_in_range, without_all};
+ghost use Rattle.hx_cluster.specs.Ends.{is_session};
+ghost use Rattle.hx_cluster.specs.Steps.{after, without, with_flag, flag_before, with_down};
+ghost use Rattle.hx_cluster.specs.Steps.{without_all, ended_by};
 ghost use Rattle.hx_cluster.specs.Apart.{with_rows};
-ghost use Rattle.hx_cluster.specs.Numbered.{IsNumbered, is_end};
-ghost use Rattle.hx_cluster.specs.Refusals.{RefusedBy};
+ghost use Rattle.hx_cluster.specs.Room.{half, HasRoom};
 
 use crate::description::Resource;
-use crate::happenings::{Admin, Did, StepFault};
-use crate::refusals::refuses_on;
+use crate::happenings::{Admin, StepFault};
 use crate::state::{Cluster, Message, Row};
 use hx_ideal::Ideal;
 use hx_ids::{
-    ControllerId, Epoch, InstanceId, Live, ModelId, PartId, PassNo, ResourceId, SessionId, StateId,
+    ControllerId, Epoch, InstanceId, Live, ModelId, PartId, PassNo, ResourceId, SessionId,
 };
 use hx_lists::Seq;
-use std::alloc::{AllocError, Global};
+use std::alloc::AllocError;
 
 impl From<AllocError> for StepFault {
     ghost use Rattle.hx_cluster.specs.declared.happenings.StepFault.TheVariants.{OutOfMemory};
@@ -33,20 +32,9 @@ impl From<AllocError> for StepFault {
 }
 
 impl Cluster {
-    /// The allocator of the cluster's lists.
-    pub fn allocator(&mut self) -> Global
-        ensures { self.new ≡ self.old }
-    {
-        let posted = self.posted.take_all();
-        let alloc = *posted.allocator();
-        self.posted = Seq::from_vec(posted);
-        alloc
-    }
-
     /// Opens the next session of an instance, at the clock.
-    pub(crate) fn open_session(&mut self, instance: InstanceId) -> Result<SessionId, AllocError>
-        requires room { (self.old.next_session < 2 ^ 63) × (self.old.change < 2 ^ 63) }
-        ensures session { IfOk result (λ session. session.0 ≡ self.old.next_session) }
+    pub(crate) fn open_session(&mut self, instance: InstanceId) -> Result<(), AllocError>
+        requires { HasRoom self.old }
         ensures ok { OnOk result (self.new ≡ after self.old (Admin.Join instance)) }
         ensures err { OnErr result (self.new ≡ self.old) }
     {
@@ -59,10 +47,11 @@ impl Cluster {
         })?;
         self.next_session += 1;
         self.change += 1;
-        Ok(session)
+        Ok(())
     }
 
-    /// Sets the last beat of an instance's session to the clock, and moves the session behind the others.
+    /// Sets the last beat of an instance's session to the clock, and moves the session behind the
+    /// others.
     pub(crate) fn beat(&mut self, instance: InstanceId) -> Result<(), AllocError>
         ensures ok { OnOk result (self.new ≡ after self.old (Admin.Beat instance)) }
         ensures err { OnErr result (self.new ≡ self.old) }
@@ -76,53 +65,43 @@ impl Cluster {
     /// Marks an instance as drained or not.
     pub(crate) fn set_drained(&mut self, instance: InstanceId, drained: bool)
         requires range { instance.0 < length self.old.instances }
-        requires room { self.old.change < 2 ^ 63 }
-        ensures { self.new ≡ record self.old { instances = slice_set self.old.instances instance.0 drained; change = self.old.change + 1 } }
+        requires room { HasRoom self.old }
+        ensures { self.new
+            ≡ record self.old {
+              instances = slice_set self.old.instances instance.0 drained;
+              change = self.old.change + 1;
+            } }
     {
         self.instances.set(instance.0 as usize, drained);
         self.change += 1;
     }
 
     /// Adds a resource with the next number.
-    pub(crate) fn add(
-        &mut self,
-        alloc: Global,
-        name: u32,
-        model: ModelId,
-        ideal: &Ideal,
-    ) -> Result<(), AllocError>
-        requires room { self.old.change < 2 ^ 63 }
+    pub(crate) fn add(&mut self, name: u32, model: ModelId, ideal: &Ideal) -> Result<(), AllocError>
+        requires { HasRoom self.old }
         ensures ok { OnOk result (self.new ≡ after self.old (Admin.Add name model ideal.now)) }
         ensures err { OnErr result (self.new ≡ self.old) }
     {
-        let ideal = ideal.copied(alloc)?;
-        self.resources.push(Resource {
-            name,
-            model,
-            ideal,
-            dropped: false,
-        })?;
+        let ideal = ideal.clone()?;
+        self.resources.push(Resource::new(name, model, ideal))?;
         self.change += 1;
         Ok(())
     }
 
     /// Marks a resource as dropped.
     pub(crate) fn drop_resource(&mut self, resource: ResourceId)
-        requires { self.old.change < 2 ^ 63 }
+        requires { HasRoom self.old }
         ensures { self.new ≡ after self.old (Admin.Drop resource) }
     {
-        let place = resource.0 as usize;
-        if place < self.resources.len() {
-            let mut resources = self.resources.take_all();
-            resources[place].dropped = true;
-            self.resources = Seq::from_vec(resources);
+        if let Some(resource) = self.resources.get_mut(resource.0 as usize) {
+            resource.dropped = true;
             self.change += 1;
         }
     }
 
     /// Sets a reset flag, in its place among the others.
     pub(crate) fn reset(&mut self, instance: InstanceId, part: PartId) -> Result<(), AllocError>
-        requires { self.old.change < 2 ^ 63 }
+        requires { HasRoom self.old }
         ensures ok { OnOk result (self.new ≡ after self.old (Admin.Reset instance part)) }
         ensures err { OnErr result (self.new ≡ self.old) }
     {
@@ -135,7 +114,8 @@ impl Cluster {
 
     /// Sets whether a controller is down, and the number of its pass.
     pub fn set_controller(&mut self, controller: ControllerId, entry: (bool, PassNo))
-        ensures { self.new ≡ record self.old { controllers = slice_set self.old.controllers controller.0 entry } }
+        ensures { self.new
+            ≡ record self.old { controllers = slice_set self.old.controllers controller.0 entry } }
     {
         let place = controller.0 as usize;
         if place < self.controllers.len() {
@@ -148,14 +128,14 @@ impl Cluster {
         ensures { self.new ≡ with_down self.old controller down }
     {
         let place = controller.0 as usize;
-        if let Some(entry) = self.controllers.as_slice().get(place).copied() {
+        if let Some(entry) = self.controllers.get(place).copied() {
             self.set_controller(controller, (down, entry.1));
         }
     }
 
     /// Stops a controller. Where it led, nobody leads and a new epoch begins.
     pub(crate) fn stop(&mut self, controller: ControllerId)
-        requires { self.old.epoch.0 < 2 ^ 63 }
+        requires { HasRoom self.old }
         ensures { self.new ≡ after self.old (Admin.Stop controller) }
     {
         self.set_down(controller, true);
@@ -166,17 +146,16 @@ impl Cluster {
     }
 
     /// The sessions that have had no beat for the timeout at a time, in order of last beat.
-    fn expired(&self, alloc: Global, now: u64) -> Result<Vec<SessionId>, AllocError>
+    pub(crate) fn expired(&self, now: u64) -> Result<Vec<SessionId>, AllocError>
         ensures { IfOk result (λ ended. ended.items ≡ expired self.now.live now self.now.timeout) }
     {
         let timeout = self.timeout;
         self.live
-            .as_slice()
             .iter()
             .copied()
             .filter(|l| is_expired(l, now, timeout))
             .map(|l| l.session)
-            .collect(alloc)
+            .collect(self.live.allocator())
     }
 }
 
@@ -187,7 +166,10 @@ fn is_expired(live: &Live, now: u64, timeout: u64) -> bool
 }
 
 fn move_back(live: &mut Seq<Live>, session: Live, beat: u64) -> Result<(), AllocError>
-    ensures ok { OnOk result (live.new ≡ filter (λ x. not (is_session session.session x)) live.old ++ (record session { beat = beat }) ∷ []) }
+    ensures ok { OnOk result (
+        live.new
+        ≡ filter (λ x. not (is_session session.session x)) live.old
+        ++ (record session { beat = beat }) ∷ []) }
     ensures err { OnErr result (live.new ≡ live.old) }
 {
     let mut sessions = live.take_all();
@@ -234,27 +216,10 @@ fn end_resets(resets: &mut Seq<(SessionId, PartId)>, session: SessionId)
     resets.retain(|f| f.0 != session);
 }
 
-fn is_flag_behind(flag: &(SessionId, PartId), other: (SessionId, PartId)) -> bool
-    ensures { result ≡ not (flag_before flag.now other) }
+fn is_flag_before(flag: &(SessionId, PartId), other: (SessionId, PartId)) -> bool
+    ensures { result ≡ flag_before flag.now other }
 {
-    !(*flag < other)
-}
-
-fn first_flag_behind(flags: &[(SessionId, PartId)], flag: (SessionId, PartId)) -> Option<usize>
-    ensures { result ≡ position (λ f. not (flag_before f flag)) flags.now }
-{
-    flags.iter().position(|f| is_flag_behind(f, flag))
-}
-
-#[tactic(auto, using(crate::proofs::Inserting::place_in, crate::proofs::Inserting::place_found, crate::proofs::Inserting::place_none))]
-fn place_of_flag(flags: &[(SessionId, PartId)], flag: (SessionId, PartId)) -> usize
-    ensures place { result ≡ position_or_len (λ f. not (flag_before f flag)) flags.now }
-    ensures bound { result ≤ length flags.now }
-{
-    match first_flag_behind(flags, flag) {
-        Some(place) => place,
-        None => flags.len(),
-    }
+    *flag < other
 }
 
 fn add_flag(
@@ -264,27 +229,14 @@ fn add_flag(
     ensures ok { OnOk result (flags.new ≡ with_flag flags.old flag) }
     ensures err { OnErr result (flags.new ≡ flags.old) }
 {
-    let mut items = flags.take_all();
-    let room = items.reserve(1);
-    if room.is_ok() {
-        insert_flag(&mut items, flag);
-    }
-    *flags = Seq::from_vec(items);
-    room
-}
-
-fn insert_flag(flags: &mut Vec<(SessionId, PartId)>, flag: (SessionId, PartId))
-    requires { vec_len flags.old < vec_capacity flags.old }
-    ensures { flags.new.items ≡ with_flag flags.old.items flag }
-{
-    let place = place_of_flag(flags, flag);
-    flags.insert(place, flag).unwrap();
+    flags.insert_by(flag, |f| is_flag_before(f, flag))
 }
 
 /// Takes a session out, with its rows, its messages and its flags. It takes no memory.
 pub fn remove_session_on(rest: &mut Cluster, rows: &mut Vec<Row>, session: SessionId)
     requires { rest.old.change + 1 < 2 ^ 64 }
-    ensures after { with_rows rest.new rows.new.items ≡ without (with_rows rest.old rows.old.items) session }
+    ensures after { with_rows rest.new rows.new.items
+        ≡ without (with_rows rest.old rows.old.items) session }
     ensures rest { rest.new.rows ≡ rest.old.rows }
     ensures capacity { vec_capacity rows.new ≡ vec_capacity rows.old }
     ensures fewer { vec_len rows.new ≤ vec_len rows.old }
@@ -298,8 +250,9 @@ pub fn remove_session_on(rest: &mut Cluster, rows: &mut Vec<Row>, session: Sessi
 
 /// Ends the session of an instance. It takes no memory.
 pub(crate) fn end_on(rest: &mut Cluster, rows: &mut Vec<Row>, instance: InstanceId)
-    requires { rest.old.change < 2 ^ 63 }
-    ensures after { with_rows rest.new rows.new.items ≡ after (with_rows rest.old rows.old.items) (Admin.End instance) }
+    requires { HasRoom rest.old }
+    ensures after { with_rows rest.new rows.new.items
+        ≡ after (with_rows rest.old rows.old.items) (Admin.End instance) }
     ensures rest { rest.new.rows ≡ rest.old.rows }
     ensures capacity { vec_capacity rows.new ≡ vec_capacity rows.old }
     ensures fewer { vec_len rows.new ≤ vec_len rows.old }
@@ -309,31 +262,26 @@ pub(crate) fn end_on(rest: &mut Cluster, rows: &mut Vec<Row>, instance: Instance
     }
 }
 
-/// Raises the clock, and ends the sessions that have had no beat for the timeout.
-pub(crate) fn tick_on(
-    rest: &mut Cluster,
-    rows: &mut Vec<Row>,
-    n: u64,
-) -> Result<Vec<SessionId>, AllocError>
+/// Raises the clock, and ends the sessions that have had no beat for the timeout. It takes no
+/// memory.
+pub(crate) fn tick_on(rest: &mut Cluster, rows: &mut Vec<Row>, n: u64, ended: &[SessionId])
     requires clock { rest.old.clock + n < 2 ^ 64 }
-    requires room { rest.old.change < 2 ^ 63 }
-    ensures ended { IfOk result (λ ended. did_of (with_rows rest.old rows.old.items) (Admin.Tick n) ≡ Did.Ended ended.items) }
-    ensures after { OnOk result (with_rows rest.new rows.new.items ≡ after (with_rows rest.old rows.old.items) (Admin.Tick n)) }
-    ensures err { OnErr result ((rest.new ≡ rest.old) × (rows.new.items ≡ rows.old.items)) }
+    requires ended { ended.now ≡ ended_by rest.old n }
+    requires room { HasRoom rest.old }
+    ensures after { with_rows rest.new rows.new.items
+        ≡ after (with_rows rest.old rows.old.items) (Admin.Tick n) }
     ensures rest { rest.new.rows ≡ rest.old.rows }
     ensures capacity { vec_capacity rows.new ≡ vec_capacity rows.old }
     ensures fewer { vec_len rows.new ≤ vec_len rows.old }
 {
-    let now = rest.clock + n;
-    let ended = rest.expired(*rows.allocator(), now)?;
-    rest.clock = now;
-    remove_sessions_on(rest, rows, &ended);
-    Ok(ended)
+    rest.clock += n;
+    remove_sessions_on(rest, rows, ended);
 }
 
 fn remove_sessions_on(rest: &mut Cluster, rows: &mut Vec<Row>, sessions: &[SessionId])
-    requires room { rest.old.change < 2 ^ 63 }
-    ensures after { with_rows rest.new rows.new.items ≡ without_all (with_rows rest.old rows.old.items) sessions.now }
+    requires room { rest.old.change < half }
+    ensures after { with_rows rest.new rows.new.items
+        ≡ without_all (with_rows rest.old rows.old.items) sessions.now }
     ensures rest { rest.new.rows ≡ rest.old.rows }
     ensures capacity { vec_capacity rows.new ≡ vec_capacity rows.old }
     ensures fewer { vec_len rows.new ≤ vec_len rows.old }

@@ -3,7 +3,8 @@
 
 pub mod laws;
 
-ghost use Rattle.std.specs.Prelude.{◌≡◌, ℕ, ◌+◌, ◌*◌, ◌<◌, ◌≤◌, ◌==◌, ◌++◌, length, slice_index, None, IfOk, OnOk, IsTrue};
+ghost use Rattle.std.specs.Prelude.{◌≡◌, ℕ, ◌+◌, ◌*◌, ◌<◌, ◌≤◌, ◌==◌, ◌++◌, length, slice_index};
+ghost use Rattle.std.specs.Prelude.{None, IfOk, OnOk, IsTrue};
 ghost use Rattle.std.specs.List.{position_or_len};
 ghost use Rattle.hx_hops.specs.Hops.{dist as dist_of, hop as hop_of, is_from, is_goal};
 ghost use Rattle.hx_hops.specs.Table.{way_of, ways_to};
@@ -54,7 +55,7 @@ impl Hops {
         }
         push_ways(&mut ways, model, DROPPED)?;
         Ok(Hops {
-            model: model.copied(alloc)?,
+            model: model.clone()?,
             places: places_of(states),
             width,
             ways,
@@ -71,8 +72,8 @@ impl Hops {
         self.look_up(from, goal).dist
     }
 
-    /// The first legal state, in rank order, that is one transition nearer to the goal, or none at the goal. It takes
-    /// no memory.
+    /// The first legal state, in rank order, that is one transition nearer to the goal, or none at
+    /// the goal. It takes no memory.
     pub fn hop(&self, from: StateId, goal: StateId) -> Option<StateId>
         requires from { IsTrue (is_from self.now from) }
         requires goal { IsTrue (is_goal self.now goal) }
@@ -114,7 +115,8 @@ fn push_ways(ways: &mut Vec<Way>, model: &Model, goal: StateId) -> Result<(), Al
 }
 
 fn make_way(model: &Model, dists: &[u8; 256], from: StateId, goal: StateId) -> Way
-    requires { (s : ℕ) → s < 256 → slice_index dists.now s ≡ dist_of model.now (record { 0 = s }) goal }
+    requires { (s : ℕ) → s < 256
+        → slice_index dists.now s ≡ dist_of model.now (record { 0 = s }) goal }
     ensures { result ≡ way_of model.now from goal }
 {
     Way {
@@ -125,7 +127,8 @@ fn make_way(model: &Model, dists: &[u8; 256], from: StateId, goal: StateId) -> W
 
 /// The first legal state, in rank order, that is one transition nearer.
 fn nearer(model: &Model, dists: &[u8; 256], from: StateId, goal: StateId) -> Option<StateId>
-    requires { (s : ℕ) → s < 256 → slice_index dists.now s ≡ dist_of model.now (record { 0 = s }) goal }
+    requires { (s : ℕ) → s < 256
+        → slice_index dists.now s ≡ dist_of model.now (record { 0 = s }) goal }
     ensures { result ≡ hop_of model.now from goal }
 {
     if from == goal {
@@ -154,7 +157,8 @@ fn is_nearer(dists: &[u8; 256], to: StateId, from: StateId) -> bool
 fn places_of(states: &[StateId]) -> [u8; 256]
     requires { length states.now ≤ 16 }
     ensures room { length result ≡ 256 }
-    ensures places { (s : ℕ) → s < 256 → slice_index result s ≡ position_or_len (λ t. t.0 == s) states.now }
+    ensures places { (s : ℕ) → s < 256
+        → slice_index result s ≡ position_or_len (λ t. t.0 == s) states.now }
 {
     let mut places = [states.len() as u8; 256];
     for place in (0..states.len()).rev() {
@@ -162,6 +166,3 @@ fn places_of(states: &[StateId]) -> [u8; 256]
     }
     places
 }
-
-#[cfg(test)]
-mod tests;

@@ -5,9 +5,12 @@ ghost use Rattle.std.specs.Option.{option_or};
 ghost use Rattle.hx_ideal.specs.IdealState.{count_of};
 ghost use Rattle.hx_ideal.specs.declared.IdealFault.TheVariants.{PartCount};
 ghost use Rattle.hx_lists.specs.First.{first_answer};
-ghost use Rattle.hx_ideal.specs.Faults.{fault_of, id_fault as id_fault_of, entry_fault as entry_fault_of, list_fault as list_fault_of, map_fault as map_fault_of, mode_fault as mode_fault_of, part_count_fault as part_count_fault_of};
+ghost use Rattle.hx_ideal.specs.Faults.{fault_of, id_fault as id_fault_of};
+ghost use Rattle.hx_ideal.specs.Faults.{entry_fault as entry_fault_of, list_fault as list_fault_of};
+ghost use Rattle.hx_ideal.specs.Faults.{map_fault as map_fault_of, mode_fault as mode_fault_of};
+ghost use Rattle.hx_ideal.specs.Faults.{part_count_fault as part_count_fault_of};
 
-use super::{IdealFault, Mode};
+use super::{IdealFault, MOST_PARTS, MOST_REPLICAS, Mode};
 use hx_ids::{InstanceId, StateId};
 use hx_lists::Seq;
 
@@ -23,11 +26,11 @@ pub fn first_fault(
 {
     if replicas == 0 {
         Some(IdealFault::ZeroReplicas)
-    } else if replicas > 64 {
+    } else if replicas > MOST_REPLICAS {
         Some(IdealFault::TooManyReplicas)
     } else if parts == 0 {
         Some(IdealFault::ZeroParts)
-    } else if parts > 1024 {
+    } else if parts > MOST_PARTS {
         Some(IdealFault::TooManyParts)
     } else {
         mode_fault(parts, mode, instances, states)
@@ -37,7 +40,9 @@ pub fn first_fault(
 /// A wrong number of lists or maps, then the first fault in them.
 fn mode_fault(parts: u32, mode: &Mode, instances: u32, states: &[StateId]) -> Option<IdealFault>
     requires { parts ≤ 1024 }
-    ensures { result ≡ option_or (part_count_fault_of parts (count_of mode.now)) (mode_fault_of instances states.now mode.now) }
+    ensures { result
+        ≡ option_or (part_count_fault_of parts (count_of mode.now))
+        (mode_fault_of instances states.now mode.now) }
 {
     match mode {
         Mode::Full => None,
@@ -67,7 +72,8 @@ fn part_count(has: usize, wants: u32) -> IdealFault
 
 fn lists_fault(lists: &[Seq<InstanceId>], instances: u32) -> Option<IdealFault>
     requires { length lists.now ≤ 1024 }
-    ensures { result ≡ first_answer (λ before list. list_fault_of instances (length before) list) lists.now }
+    ensures { result
+        ≡ first_answer (λ before list. list_fault_of instances (length before) list) lists.now }
 {
     for (part, list) in lists.iter().enumerate() {
         if let Some(fault) = list_fault(list.as_slice(), part as u32, instances) {
@@ -83,7 +89,9 @@ fn maps_fault(
     states: &[StateId],
 ) -> Option<IdealFault>
     requires { length maps.now ≤ 1024 }
-    ensures { result ≡ first_answer (λ before entries. map_fault_of instances states.now (length before) entries) maps.now }
+    ensures { result
+        ≡ first_answer (λ before entries. map_fault_of instances states.now (length before) entries)
+        maps.now }
 {
     for (part, map) in maps.iter().enumerate() {
         if let Some(fault) = map_fault(map.as_slice(), part as u32, instances, states) {

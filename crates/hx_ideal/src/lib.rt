@@ -2,8 +2,10 @@
 #![tactic(auto)]
 
 ghost use Rattle.std.specs.Prelude.{◌≡◌, ◌<◌, ◌≤◌, None, Some, IfOk, IfErr, OnOk, IsSome};
-ghost use Rattle.hx_ideal.specs.IdealState.{lists_of, maps_of, with_list, with_map, count_of, HasCount};
-ghost use Rattle.hx_ideal.specs.Faults.{fault_of, list_fault as list_fault_of, map_fault as map_fault_of};
+ghost use Rattle.hx_ideal.specs.IdealState.{lists_of, maps_of, with_list, with_map, count_of};
+ghost use Rattle.hx_ideal.specs.IdealState.{HasCount};
+ghost use Rattle.hx_ideal.specs.Faults.{fault_of, list_fault as list_fault_of};
+ghost use Rattle.hx_ideal.specs.Faults.{map_fault as map_fault_of};
 
 mod faults;
 mod kinds;
@@ -12,7 +14,7 @@ pub use faults::{list_fault, map_fault};
 use hx_ids::{InstanceId, StateId};
 use hx_lists::Seq;
 pub use kinds::ModeKind;
-use std::alloc::{AllocError, Global};
+use std::alloc::AllocError;
 use std::marker::Model;
 
 /// The most replicas that a partition has.
@@ -68,7 +70,8 @@ impl Model for Ideal {
 }
 
 impl Ideal {
-    /// Tests an ideal state for a number of instances and for the states of its model. It takes no memory.
+    /// Tests an ideal state for a number of instances and for the states of its model. It takes no
+    /// memory.
     pub fn check(
         replicas: u32,
         parts: u32,
@@ -76,8 +79,11 @@ impl Ideal {
         instances: u32,
         states: &[StateId],
     ) -> Result<Ideal, IdealFault>
-        ensures ok { IfOk result (λ ideal. (fault_of replicas parts mode instances states.now ≡ None) × (ideal ≡ record { replicas = replicas; parts = parts; mode = mode })) }
-        ensures err { IfErr result (λ fault. fault_of replicas parts mode instances states.now ≡ Some fault) }
+        ensures ok { IfOk result (λ ideal.
+            (fault_of replicas parts mode instances states.now ≡ None)
+            × (ideal ≡ record { replicas = replicas; parts = parts; mode = mode })) }
+        ensures err { IfErr result (λ fault.
+            fault_of replicas parts mode instances states.now ≡ Some fault) }
     {
         match faults::first_fault(replicas, parts, &mode, instances, states) {
             Some(fault) => Err(fault),
@@ -113,8 +119,8 @@ impl Ideal {
         &self.mode
     }
 
-    /// Replaces the preference list of a partition. It is refused by the fault of the list's first faulty entry, as
-    /// in `check`. It takes no memory.
+    /// Replaces the preference list of a partition. It is refused by the fault of the list's first
+    /// faulty entry, as in `check`. It takes no memory.
     pub fn set_list(
         &mut self,
         part: u32,
@@ -123,8 +129,11 @@ impl Ideal {
     ) -> Result<(), IdealFault>
         requires mode { IsSome (lists_of self.old.mode) }
         requires part { part < self.old.parts }
-        ensures ok { OnOk result ((list_fault_of instances part list.items ≡ None) × (self.new ≡ with_list self.old part list.items)) }
-        ensures err { IfErr result (λ fault. (list_fault_of instances part list.items ≡ Some fault) × (self.new ≡ self.old)) }
+        ensures ok { OnOk result (
+            (list_fault_of instances part list.items ≡ None)
+            × (self.new ≡ with_list self.old part list.items)) }
+        ensures err { IfErr result (λ fault.
+            (list_fault_of instances part list.items ≡ Some fault) × (self.new ≡ self.old)) }
     {
         if let Some(fault) = faults::list_fault(list.as_slice(), part, instances) {
             return Err(fault);
@@ -135,8 +144,8 @@ impl Ideal {
         Ok(())
     }
 
-    /// Replaces the map of a partition. It is refused by the fault of the map's first faulty entry, as in `check`. It
-    /// takes no memory.
+    /// Replaces the map of a partition. It is refused by the fault of the map's first faulty entry,
+    /// as in `check`. It takes no memory.
     pub fn set_map(
         &mut self,
         part: u32,
@@ -146,8 +155,12 @@ impl Ideal {
     ) -> Result<(), IdealFault>
         requires mode { IsSome (maps_of self.old.mode) }
         requires part { part < self.old.parts }
-        ensures ok { OnOk result ((map_fault_of instances states.now part map.items ≡ None) × (self.new ≡ with_map self.old part map.items)) }
-        ensures err { IfErr result (λ fault. (map_fault_of instances states.now part map.items ≡ Some fault) × (self.new ≡ self.old)) }
+        ensures ok { OnOk result (
+            (map_fault_of instances states.now part map.items ≡ None)
+            × (self.new ≡ with_map self.old part map.items)) }
+        ensures err { IfErr result (λ fault.
+            (map_fault_of instances states.now part map.items ≡ Some fault)
+            × (self.new ≡ self.old)) }
     {
         if let Some(fault) = faults::map_fault(map.as_slice(), part, instances, states) {
             return Err(fault);
@@ -157,41 +170,28 @@ impl Ideal {
         }
         Ok(())
     }
+}
 
-    /// The same ideal state again.
-    pub fn copied(&self, alloc: Global) -> Result<Ideal, AllocError>
-        ensures { IfOk result (λ ideal. ideal ≡ self.now) }
-    {
+impl Clone for Ideal {
+    ghost is_clone = { λ ideal copy. copy ≡ ideal };
+
+    fn clone(&self) -> Result<Ideal, AllocError> {
         Ok(Ideal {
             replicas: self.replicas,
             parts: self.parts,
-            mode: self.mode.copied(alloc)?,
+            mode: self.mode.clone()?,
         })
     }
 }
 
-impl Mode {
-    /// The same mode again.
-    pub fn copied(&self, alloc: Global) -> Result<Mode, AllocError>
-        ensures { IfOk result (λ mode. mode ≡ self.now) }
-    {
+impl Clone for Mode {
+    ghost is_clone = { λ mode copy. copy ≡ mode };
+
+    fn clone(&self) -> Result<Mode, AllocError> {
         match self {
             Mode::Full => Ok(Mode::Full),
-            Mode::Semi(lists) => Ok(Mode::Semi(copies(alloc, lists.as_slice())?)),
-            Mode::Custom(maps) => Ok(Mode::Custom(copies(alloc, maps.as_slice())?)),
+            Mode::Semi(lists) => Ok(Mode::Semi(lists.clone()?)),
+            Mode::Custom(maps) => Ok(Mode::Custom(maps.clone()?)),
         }
     }
 }
-
-fn copies<T: Copy>(alloc: Global, lists: &[Seq<T>]) -> Result<Seq<Seq<T>>, AllocError>
-    ensures { IfOk result (λ copies. copies ≡ lists.now) }
-{
-    let mut copies = Seq::new(alloc);
-    for list in lists {
-        copies.push(list.copied(alloc)?)?;
-    }
-    Ok(copies)
-}
-
-#[cfg(test)]
-mod tests;

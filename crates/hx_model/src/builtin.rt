@@ -2,14 +2,16 @@
 ghost use Rattle.std.specs.Prelude.{◌≡◌, ◌+◌, ◌<◌, ◌≤◌, length, take, codes, IfOk, OnOk, OnErr};
 ghost use Rattle.hx_ids.specs.Names.{interned};
 ghost use Rattle.hx_model.specs.Builtin.{AreStates, AreNew, state_named, one_leads as one_leads_of};
-ghost use Rattle.hx_model.specs.Builtin.{master_slave_names, master_slave_parts, online_offline_names, online_offline_parts, leader_standby_names, leader_standby_parts};
+ghost use Rattle.hx_model.specs.Builtin.{master_slave_names, master_slave_parts};
+ghost use Rattle.hx_model.specs.Builtin.{online_offline_names, online_offline_parts};
+ghost use Rattle.hx_model.specs.Builtin.{leader_standby_names, leader_standby_parts};
 
 use super::{Bound, DROPPED, Model};
 use hx_ids::{Names, StateId};
 use std::alloc::{AllocError, Global};
 
-/// MasterSlave: one replica of a partition is its master, and the others that are wanted are slaves. The first two
-/// names are ERROR and DROPPED.
+/// MasterSlave: one replica of a partition is its master, and the others that are wanted are
+/// slaves. The first two names are ERROR and DROPPED.
 pub fn master_slave(alloc: Global, names: &mut Names) -> Result<Model, AllocError>
     requires states { AreStates names.old }
     requires few { length names.old < 250 }
@@ -22,8 +24,8 @@ pub fn master_slave(alloc: Global, names: &mut Names) -> Result<Model, AllocErro
     one_leads(alloc, names, "MASTER", "SLAVE")
 }
 
-/// LeaderStandby: one replica of a partition leads, and the others that are wanted stand by. The first two names are
-/// ERROR and DROPPED.
+/// LeaderStandby: one replica of a partition leads, and the others that are wanted stand by. The
+/// first two names are ERROR and DROPPED.
 pub fn leader_standby(alloc: Global, names: &mut Names) -> Result<Model, AllocError>
     requires states { AreStates names.old }
     requires few { length names.old < 250 }
@@ -36,8 +38,8 @@ pub fn leader_standby(alloc: Global, names: &mut Names) -> Result<Model, AllocEr
     one_leads(alloc, names, "LEADER", "STANDBY")
 }
 
-/// OnlineOffline: as many replicas of a partition as are wanted are online. The first two names are ERROR and
-/// DROPPED.
+/// OnlineOffline: as many replicas of a partition as are wanted are online. The first two names are
+/// ERROR and DROPPED.
 pub fn online_offline(alloc: Global, names: &mut Names) -> Result<Model, AllocError>
     requires states { AreStates names.old }
     requires few { length names.old < 250 }
@@ -64,8 +66,13 @@ fn one_leads(
     requires new { AreNew leader.now follower.now }
     requires states { AreStates names.old }
     requires few { length names.old < 250 }
-    ensures parts { IfOk result (λ m. m ≡ one_leads_of (state_named names.new leader.now) (state_named names.new follower.now) (state_named names.new (codes "OFFLINE"))) }
-    ensures names { OnOk result (names.new ≡ interned (interned (interned names.old leader.now) follower.now) (codes "OFFLINE")) }
+    ensures parts { IfOk result (λ m.
+        m
+        ≡ one_leads_of (state_named names.new leader.now) (state_named names.new follower.now)
+        (state_named names.new (codes "OFFLINE"))) }
+    ensures names { OnOk result (
+        names.new
+        ≡ interned (interned (interned names.old leader.now) follower.now) (codes "OFFLINE")) }
     ensures err { OnErr result (names.new ≡ names.old) }
     ensures states { AreStates names.new }
     ensures few { length names.new ≤ length names.old + 3 }
@@ -88,8 +95,13 @@ fn add_one_leads(
     requires new { AreNew leader.now follower.now }
     requires states { AreStates names.old }
     requires few { length names.old < 250 }
-    ensures parts { IfOk result (λ m. m ≡ one_leads_of (state_named names.new leader.now) (state_named names.new follower.now) (state_named names.new (codes "OFFLINE"))) }
-    ensures names { OnOk result (names.new ≡ interned (interned (interned names.old leader.now) follower.now) (codes "OFFLINE")) }
+    ensures parts { IfOk result (λ m.
+        m
+        ≡ one_leads_of (state_named names.new leader.now) (state_named names.new follower.now)
+        (state_named names.new (codes "OFFLINE"))) }
+    ensures names { OnOk result (
+        names.new
+        ≡ interned (interned (interned names.old leader.now) follower.now) (codes "OFFLINE")) }
     ensures kept { take (length names.old) names.new ≡ names.old }
     ensures states { AreStates names.new }
     ensures few { length names.new ≤ length names.old + 3 }

@@ -1,7 +1,11 @@
 //! The tests of a model, in their order.
-ghost use Rattle.std.specs.Prelude.{◌≡◌, ◌-◌, ◌^◌, ◌<◌, ◌≤◌, ◌==◌, ◌&&◌, ◌||◌, [], ◌∷◌, length, min, not, nat_lt, position, None, IsNone};
+ghost use Rattle.std.specs.Prelude.{◌≡◌, ◌-◌, ◌^◌, ◌<◌, ◌≤◌, ◌==◌, ◌&&◌, ◌||◌, [], ◌∷◌, length};
+ghost use Rattle.std.specs.Prelude.{min, not, nat_lt, position, None, IsNone};
 ghost use Rattle.hx_model.specs.Model.{is_between};
-ghost use Rattle.hx_model.specs.Faults.{fault_of, found_by, state_tests, transition_tests, walk_tests, twice_place, no_initial, initial_bounded, is_reserved, is_known as is_known_in, is_free as is_free_of, is_zero as is_zero_of};
+ghost use Rattle.hx_model.specs.Faults.{fault_of, found_by, state_tests, transition_tests};
+ghost use Rattle.hx_model.specs.Faults.{walk_tests, twice_place, no_initial, initial_bounded};
+ghost use Rattle.hx_model.specs.Faults.{is_reserved, is_known as is_known_in};
+ghost use Rattle.hx_model.specs.Faults.{is_free as is_free_of, is_zero as is_zero_of};
 
 use super::{
     Bound, DROPPED, MOST_STATES, ModelFault, ModelParts, bound_in, has_state, lists, walks,
@@ -11,7 +15,8 @@ use hx_ids::StateId;
 /// The first fault of all.
 pub fn first_fault(parts: &ModelParts) -> Option<ModelFault>
     ensures fault { result ≡ fault_of parts.now }
-    ensures few { IsNone result → (length parts.now.states ≤ 16) × (length parts.now.transitions < 2 ^ 32) }
+    ensures few { IsNone result
+        → (length parts.now.states ≤ 16) × (length parts.now.transitions < 2 ^ 32) }
 {
     if let Some(fault) = state_fault(parts) {
         return Some(fault);
@@ -158,7 +163,6 @@ fn unknown_state(parts: &ModelParts) -> Option<usize>
 {
     parts
         .transitions
-        .as_slice()
         .iter()
         .position(|t| !is_known(parts, t.0, t.1))
 }

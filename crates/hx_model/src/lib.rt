@@ -1,13 +1,15 @@
-//! State models: the states that a replica may be in, the transitions between them, and how many replicas
-//! of one partition may be in a state.
+//! State models: the states that a replica may be in, the transitions between them, and how many
+//! replicas of one partition may be in a state.
 #![tactic(auto)]
 
 mod builtin;
 mod faults;
 mod walks;
 
-ghost use Rattle.std.specs.Prelude.{◌≡◌, ℕ, ◌-◌, ◌^◌, ◌<◌, ◌≤◌, ◌==◌, length, map, take, slice_index, None, Some, IfOk, IfErr, IsTrue};
-ghost use Rattle.hx_model.specs.Model.{states_of, has_state as has_state_of, is_legal, bound_of, rank_of, limit_of, is_between};
+ghost use Rattle.std.specs.Prelude.{◌≡◌, ℕ, ◌-◌, ◌^◌, ◌<◌, ◌≤◌, ◌==◌, length, map, take};
+ghost use Rattle.std.specs.Prelude.{slice_index, None, Some, IfOk, IfErr, IsTrue};
+ghost use Rattle.hx_model.specs.Model.{states_of, has_state as has_state_of, is_legal, bound_of};
+ghost use Rattle.hx_model.specs.Model.{rank_of, limit_of, is_between};
 ghost use Rattle.std.specs.List.{list_any, find, position};
 ghost use Rattle.std.specs.Option.{option_map_or};
 ghost use Rattle.hx_model.specs.Faults.{fault_of};
@@ -40,13 +42,14 @@ pub enum Bound {
     Free,
 }
 
-/// What is wrong with a model. Places count from 0, in the list of states or of transitions. A place past the end of
-/// its type counts as the last.
+/// What is wrong with a model. Places count from 0, in the list of states or of transitions. A
+/// place past the end of its type counts as the last.
 #[derive(Clone, Copy, Debug, PartialEq, Eq)]
 pub enum ModelFault {
     /// More than 16.
     TooManyStates,
-    /// ERROR or DROPPED among the states, a transition that names ERROR, or one that starts at DROPPED.
+    /// ERROR or DROPPED among the states, a transition that names ERROR, or one that starts at
+    /// DROPPED.
     Reserved { place: u32 },
     TwiceState { place: u32 },
     ZeroBound { place: u32 },
@@ -77,7 +80,7 @@ pub struct ModelParts {
 #[derive(Debug, Drop)]
 pub struct Model {
     parts: ModelParts,
-    order: [StateId; 16],
+    order: [StateId; MOST_STATES],
     count: usize,
 }
 
@@ -105,15 +108,26 @@ pub fn limit(bound: Bound, replicas: u32, live: u32) -> Option<u32>
     }
 }
 
-impl ModelParts {
-    /// The same parts again.
-    pub fn copied(&self, alloc: Global) -> Result<ModelParts, AllocError>
-        ensures { IfOk result (λ parts. parts ≡ self.now) }
-    {
+impl Clone for ModelParts {
+    ghost is_clone = { λ parts copy. copy ≡ parts };
+
+    fn clone(&self) -> Result<ModelParts, AllocError> {
         Ok(ModelParts {
-            states: self.states.copied(alloc)?,
+            states: self.states.clone()?,
             initial: self.initial,
-            transitions: self.transitions.copied(alloc)?,
+            transitions: self.transitions.clone()?,
+        })
+    }
+}
+
+impl Clone for Model {
+    ghost is_clone = { λ model copy. copy ≡ model };
+
+    fn clone(&self) -> Result<Model, AllocError> {
+        Ok(Model {
+            parts: self.parts.clone()?,
+            order: self.order,
+            count: self.count,
         })
     }
 }
@@ -134,7 +148,8 @@ impl Model {
         }
     }
 
-    /// Whether a transition is listed, or leads from ERROR to the initial state. It takes no memory.
+    /// Whether a transition is listed, or leads from ERROR to the initial state. It takes no
+    /// memory.
     pub fn legal(&self, from: StateId, to: StateId) -> bool
         ensures { result ≡ is_legal self.now from to }
     {
@@ -156,8 +171,8 @@ impl Model {
         bound_in(self.parts.states.as_slice(), state)
     }
 
-    /// The place of a legal transition in the list, or the list's length from ERROR to the initial state. It takes
-    /// no memory.
+    /// The place of a legal transition in the list, or the list's length from ERROR to the initial
+    /// state. It takes no memory.
     pub fn rank(&self, from: StateId, to: StateId) -> u32
         requires { IsTrue (is_legal self.now from to) }
         ensures { result ≡ rank_of self.now from to }
@@ -192,24 +207,14 @@ impl Model {
         self.parts.transitions.as_slice()
     }
 
-    /// For each state number the length of a shortest walk to the goal, and where there is no walk the number of
-    /// states and two. It takes no memory.
+    /// For each state number the length of a shortest walk to the goal, and where there is no walk
+    /// the number of states and two. It takes no memory.
     pub fn distances(&self, goal: StateId) -> [u8; 256]
         ensures room { length result ≡ 256 }
-        ensures dists { (s : ℕ) → s < 256 → slice_index result s ≡ dist self.now (record { 0 = s }) goal }
+        ensures dists { (s : ℕ) → s < 256
+            → slice_index result s ≡ dist self.now (record { 0 = s }) goal }
     {
         walks::distances(&self.parts, goal)
-    }
-
-    /// The same model again.
-    pub fn copied(&self, alloc: Global) -> Result<Model, AllocError>
-        ensures { IfOk result (λ model. model ≡ self.now) }
-    {
-        Ok(Model {
-            parts: self.parts.copied(alloc)?,
-            order: self.order,
-            count: self.count,
-        })
     }
 }
 
@@ -226,7 +231,8 @@ fn entry_of(states: &[(StateId, Bound)], state: StateId) -> Option<(StateId, Bou
 }
 
 fn bound_in(states: &[(StateId, Bound)], state: StateId) -> Bound
-    ensures { result ≡ option_map_or (λ p. p.1) (find (λ p. p.0.0 == state.0) states.now) Bound.Free }
+    ensures { result
+        ≡ option_map_or (λ p. p.1) (find (λ p. p.0.0 == state.0) states.now) Bound.Free }
 {
     match entry_of(states, state) {
         Some(entry) => entry.1,
@@ -248,7 +254,7 @@ fn place_of(transitions: &[(StateId, StateId)], from: StateId, to: StateId) -> O
 }
 
 /// The states alone, in priority order.
-fn order_of(states: &[(StateId, Bound)]) -> [StateId; 16]
+fn order_of(states: &[(StateId, Bound)]) -> [StateId; MOST_STATES]
     requires { length states.now ≤ 16 }
     ensures { take (length states.now) result ≡ map (λ p. p.0) states.now }
 {
@@ -266,10 +272,17 @@ impl Model {
         initial: StateId,
         transitions: &[(StateId, StateId)],
     ) -> Result<Model, AllocError>
-        requires sound { fault_of (record { states = states.now; initial = initial; transitions = transitions.now }) ≡ None }
+        requires sound { fault_of (record {
+          states = states.now;
+          initial = initial;
+          transitions = transitions.now;
+        })
+            ≡ None }
         requires states { length states.now ≤ 16 }
         requires transitions { length transitions.now < 2 ^ 32 }
-        ensures { IfOk result (λ m. m ≡ record { states = states.now; initial = initial; transitions = transitions.now }) }
+        ensures { IfOk result (λ m.
+            m
+            ≡ record { states = states.now; initial = initial; transitions = transitions.now }) }
     {
         Ok(Model {
             order: order_of(states),
@@ -282,6 +295,3 @@ impl Model {
         })
     }
 }
-
-#[cfg(test)]
-mod tests;

@@ -1,6 +1,6 @@
 use Rattle.std.specs.Str.{bytes_eq}
 use Rattle.std.proofs.Common.{sym, ◌∙◌}
-use Rattle.hx_cluster.proofs.Inserting.{place_none}
+use Rattle.hx_lists.proofs.Inserting.{place_none}
 use Rattle.hx_script.proofs.words.place_after.Goals as goal
 
 pub returns-in-None : goal.returns-in-None

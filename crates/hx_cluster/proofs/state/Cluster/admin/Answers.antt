@@ -3,7 +3,7 @@ use Rattle.hx_cluster.specs.declared.state.Row.{Row}
 use Rattle.hx_cluster.specs.declared.happenings.StepFault.TheVariants.{OutOfMemory}
 use Rattle.hx_cluster.specs.Steps.{refusal_of}
 use Rattle.hx_cluster.specs.Apart.{with_rows}
-use Rattle.hx_cluster.specs.Refusals.{RefusedBy}
+use Rattle.hx_lists.specs.Answers.{RefusedBy}
 use Rattle.hx_cluster.proofs.state.Cluster.admin.Goals as goal
 
 pub returns-clause-refused : goal.returns-clause-refused
