@@ -1,12 +1,13 @@
 -- The demo: three instances, two controllers, and a resource of two partitions, each with two replicas.
 use Rattle.std.specs.Prelude.{ℕ, false, List, [], ◌∷◌, map, codes}
 use Rattle.hx_ids.specs.declared.InstanceId.{InstanceId}
+use Rattle.hx_ids.specs.Words.{instance, model}
 use Rattle.hx_ideal.specs.declared.Mode.TheVariants.{Semi}
 use Rattle.hx_cluster.specs.declared.description.Spec.{Spec}
-use Rattle.hx_desc.specs.ModelForm.{built_in}
+use Rattle.hx_model_forms.specs.ModelForm.{built_in}
 
 abbrev pub instances_of : List ℕ → List InstanceId
-instances_of numbers = map (λ n. record { 0 = n }) numbers
+instances_of numbers = map instance numbers
 
 abbrev pub demo : Spec
 demo = record {
@@ -20,7 +21,7 @@ demo = record {
   rules = [];
   resources = (record {
     name = 0;
-    model = record { 0 = 1 };
+    model = model 1;
     ideal = record { replicas = 2; parts = 2; mode = Semi (instances_of (0 ∷ 1 ∷ 2 ∷ []) ∷ instances_of (1 ∷ 2 ∷ 0 ∷ []) ∷ []) };
     dropped = false;
   }) ∷ [];

@@ -1,6 +1,7 @@
 -- How a failure to come is described.
 use Rattle.std.specs.Prelude.{ℕ, Bool, true, false, not, List, [], ◌∷◌, ◌++◌, Option, None, Some, Ok, nat_lt, codes}
-use Rattle.serde_json.specs.Data.{Data}
+use Rattle.serde_json.specs.Data.{Data, Members}
+use Rattle.hx_ids.specs.declared.PartId.{PartId}
 use Rattle.hx_ids.specs.declared.ResourceId.{ResourceId}
 use Rattle.hx_cluster.specs.declared.description.Failure.{Failure}
 use Rattle.hx_cluster.specs.Ends.{parts_of}
@@ -32,6 +33,20 @@ turn_of None (Some n) = Ok (true, n)
 turn_of None None = fault kinds.RunOrMake
 turn_of (Some n) (Some m) = fault kinds.RunOrMake
 
+-- the part of a failure
+abbrev pub failed_part : ResourceTable → Members → Found PartId
+failed_part table members = do
+  resource ← required (codes "resource") (resource_id_in table.names) members
+  index ← required (codes "part") (part_in (parts_of table.resources resource)) members
+  Ok (record { resource = resource; index = index })
+
+-- which of its runs or makings fails
+abbrev pub failed_turn : Members → Found (Bool × ℕ)
+failed_turn members = do
+  run ← optional (codes "run") None turn_in members
+  make ← optional (codes "make") None turn_in members
+  turn_of run make
+
 abbrev pub failure_keys : List (List ℕ)
 failure_keys = codes "instance" ∷ codes "resource" ∷ codes "part" ∷ codes "run" ∷ codes "make" ∷ []
 
@@ -39,12 +54,9 @@ abbrev pub failure_in : List (List ℕ) → ResourceTable → List Failure → D
 failure_in instances table before d = do
   members ← object_in failure_keys d
   instance ← required (codes "instance") (instance_in instances) members
-  resource ← required (codes "resource") (resource_id_in table.names) members
-  index ← required (codes "part") (part_in (parts_of table.resources resource)) members
-  run ← optional (codes "run") None turn_in members
-  make ← optional (codes "make") None turn_in members
-  turn ← turn_of run make
-  Ok (before ++ (record { instance = instance; part = record { resource = resource; index = index }; make = turn.0; number = turn.1 }) ∷ [])
+  part ← failed_part table members
+  turn ← failed_turn members
+  Ok (before ++ (record { instance = instance; part = part; make = turn.0; number = turn.1 }) ∷ [])
 
 abbrev pub failures_in : List (List ℕ) → ResourceTable → Data → Found (List Failure)
 failures_in instances table d = do

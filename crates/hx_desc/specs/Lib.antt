@@ -1,7 +1,5 @@
-pub mod ModelForm
 pub mod RuleForm
 pub mod ResourceForm
 pub mod FailureForm
 pub mod Demo
 pub mod Description
-pub mod Faultless

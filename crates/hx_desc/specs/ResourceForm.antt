@@ -1,7 +1,6 @@
 -- How a resource is described.
-use Rattle.std.specs.Prelude.{ℕ, Bool, true, false, not, ◌==◌, List, [], ◌∷◌, ◌++◌, length, Option, Ok, if◌then◌else◌, codes}
+use Rattle.std.specs.Prelude.{ℕ, Bool, true, false, not, ◌==◌, List, [], ◌∷◌, ◌++◌, length, Option, Ok, codes}
 use Rattle.std.specs.List.{list_any, find}
-use Rattle.std.specs.Str.{bytes_eq}
 use Rattle.serde_json.specs.Data.{Data, Members}
 use Rattle.hx_ids.specs.declared.InstanceId.{InstanceId}
 use Rattle.hx_ids.specs.declared.StateId.{StateId}
@@ -11,13 +10,14 @@ use Rattle.hx_model.specs.Model.{states_of}
 use Rattle.hx_model.specs.Builtin.{state_named}
 use Rattle.hx_ideal.specs.declared.Mode.{Mode}
 use Rattle.hx_ideal.specs.declared.Mode.TheVariants as modes
+use Rattle.hx_ideal.specs.declared.kinds.ModeKind.{ModeKind}
+use Rattle.hx_ideal.specs.declared.kinds.ModeKind.TheVariants.{FullAuto, SemiAuto, Customized}
 use Rattle.hx_ideal.specs.IdealState.{IdealState}
+use Rattle.hx_ideal.specs.ModeKinds.{kind_named}
 use Rattle.hx_cluster.specs.Ends.{model_at}
 use Rattle.hx_forms.specs.declared.faults.DescKind.TheVariants as kinds
-use Rattle.hx_desc.specs.declared.tables.ModelTable.{ModelTable}
+use Rattle.hx_model_forms.specs.declared.tables.ModelTable.{ModelTable}
 use Rattle.hx_desc.specs.declared.tables.ResourceTable.{ResourceTable}
-use Rattle.hx_desc.specs.declared.tables.ModeName.{ModeName}
-use Rattle.hx_desc.specs.declared.tables.ModeName.TheVariants.{FullAuto, SemiAuto, Customized}
 use Rattle.hx_forms.specs.Found.{Found, fault, ◌>>=◌, tested, there_or, text_in, number_in, new_name_in, place_in, array_in, array_up_to, read_all, object_in, required, optional}
 
 -- an instance by its name
@@ -89,32 +89,41 @@ parts_if true name parts read members = required name (each_part_in parts read) 
 parts_if false name parts read members = optional name [] nowhere_in members
 
 -- modes
-abbrev pub mode_name_of : List ℕ → Found ModeName
-mode_name_of text =
-    if bytes_eq text (codes "FULL_AUTO") then Ok FullAuto
-    else if bytes_eq text (codes "SEMI_AUTO") then Ok SemiAuto
-    else if bytes_eq text (codes "CUSTOMIZED") then Ok Customized
-    else fault kinds.BadMode
+abbrev pub kind_in : Data → Found ModeKind
+kind_in d = do
+  name ← text_in d
+  there_or kinds.BadMode (kind_named name)
 
-abbrev pub mode_name_in : Data → Found ModeName
-mode_name_in d = do
-  text ← text_in d
-  mode_name_of text
-
-abbrev pub has_lists : ModeName → Bool
+abbrev pub has_lists : ModeKind → Bool
 has_lists FullAuto = false
 has_lists SemiAuto = true
 has_lists Customized = false
 
-abbrev pub has_maps : ModeName → Bool
+abbrev pub has_maps : ModeKind → Bool
 has_maps FullAuto = false
 has_maps SemiAuto = false
 has_maps Customized = true
 
-abbrev pub mode_of : ModeName → List (List InstanceId) → List (List (InstanceId × StateId)) → Mode
+abbrev pub lists_in : List (List ℕ) → ModeKind → ℕ → Members → Found (List (List InstanceId))
+lists_in instances kind parts members = parts_if (has_lists kind) (codes "lists") parts (list_in instances) members
+
+abbrev pub maps_in : List (List ℕ) → List (List ℕ) → ModelParts → ModeKind → ℕ → Members → Found (List (List (InstanceId × StateId)))
+maps_in instances states model kind parts members = parts_if (has_maps kind) (codes "maps") parts (map_in instances states model) members
+
+abbrev pub mode_of : ModeKind → List (List InstanceId) → List (List (InstanceId × StateId)) → Mode
 mode_of FullAuto lists maps = modes.Full
 mode_of SemiAuto lists maps = modes.Semi lists
 mode_of Customized lists maps = modes.Custom maps
+
+-- how many replicas are wanted where
+abbrev pub ideal_in : List (List ℕ) → List (List ℕ) → ModelParts → Members → Found IdealState
+ideal_in instances states model members = do
+  replicas ← required (codes "replicas") (number_in 1 64) members
+  parts ← required (codes "partitions") (number_in 1 1024) members
+  kind ← required (codes "mode") kind_in members
+  lists ← lists_in instances kind parts members
+  maps ← maps_in instances states model kind parts members
+  Ok (record { replicas = replicas; parts = parts; mode = mode_of kind lists maps })
 
 -- a resource, behind those before it
 abbrev pub with_resource : ResourceTable → List ℕ → ModelId → IdealState → ResourceTable
@@ -136,12 +145,8 @@ resource_in instances models table d = do
   members ← object_in resource_keys d
   name ← required (codes "name") (new_name_in table.names) members
   model ← required (codes "model") (model_id_in models.names) members
-  replicas ← required (codes "replicas") (number_in 1 64) members
-  parts ← required (codes "partitions") (number_in 1 1024) members
-  mode ← required (codes "mode") mode_name_in members
-  lists ← parts_if (has_lists mode) (codes "lists") parts (list_in instances) members
-  maps ← parts_if (has_maps mode) (codes "maps") parts (map_in instances models.states (model_at models.models model)) members
-  Ok (with_resource table name model (record { replicas = replicas; parts = parts; mode = mode_of mode lists maps }))
+  ideal ← ideal_in instances models.states (model_at models.models model) members
+  Ok (with_resource table name model ideal)
 
 abbrev pub resources_in : List (List ℕ) → ModelTable → Data → Found ResourceTable
 resources_in instances models d = do

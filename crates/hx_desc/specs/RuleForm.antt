@@ -3,6 +3,7 @@ use Rattle.std.specs.Prelude.{ℕ, ◌==◌, List, [], ◌∷◌, ◌++◌, Opti
 use Rattle.std.specs.Str.{bytes_eq}
 use Rattle.serde_json.specs.Data.{Data}
 use Rattle.hx_ids.specs.declared.StateId.{StateId}
+use Rattle.hx_model.specs.Model.{error, dropped}
 use Rattle.hx_cluster.specs.declared.description.Rule.{Rule}
 use Rattle.hx_cluster.specs.declared.description.Scope.{Scope}
 use Rattle.hx_cluster.specs.declared.description.Scope.TheVariants as scopes
@@ -22,10 +23,10 @@ scope_in d = do
   scope_of text
 
 -- an end of a transition: any state but one, where no transition has that end
-abbrev pub end_in : List (List ℕ) → ℕ → Data → Found (Option StateId)
+abbrev pub end_in : List (List ℕ) → StateId → Data → Found (Option StateId)
 end_in states never d = do
   place ← place_in kinds.UnknownState states d
-  tested ((place == never, kinds.UnknownState) ∷ []) (Some (record { 0 = place }))
+  tested ((place == never.0, kinds.UnknownState) ∷ []) (Some (record { 0 = place }))
 
 -- the one transition that is counted, or all of them
 abbrev pub transition_of : Option StateId → Option StateId → Found (Option (StateId × StateId))
@@ -40,8 +41,8 @@ rule_in states before d = do
   members ← object_in (codes "scope" ∷ codes "limit" ∷ codes "from" ∷ codes "to" ∷ []) d
   scope ← required (codes "scope") scope_in members
   limit ← required (codes "limit") (number_in 1 65535) members
-  from ← optional (codes "from") None (end_in states 1) members
-  to ← optional (codes "to") None (end_in states 0) members
+  from ← optional (codes "from") None (end_in states dropped) members
+  to ← optional (codes "to") None (end_in states error) members
   transition ← transition_of from to
   Ok (before ++ (record { scope = scope; transition = transition; limit = limit }) ∷ [])
 

@@ -3,11 +3,11 @@ ghost use Rattle.std.specs.Prelude.{◌≡◌, [], ◌∷◌, IfOk};
 ghost use Rattle.hx_ideal.specs.declared.Mode.TheVariants.{Semi};
 ghost use Rattle.hx_desc.specs.Demo.{demo, instances_of};
 
-use crate::models::built_in;
 use hx_cluster::{Resource, Spec};
 use hx_ideal::{Ideal, Mode};
 use hx_ids::{InstanceId, ModelId, Names};
 use hx_lists::Seq;
+use hx_model_forms::built_in;
 use std::alloc::{AllocError, Global};
 
 /// A list of three instances.
@@ -23,7 +23,11 @@ fn list(alloc: Global, first: u32, second: u32, third: u32) -> Result<Seq<Instan
 
 /// Two partitions of two replicas, on three instances.
 fn ideal(alloc: Global) -> Result<Ideal, AllocError>
-    ensures { IfOk result (λ ideal. ideal ≡ record { replicas = 2; parts = 2; mode = Semi (instances_of (0 ∷ 1 ∷ 2 ∷ []) ∷ instances_of (1 ∷ 2 ∷ 0 ∷ []) ∷ []) }) }
+    ensures { IfOk result (λ ideal. ideal ≡ record {
+      replicas = 2;
+      parts = 2;
+      mode = Semi (instances_of (0 ∷ 1 ∷ 2 ∷ []) ∷ instances_of (1 ∷ 2 ∷ 0 ∷ []) ∷ []);
+    }) }
 {
     let mut lists = Seq::new(alloc);
     lists.push(list(alloc, 0, 1, 2)?)?;

@@ -4,22 +4,19 @@ ghost use Rattle.serde_json.specs.View.{view};
 ghost use Rattle.hx_forms.specs.Found.{optional};
 ghost use Rattle.hx_forms.specs.Members.{members_of};
 ghost use Rattle.hx_forms.specs.Reading.{Reads};
-ghost use Rattle.hx_desc.specs.FailureForm.{resource_id_in, part_in, turn_in, turn_of, failure_in, failures_in};
+ghost use Rattle.hx_desc.specs.FailureForm as Spec;
 
+use crate::limits::{MOST_FAILURES, TURNS};
 use crate::resources::{InstanceForm, parts_of};
 use crate::tables::ResourceTable;
 use hx_cluster::Failure;
 use hx_forms::{
-    DescKind, DescRefusal, Form, ItemForm, Object, array_up_to, fault, number, place, read_all,
-    whole,
+    DescKind, DescRefusal, Form, ItemForm, Object, array_up_to, fault, place, read_all, whole,
 };
 use hx_ids::{Names, PartId, ResourceId};
 use hx_lists::Seq;
 use serde_json::Value;
 use std::alloc::Global;
-
-/// The most failures that a description has.
-const MOST_FAILURES: usize = 1024;
 
 /// A resource by its name.
 #[derive(Clone, Copy)]
@@ -30,7 +27,7 @@ struct ResourceIdForm<'a> {
 impl Form for ResourceIdForm<'_> {
     type Output = ResourceId;
 
-    ghost found = { λ form d. resource_id_in form.names.now d };
+    ghost found = { λ form d. Spec.resource_id_in form.names.now d };
 
     fn read(self, alloc: Global, value: &Value) -> Result<ResourceId, DescRefusal> {
         let place = place(alloc, DescKind::UnknownResource, self.names, value)?;
@@ -47,7 +44,7 @@ struct PartForm {
 impl Form for PartForm {
     type Output = u32;
 
-    ghost found = { λ form d. part_in form.parts d };
+    ghost found = { λ form d. Spec.part_in form.parts d };
 
     fn read(self, alloc: Global, value: &Value) -> Result<u32, DescRefusal> {
         let index = whole(alloc, value)?;
@@ -65,24 +62,46 @@ struct TurnForm;
 impl Form for TurnForm {
     type Output = Option<u32>;
 
-    ghost found = { λ _ d. turn_in d };
+    ghost found = { λ _ d. Spec.turn_in d };
 
     fn read(self, alloc: Global, value: &Value) -> Result<Option<u32>, DescRefusal> {
-        let n = number(alloc, 1, 1_000_000, value)?;
-        Ok(Some(n as u32))
+        Ok(Some(TURNS.read(alloc, value)?))
     }
 }
 
-/// Whether it is a making, and which.
-fn turn(alloc: Global, run: Option<u32>, make: Option<u32>) -> Result<(bool, u32), DescRefusal>
-    ensures { Reads result (turn_of run make) }
+/// Of a run or of a making: whether it is a making, and which.
+fn turn_of(alloc: Global, run: Option<u32>, make: Option<u32>) -> Result<(bool, u32), DescRefusal>
+    ensures { Reads result (Spec.turn_of run make) }
 {
     match (run, make) {
         (Some(n), None) => Ok((false, n)),
         (None, Some(n)) => Ok((true, n)),
-        _ => Err(fault(alloc, DescKind::RunOrMake)),
+        (None, None) | (Some(_), Some(_)) => Err(fault(alloc, DescKind::RunOrMake)),
     }
 }
+
+/// The part of a failure.
+fn failed_part(object: &Object, table: &ResourceTable) -> Result<PartId, DescRefusal>
+    ensures { Reads result (Spec.failed_part table.now (members_of object.now)) }
+{
+    let names = &table.names;
+    let resource = object.required("resource", ResourceIdForm { names })?;
+    let parts = parts_of(table.resources.as_slice(), resource);
+    let index = object.required("part", PartForm { parts })?;
+    Ok(PartId { resource, index })
+}
+
+/// Which of its runs or makings fails.
+fn failed_turn(alloc: Global, object: &Object) -> Result<(bool, u32), DescRefusal>
+    ensures { Reads result (Spec.failed_turn (members_of object.now)) }
+{
+    let run = object.optional("run", None, TurnForm)?;
+    let make = object.optional("make", None, TurnForm)?;
+    turn_of(alloc, run, make)
+}
+
+/// The members of a failure.
+const FAILURE_KEYS: [&str; 5] = ["instance", "resource", "part", "run", "make"];
 
 /// A failure, over the instances and the resources.
 #[derive(Clone, Copy)]
@@ -94,7 +113,8 @@ struct FailureForm<'a> {
 impl ItemForm for FailureForm<'_> {
     type Items = Seq<Failure>;
 
-    ghost found = { λ form failures d. failure_in form.instances.now form.table.now failures d };
+    ghost found = { λ form failures d.
+        Spec.failure_in form.instances.now form.table.now failures d };
 
     fn read_next(
         &self,
@@ -102,22 +122,14 @@ impl ItemForm for FailureForm<'_> {
         mut failures: Seq<Failure>,
         value: &Value,
     ) -> Result<Seq<Failure>, DescRefusal> {
-        let (instances, names) = (self.instances, &self.table.names);
-        let object = Object::read(
-            alloc,
-            &["instance", "resource", "part", "run", "make"],
-            value,
-        )?;
+        let instances = self.instances;
+        let object = Object::read(alloc, &FAILURE_KEYS, value)?;
         let instance = object.required("instance", InstanceForm { instances })?;
-        let resource = object.required("resource", ResourceIdForm { names })?;
-        let parts = parts_of(self.table.resources.as_slice(), resource);
-        let index = object.required("part", PartForm { parts })?;
-        let run = object.optional("run", None, TurnForm)?;
-        let make = object.optional("make", None, TurnForm)?;
-        let (make, number) = turn(alloc, run, make)?;
+        let part = failed_part(&object, self.table)?;
+        let (make, number) = failed_turn(alloc, &object)?;
         failures.push(Failure {
             instance,
-            part: PartId { resource, index },
+            part,
             make,
             number,
         })?;
@@ -135,7 +147,7 @@ struct FailuresForm<'a> {
 impl Form for FailuresForm<'_> {
     type Output = Seq<Failure>;
 
-    ghost found = { λ form d. failures_in form.instances.now form.table.now d };
+    ghost found = { λ form d. Spec.failures_in form.instances.now form.table.now d };
 
     fn read(self, alloc: Global, value: &Value) -> Result<Seq<Failure>, DescRefusal> {
         let values = array_up_to(alloc, MOST_FAILURES, value)?;
@@ -154,7 +166,9 @@ pub(crate) fn failures(
     instances: &Names,
     table: &ResourceTable,
 ) -> Result<Seq<Failure>, DescRefusal>
-    ensures { Reads result (optional (codes "failures") [] (failures_in instances.now table.now) (members_of object.now)) }
+    ensures { Reads result
+        (optional (codes "failures") [] (Spec.failures_in instances.now table.now)
+        (members_of object.now)) }
 {
     object.optional(
         "failures",

@@ -2,19 +2,17 @@
 #![tactic(auto)]
 
 mod demo;
+mod each_part;
 mod failures;
+mod ideals;
 mod instances;
+mod limits;
 mod lists;
-mod models;
-mod modes;
+mod maps;
 mod reading;
 mod resources;
 mod rules;
-mod states;
 mod tables;
 
 pub use hx_forms::{DescFault, DescKind, DescRefusal, Path};
 pub use reading::{is_demo, read};
-
-#[cfg(test)]
-mod tests;

@@ -1,19 +1,21 @@
 //! Whole descriptions.
-ghost use Rattle.std.specs.Prelude.{◌≡◌};
+ghost use Rattle.std.specs.Prelude.{◌≡◌, IfOk};
 ghost use Rattle.serde_json.specs.View.{view};
 ghost use Rattle.hx_forms.specs.declared.faults.DescKind.TheVariants.{BadJson};
 ghost use Rattle.hx_forms.specs.Found.{there_or};
 ghost use Rattle.hx_forms.specs.Reading.{Reads, at_ok};
-ghost use Rattle.hx_desc.specs.Description.{described, json_of, described_if, is_demo, spec_of, input_spec};
+ghost use Rattle.hx_desc.specs.Description as Desc;
+ghost use Rattle.hx_cluster.specs.Valid.{IsValid};
 
 use crate::demo::demo;
 use crate::failures::failures;
 use crate::instances::InstancesForm;
-use crate::models::models;
+use crate::limits::{CONTROLLERS, DEFAULT_CONTROLLERS, DEFAULT_TIMEOUT, TIMEOUT, VERSION};
 use crate::resources::resources;
 use crate::rules::rules;
 use hx_cluster::Spec;
-use hx_forms::{DescKind, DescRefusal, Number, Object, SmallNumber, fault};
+use hx_forms::{DescKind, DescRefusal, Object, fault};
+use hx_model_forms::read_models;
 use hx_text::cut;
 use serde_json::Value;
 use std::alloc::Global;
@@ -30,28 +32,16 @@ const KEYS: [&str; 8] = [
     "failures",
 ];
 
-/// The one version that there is.
-const VERSION: Number = Number { low: 1, high: 1 };
-
-/// How many controllers there may be.
-const CONTROLLERS: SmallNumber = SmallNumber { low: 1, high: 16 };
-
-/// After how many ticks a session may end.
-const TIMEOUT: Number = Number {
-    low: 1,
-    high: u64::MAX,
-};
-
 /// What a JSON value describes.
 fn describe(alloc: Global, value: &Value) -> Result<Spec, DescRefusal>
-    ensures { Reads result (described (view value.now)) }
+    ensures { Reads result (Desc.described (view value.now)) }
 {
     let object = Object::read(alloc, &KEYS, value)?;
     object.required("version", VERSION)?;
-    let controllers = object.optional("controllers", 1, CONTROLLERS)?;
-    let timeout = object.optional("timeout", 30, TIMEOUT)?;
+    let controllers = object.optional("controllers", DEFAULT_CONTROLLERS, CONTROLLERS)?;
+    let timeout = object.optional("timeout", DEFAULT_TIMEOUT, TIMEOUT)?;
     let instances = object.required("instances", InstancesForm)?;
-    let models = models(alloc, &object)?;
+    let models = read_models(alloc, &object)?;
     let rules = rules(alloc, &object, &models.states)?;
     let table = resources(alloc, &object, &instances, &models)?;
     let failures = failures(alloc, &object, &instances, &table)?;
@@ -71,7 +61,7 @@ fn describe(alloc: Global, value: &Value) -> Result<Spec, DescRefusal>
 
 /// The JSON value of some bytes.
 fn json(alloc: Global, bytes: &[u8]) -> Result<Value, DescRefusal>
-    ensures { Reads (at_ok view result) (there_or BadJson (json_of bytes.now)) }
+    ensures { Reads (at_ok view result) (there_or BadJson (Desc.json_of bytes.now)) }
 {
     match Value::from_slice(alloc, bytes) {
         Ok(value) => Ok(value),
@@ -87,7 +77,7 @@ fn json(alloc: Global, bytes: &[u8]) -> Result<Value, DescRefusal>
 
 /// What bytes of JSON describe.
 fn read_json(alloc: Global, bytes: &[u8]) -> Result<Spec, DescRefusal>
-    ensures { Reads result (described_if (json_of bytes.now)) }
+    ensures { Reads result (Desc.described_if (Desc.json_of bytes.now)) }
 {
     let value = json(alloc, bytes)?;
     describe(alloc, &value)
@@ -95,7 +85,7 @@ fn read_json(alloc: Global, bytes: &[u8]) -> Result<Spec, DescRefusal>
 
 /// Whether a description is the line that stands for the demo.
 pub fn is_demo(bytes: &[u8]) -> bool
-    ensures { result ≡ is_demo bytes.now }
+    ensures { result ≡ Desc.is_demo bytes.now }
 {
     bytes == b"builtin demo\n".as_slice() || bytes == b"builtin demo\r\n".as_slice()
 }
@@ -103,7 +93,7 @@ pub fn is_demo(bytes: &[u8]) -> bool
 /// What a description without its separator says.
 #[tactic(auto, using(crate::proofs::Whole::refused_in_description))]
 fn spec_of(alloc: Global, bytes: &[u8]) -> Result<Spec, DescRefusal>
-    ensures { Reads result (spec_of bytes.now) }
+    ensures { Reads result (Desc.spec_of bytes.now) }
 {
     if is_demo(bytes) {
         return Ok(demo(alloc)?);
@@ -114,12 +104,14 @@ fn spec_of(alloc: Global, bytes: &[u8]) -> Result<Spec, DescRefusal>
     }
 }
 
-/// Reads the description of an input, which stands before the first line `---`: the demo's one line, or JSON.
+/// Reads the description of an input, which stands before the first line `---`: the demo's one line,
+/// or JSON. What is read is valid.
 ///
 /// A fault is the first one, with its path from `$`.
 #[tactic(auto, using(crate::proofs::Whole::refused_in_description))]
 pub fn read(alloc: Global, bytes: &[u8]) -> Result<Spec, DescRefusal>
-    ensures { Reads result (input_spec bytes.now) }
+    ensures read { Reads result (Desc.input_spec bytes.now) }
+    ensures valid { IfOk result IsValid }
 {
     match cut(bytes) {
         Some(input) => spec_of(alloc, input.description),

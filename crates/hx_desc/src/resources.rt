@@ -1,34 +1,27 @@
 //! Resources.
 ghost use Rattle.std.specs.Prelude.{◌≡◌, ◌+◌, ◌<◌, ◌≤◌, [], length, codes};
-ghost use Rattle.hx_cluster.specs.Ends.{parts_of as parts_of_in};
+ghost use Rattle.hx_cluster.specs.Ends;
 ghost use Rattle.serde_json.specs.View.{view};
 ghost use Rattle.hx_forms.specs.Found.{optional};
 ghost use Rattle.hx_forms.specs.Members.{members_of};
 ghost use Rattle.hx_forms.specs.Reading.{Reads};
-ghost use Rattle.hx_desc.specs.Faultless.{AreFew};
-ghost use Rattle.hx_desc.specs.ResourceForm.{instance_in, model_id_in, resource_in, resources_in};
+ghost use Rattle.hx_model_forms.specs.Tables.{AreFew};
+ghost use Rattle.hx_desc.specs.ResourceForm as Spec;
 
+use crate::ideals::ideal;
+use crate::limits::MOST_RESOURCES;
 use crate::lists::instance;
-use crate::modes::{ModeForm, ideal, lists, maps};
-use crate::tables::{ModelTable, ResourceTable};
+use crate::maps::MapForm;
+use crate::tables::ResourceTable;
 use hx_cluster::Resource;
 use hx_forms::{
-    DescKind, DescRefusal, Form, ItemForm, NewName, Object, SmallNumber, array_up_to, place,
-    read_all,
+    DescKind, DescRefusal, Form, ItemForm, NewName, Object, array_up_to, place, read_all,
 };
 use hx_ids::{InstanceId, ModelId, Names, ResourceId};
 use hx_lists::Seq;
+use hx_model_forms::ModelTable;
 use serde_json::Value;
 use std::alloc::Global;
-
-/// The most resources that a description has.
-const MOST_RESOURCES: usize = 256;
-
-/// How many replicas a partition may have.
-const REPLICAS: SmallNumber = SmallNumber { low: 1, high: 64 };
-
-/// How many partitions a resource may have.
-const PARTITIONS: SmallNumber = SmallNumber { low: 1, high: 1024 };
 
 /// An instance by its name.
 #[derive(Clone, Copy)]
@@ -39,7 +32,7 @@ pub(crate) struct InstanceForm<'a> {
 impl Form for InstanceForm<'_> {
     type Output = InstanceId;
 
-    ghost found = { λ form d. instance_in form.instances.now d };
+    ghost found = { λ form d. Spec.instance_in form.instances.now d };
 
     fn read(self, alloc: Global, value: &Value) -> Result<InstanceId, DescRefusal> {
         instance(alloc, self.instances, value)
@@ -58,7 +51,7 @@ fn no_resources(alloc: Global) -> ResourceTable
 
 /// How many partitions a resource has.
 pub(crate) fn parts_of(resources: &[Resource], resource: ResourceId) -> u32
-    ensures { result ≡ parts_of_in resources.now resource }
+    ensures { result ≡ Ends.parts_of resources.now resource }
 {
     match resources.get(resource.0 as usize) {
         Some(resource) => resource.ideal.parts(),
@@ -76,7 +69,7 @@ struct ModelIdForm<'a> {
 impl Form for ModelIdForm<'_> {
     type Output = ModelId;
 
-    ghost found = { λ form d. model_id_in form.names.now d };
+    ghost found = { λ form d. Spec.model_id_in form.names.now d };
 
     ghost known = { λ form id. id.0 < length form.names.now };
 
@@ -85,6 +78,17 @@ impl Form for ModelIdForm<'_> {
         Ok(ModelId(place as u8))
     }
 }
+
+/// The members of a resource.
+const RESOURCE_KEYS: [&str; 7] = [
+    "name",
+    "model",
+    "replicas",
+    "partitions",
+    "mode",
+    "lists",
+    "maps",
+];
 
 /// A resource, over the instances and the models.
 #[derive(Clone, Copy)]
@@ -97,7 +101,7 @@ struct ResourceForm<'a> {
 impl ItemForm for ResourceForm<'_> {
     type Items = ResourceTable;
 
-    ghost found = { λ form table d. resource_in form.instances.now form.models.now table d };
+    ghost found = { λ form table d. Spec.resource_in form.instances.now form.models.now table d };
 
     ghost kept = { λ _ more table. length table.names + more ≤ 256 };
 
@@ -107,36 +111,25 @@ impl ItemForm for ResourceForm<'_> {
         table: ResourceTable,
         value: &Value,
     ) -> Result<ResourceTable, DescRefusal> {
-        let (instances, states) = (self.instances, &self.models.states);
         let ResourceTable {
             mut names,
             mut resources,
         } = table;
-        let keys = [
-            "name",
-            "model",
-            "replicas",
-            "partitions",
-            "mode",
-            "lists",
-            "maps",
-        ];
-        let object = Object::read(alloc, &keys, value)?;
+        let object = Object::read(alloc, &RESOURCE_KEYS, value)?;
         let name = object.required("name", NewName { names: &names })?;
         let model = ModelIdForm {
             names: &self.models.names,
         };
-        let id = object.required("model", model)?;
-        let replicas = object.required("replicas", REPLICAS)?;
-        let parts = object.required("partitions", PARTITIONS)?;
-        let mode = object.required("mode", ModeForm)?;
-        let lists = lists(alloc, &object, mode, parts, instances)?;
-        let model = &self.models.models.as_slice()[id.0 as usize];
-        let maps = maps(alloc, &object, mode, parts, instances, states, model)?;
+        let model = object.required("model", model)?;
+        let over = MapForm {
+            instances: self.instances,
+            names: &self.models.states,
+            model: &self.models.models.as_slice()[model.0 as usize],
+        };
         let resource = Resource {
             name: names.len(),
-            model: id,
-            ideal: ideal(replicas, parts, mode, lists, maps, instances, model),
+            model,
+            ideal: ideal(alloc, &object, over)?,
             dropped: false,
         };
         names.intern(name.as_str())?;
@@ -156,7 +149,7 @@ struct ResourcesForm<'a> {
 impl Form for ResourcesForm<'_> {
     type Output = ResourceTable;
 
-    ghost found = { λ form d. resources_in form.instances.now form.models.now d };
+    ghost found = { λ form d. Spec.resources_in form.instances.now form.models.now d };
 
     fn read(self, alloc: Global, value: &Value) -> Result<ResourceTable, DescRefusal> {
         let values = array_up_to(alloc, MOST_RESOURCES, value)?;
@@ -176,7 +169,9 @@ pub(crate) fn resources(
     models: &ModelTable,
 ) -> Result<ResourceTable, DescRefusal>
     requires { AreFew models.now }
-    ensures { Reads result (optional (codes "resources") (record { names = []; resources = [] }) (resources_in instances.now models.now) (members_of object.now)) }
+    ensures { Reads result
+        (optional (codes "resources") (record { names = []; resources = [] })
+        (Spec.resources_in instances.now models.now) (members_of object.now)) }
 {
     object.optional(
         "resources",

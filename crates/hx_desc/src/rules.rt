@@ -4,20 +4,18 @@ ghost use Rattle.serde_json.specs.View.{view};
 ghost use Rattle.hx_forms.specs.Found.{optional};
 ghost use Rattle.hx_forms.specs.Members.{members_of};
 ghost use Rattle.hx_forms.specs.Reading.{Reads};
-ghost use Rattle.hx_desc.specs.RuleForm.{scope_in, end_in, transition_of, rule_in, rules_in};
+ghost use Rattle.hx_desc.specs.RuleForm as Spec;
 
+use crate::limits::{LIMIT, MOST_RULES};
 use hx_cluster::{Rule, Scope};
 use hx_forms::{
-    DescKind, DescRefusal, Form, ItemForm, Object, SmallNumber, array_up_to, fault, place,
-    read_all, text,
+    DescKind, DescRefusal, Form, ItemForm, Object, array_up_to, fault, place, read_all, text,
 };
 use hx_ids::{Names, StateId};
 use hx_lists::Seq;
+use hx_model::{DROPPED, ERROR};
 use serde_json::Value;
 use std::alloc::Global;
-
-/// The most rules that a description has.
-const MOST_RULES: usize = 16;
 
 /// Over what a rule counts.
 #[derive(Clone, Copy)]
@@ -26,7 +24,7 @@ struct ScopeForm;
 impl Form for ScopeForm {
     type Output = Scope;
 
-    ghost found = { λ _ d. scope_in d };
+    ghost found = { λ _ d. Spec.scope_in d };
 
     fn read(self, alloc: Global, value: &Value) -> Result<Scope, DescRefusal> {
         let text = text(alloc, value)?;
@@ -46,21 +44,22 @@ impl Form for ScopeForm {
 #[derive(Clone, Copy)]
 struct EndForm<'a> {
     states: &'a Names,
-    never: u8,
+    never: StateId,
     ghost few: { length states.now ≤ 256 },
 }
 
 impl Form for EndForm<'_> {
     type Output = Option<StateId>;
 
-    ghost found = { λ form d. end_in form.states.now form.never d };
+    ghost found = { λ form d. Spec.end_in form.states.now form.never d };
 
     fn read(self, alloc: Global, value: &Value) -> Result<Option<StateId>, DescRefusal> {
         let place = place(alloc, DescKind::UnknownState, self.states, value)?;
-        if place == self.never as u32 {
+        let state = StateId(place as u8);
+        if state == self.never {
             return Err(fault(alloc, DescKind::UnknownState));
         }
-        Ok(Some(StateId(place as u8)))
+        Ok(Some(state))
     }
 }
 
@@ -70,12 +69,17 @@ fn transition(
     from: Option<StateId>,
     to: Option<StateId>,
 ) -> Result<Option<(StateId, StateId)>, DescRefusal>
-    ensures { Reads result (transition_of from to) }
+    ensures { Reads result (Spec.transition_of from to) }
 {
-    match (from, to) {
-        (None, None) => Ok(None),
-        (Some(from), Some(to)) => Ok(Some((from, to))),
-        _ => Err(fault(alloc, DescKind::HalfTransition)),
+    let Some(from) = from else {
+        if to.is_some() {
+            return Err(fault(alloc, DescKind::HalfTransition));
+        }
+        return Ok(None);
+    };
+    match to {
+        Some(to) => Ok(Some((from, to))),
+        None => Err(fault(alloc, DescKind::HalfTransition)),
     }
 }
 
@@ -89,7 +93,7 @@ struct RuleForm<'a> {
 impl ItemForm for RuleForm<'_> {
     type Items = Seq<Rule>;
 
-    ghost found = { λ form rules d. rule_in form.states.now rules d };
+    ghost found = { λ form rules d. Spec.rule_in form.states.now rules d };
 
     fn read_next(
         &self,
@@ -100,15 +104,17 @@ impl ItemForm for RuleForm<'_> {
         let states = self.states;
         let object = Object::read(alloc, &["scope", "limit", "from", "to"], value)?;
         let scope = object.required("scope", ScopeForm)?;
-        let limit = object.required(
-            "limit",
-            SmallNumber {
-                low: 1,
-                high: 65_535,
-            },
-        )?;
-        let from = object.optional("from", None, EndForm { states, never: 1 })?;
-        let to = object.optional("to", None, EndForm { states, never: 0 })?;
+        let limit = object.required("limit", LIMIT)?;
+        let from = EndForm {
+            states,
+            never: DROPPED,
+        };
+        let from = object.optional("from", None, from)?;
+        let to = EndForm {
+            states,
+            never: ERROR,
+        };
+        let to = object.optional("to", None, to)?;
         let transition = transition(alloc, from, to)?;
         rules.push(Rule {
             scope,
@@ -129,7 +135,7 @@ struct RulesForm<'a> {
 impl Form for RulesForm<'_> {
     type Output = Seq<Rule>;
 
-    ghost found = { λ form d. rules_in form.states.now d };
+    ghost found = { λ form d. Spec.rules_in form.states.now d };
 
     fn read(self, alloc: Global, value: &Value) -> Result<Seq<Rule>, DescRefusal> {
         let values = array_up_to(alloc, MOST_RULES, value)?;
@@ -147,7 +153,8 @@ pub(crate) fn rules(
     states: &Names,
 ) -> Result<Seq<Rule>, DescRefusal>
     requires { length states.now ≤ 256 }
-    ensures { Reads result (optional (codes "throttles") [] (rules_in states.now) (members_of object.now)) }
+    ensures { Reads result
+        (optional (codes "throttles") [] (Spec.rules_in states.now) (members_of object.now)) }
 {
     object.optional("throttles", Seq::new(alloc), RulesForm { states })
 }

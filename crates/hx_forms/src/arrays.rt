@@ -21,7 +21,8 @@ pub fn array(alloc: Global, value: &Value) -> Result<&[Value], DescRefusal>
 
 /// The items of an array that has no more than some.
 pub fn array_up_to(alloc: Global, most: usize, value: &Value) -> Result<&[Value], DescRefusal>
-    ensures read { Reads (at_ok (λ vs. map view vs.now) result) (array_up_to most (view value.now)) }
+    ensures read { Reads (at_ok (λ vs. map view vs.now) result)
+        (array_up_to most (view value.now)) }
     ensures few { IfOk result (λ vs. length vs.now ≤ most) }
 {
     let items = array(alloc, value)?;

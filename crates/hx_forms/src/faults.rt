@@ -56,8 +56,8 @@ pub enum DescKind {
     RunOrMake,
 }
 
-/// Where a value stands: `$`, then `.member` for a member and `[n]` for an item, counted from 0. Contracts see it as
-/// its bytes.
+/// Where a value stands: `$`, then `.member` for a member and `[n]` for an item, counted from 0.
+/// Contracts see it as its bytes.
 #[derive(Debug, Drop)]
 pub struct Path {
     text: String,

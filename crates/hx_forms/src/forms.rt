@@ -44,7 +44,8 @@ pub trait ItemForm {
     ) -> Result<Self::Items, DescRefusal>
         requires { (more : ℕ) × kept self.now (more + 1) items }
         ensures read { Reads result (found self.now items (view value.now)) }
-        ensures kept { (more : ℕ) → kept self.now (more + 1) items → IfOk result (kept self.now more) };
+        ensures kept { (more : ℕ) → kept self.now (more + 1) items
+            → IfOk result (kept self.now more) };
 }
 
 /// A number of 64 bits from a least to a most.

@@ -1,4 +1,5 @@
-//! How parts of a description are read, or their first fault is found: objects, arrays, numbers, texts and names.
+//! How parts of a description are read, or their first fault is found: objects, arrays, numbers,
+//! texts and names.
 #![tactic(auto)]
 
 mod arrays;

@@ -2,7 +2,7 @@
 ghost use Rattle.std.specs.Prelude.{◌≡◌, map, option_map, IfOk};
 ghost use Rattle.serde_json.specs.Find.{get_member};
 ghost use Rattle.serde_json.specs.View.{view};
-ghost use Rattle.hx_forms.specs.Found.{is_among as is_among_of, object_in, required as required_in, optional as optional_in};
+ghost use Rattle.hx_forms.specs.Found as Spec;
 ghost use Rattle.hx_forms.specs.Reading.{Reads, at_ok};
 
 use crate::faults::{DescKind, DescRefusal, fault};
@@ -19,7 +19,7 @@ pub struct Object<'a> {
 
 /// Whether a key is one of some.
 fn is_among(keys: &[&str], key: &str) -> bool
-    ensures { result ≡ is_among_of (map (λ k. k.now) keys.now) key.now }
+    ensures { result ≡ Spec.is_among (map (λ k. k.now) keys.now) key.now }
 {
     keys.iter().any(|k| key == *k)
 }
@@ -29,7 +29,8 @@ impl<'a> Object<'a> {
 
     /// The members of an object that has none but those of some names.
     pub fn read(alloc: Global, keys: &[&str], value: &'a Value) -> Result<Object<'a>, DescRefusal>
-        ensures { Reads (at_ok members_of result) (object_in (map (λ k. k.now) keys.now) (view value.now)) }
+        ensures { Reads (at_ok members_of result)
+            (Spec.object_in (map (λ k. k.now) keys.now) (view value.now)) }
     {
         let Some(members) = value.as_object() else {
             return Err(fault(alloc, DescKind::WrongType));
@@ -52,7 +53,7 @@ impl<'a> Object<'a> {
     /// A member that must be there.
     #[tactic(auto, using(crate::proofs::Refusals::refused_within))]
     pub fn required<F: Form>(&self, name: &str, form: F) -> Result<F::Output, DescRefusal>
-        ensures read { Reads result (required_in name.now (F.found form) (members_of self.now)) }
+        ensures read { Reads result (Spec.required name.now (F.found form) (members_of self.now)) }
         ensures known { IfOk result (F.known form) }
     {
         let Some(value) = self.member(name) else {
@@ -73,7 +74,8 @@ impl<'a> Object<'a> {
         form: F,
     ) -> Result<F::Output, DescRefusal>
         requires { F.known form default }
-        ensures read { Reads result (optional_in name.now default (F.found form) (members_of self.now)) }
+        ensures read { Reads result
+            (Spec.optional name.now default (F.found form) (members_of self.now)) }
         ensures known { IfOk result (F.known form) }
     {
         let Some(value) = self.member(name) else {

@@ -1,0 +1,2 @@
+pub mod ModelForm
+pub mod Tables
