@@ -1,5 +1,5 @@
 -- The script of an input is no longer than the input, and has no more lines than bytes.
-use Rattle.std.proofs.Common.{◌≡◌, ℕ, ◌-◌, ◌^◌, ◌<◌, ◌≤◌, zero, suc, Bool, true, false, List, [], ◌∷◌, ◌++◌, length, length-append, Option, None, Some, sym, ap, subst, arith}
+use Rattle.std.proofs.Common.{◌≡◌, ℕ, ◌<◌, ◌≤◌, zero, suc, Bool, true, false, List, [], ◌∷◌, ◌++◌, length, length-append, Option, None, Some, sym, ap, subst, arith}
 use Rattle.std.specs.Prelude.{IfSome, option_map, if◌then◌else◌}
 use Rattle.std.specs.List.{slice_split, join_with_byte}
 use Rattle.std.specs.Str.{bytes_eq}
@@ -7,6 +7,7 @@ use Rattle.std.specs.Str.Lines.{strip_carriage_return}
 use Rattle.std.proofs.lemmas.List.Splits.{join_with_byte-slice_split}
 use Rattle.hx_text.specs.Lines.{is_line_feed, lines_of, after_line, separator, cut_parts, cut_of}
 use Rattle.hx_text.proofs.FirstLine.{lines_of-first, length-after_line}
+use Rattle.hx_app.specs.Constants.{most_bytes}
 
 abbrev IsShort : List (List ℕ) → Option (List ℕ × List ℕ) → Type 0
 IsShort parts o = IfSome o (λ halves. length halves.1 ≤ length (join_with_byte 10 parts))
@@ -50,13 +51,13 @@ pub few_lines : (bytes : List ℕ) → length (lines_of bytes) ≤ length bytes
 few_lines bytes = few_up_to (length bytes) bytes (omega arith)
 
 -- the parts of an input that isn't too long
-pub script_fits : (bytes description script : List ℕ) → Some (description, script) ≡ cut_of bytes → length bytes ≤ 16777216 → length script < 2 ^ 32 - 1
+pub script_fits : (bytes description script : List ℕ) → Some (description, script) ≡ cut_of bytes → length bytes ≤ most_bytes → length script ≤ most_bytes
 script_fits bytes description script cut short =
     let P : Option (List ℕ × List ℕ) → Type 0 = λ o. IfSome o (λ halves. length halves.1 ≤ length bytes) in
     let within : length script ≤ length bytes = subst P (sym cut) (script_short bytes) in
     omega (arith, within, short)
 
-pub lines_fit : (bytes description script : List ℕ) → Some (description, script) ≡ cut_of bytes → length bytes ≤ 16777216 → length (lines_of script) ≤ 16777216
+pub lines_fit : (bytes description script : List ℕ) → Some (description, script) ≡ cut_of bytes → length bytes ≤ most_bytes → length (lines_of script) ≤ most_bytes
 lines_fit bytes description script cut short =
     let P : Option (List ℕ × List ℕ) → Type 0 = λ o. IfSome o (λ halves. length halves.1 ≤ length bytes) in
     let within : length script ≤ length bytes = subst P (sym cut) (script_short bytes) in

@@ -1,247 +1,78 @@
--- When each status comes, from what was read and what was written.
-use Rattle.std.proofs.Common.{◌≡◌, ℕ, ◌<◌, ◌≤◌, true, false, List, ◌++◌, length, length-append, Option, None, Some, Result, Ok, Err, ◌⊎◌, refl, sym, ap, subst, ◌∙◌, inl, inr, arith}
-use Rattle.std.specs.Prelude.{IfSome}
-use Rattle.std.proofs.lemmas.Bool.Decides.{nat_tests}
-use Rattle.std.specs.Io.KnownBytes.{Appends, Consumes, IsAtEnd}
-use Rattle.std.proofs.lemmas.List.{append-nil}
-use Rattle.hx_lists.specs.Counts.{Rose}
-use Rattle.hx_io.specs.Whole.{Gave}
+-- A run keeps what its status promises.
+use Rattle.std.proofs.Common.{◌≡◌, ℕ, ◌<◌, ◌≤◌, List, [], ◌∷◌, length, map, Result, Ok, Err, ◌⊎◌, refl, sym, ap, subst, ◌∙◌, inl, inr, arith}
+use Rattle.std.specs.Io.KnownBytes.{Consumes, IsAtEnd}
 use Rattle.hx_words.specs.declared.Task.{Task}
 use Rattle.hx_words.specs.declared.Words.{Words}
 use Rattle.hx_words.specs.declared.Words.TheVariants as asks
 use Rattle.hx_words.specs.declared.WordsFault.{WordsFault}
 use Rattle.hx_words.specs.declared.WordsFault.TheVariants as faults
-use Rattle.hx_app.specs.declared.input.Scenario.{Scenario}
-use Rattle.hx_app.specs.declared.input.NotBuilt.TheVariants as unbuilt
-use Rattle.hx_app.specs.declared.input.InputFault.{InputFault}
-use Rattle.hx_app.specs.declared.input.InputFault.TheVariants as inputs
-use Rattle.hx_app.specs.Input.{scenario_of}
-use Rattle.hx_app.specs.Answers.{Answer, answer_of, answer_by, usage, version, words_refused, read_fault, too_long}
-use Rattle.hx_app.specs.History.{IsSafeRun}
-use Rattle.hx_app.specs.Runs.{Ends, IsAnswered, IsDefined, WroteFront, Runs, Tells, RunsWords, is_of_input, most_bytes}
-use Rattle.hx_app.specs.Writes.{Writes}
+use Rattle.hx_words.specs.Tasks.{HoldsOfAsked}
+use Rattle.hx_app.specs.Constants.{most_bytes, no_memory}
+use Rattle.hx_app.specs.Answers.{Answer, answer_of, usage, version, words_refused}
+use Rattle.hx_app.specs.Writes.{SinkAt, Writes}
+use Rattle.hx_app.specs.Runs.{SourceAt, Runs, Tells, RunsWords, HoldsOfTold}
 use Rattle.hx_app.proofs.SafeScripts.{run_safe}
 
-if_some : {X : Type 0} {P Q : X → Type 0} (o : Option X) → ((x : X) → P x → Q x) → IfSome o P → IfSome o Q
-if_some None f h = h
-if_some (Some x) f h = f x h
+same_answer : (status : ℕ) (text : List ℕ) (a : Answer) → status ≡ a.status → text ≡ a.text → record { status = status; text = text } ≡ a
+same_answer status text a status_is text_is = rw (status_is, text_is) refl
 
--- what was read is all that was left
-all_read : (old new : Option (List ℕ)) (bytes : List ℕ) → Consumes old new bytes → IsAtEnd new → IfSome old (λ b. b ≡ bytes)
-all_read None new bytes h end = tt
-all_read (Some xs) None bytes h end = absurd h
-all_read (Some xs) (Some ys) bytes h end = h ∙ ap (λ zs. bytes ++ zs) end ∙ append-nil bytes
+-- the answer to an input that was read is written
+pub runs_answer : (task : Task) (source source' : SourceAt) (sink sink' : SinkAt) (bytes text : List ℕ) (status result : ℕ)
+    → Consumes source.left source'.left bytes → IsAtEnd source'.left → length bytes ≤ most_bytes → source.faults ≤ source'.faults
+    → status ≡ (answer_of task bytes).status → text ≡ (answer_of task bytes).text
+    → Writes (record { status = status; text = text }) sink sink' result
+    → Runs task source source' sink sink' result
+runs_answer task source source' sink sink' bytes text status result given end short later status_is text_is w =
+    let answer : Answer = record { status = status; text = text } in
+    record {
+      ended = inl (
+        answer,
+        inl (bytes, record { given = given; end = end; short = short; safe = run_safe bytes }, same_answer status text (answer_of task bytes) status_is text_is),
+        w,
+      );
+      source_later = later;
+      sink_later = w.later;
+    }
 
-more_left : (old new : Option (List ℕ)) (bytes : List ℕ) (limit : ℕ) → Consumes old new bytes → limit < length bytes → IfSome old (λ b. limit < length b)
-more_left None new bytes limit h lt = tt
-more_left (Some xs) None bytes limit h lt = absurd h
-more_left (Some xs) (Some ys) bytes limit h lt = omega (arith, ap length h, length-append bytes ys)
+-- what was found is what was asked for
+pub as_asked : (asked found : Result Words WordsFault) (source source' : SourceAt) (sink sink' : SinkAt) (status : ℕ) → asked ≡ found
+    → RunsWords source source' sink sink' status found → RunsWords source source' sink sink' status asked
+as_asked asked found source source' sink sink' status is runs =
+    let P : Result Words WordsFault → Type 0 = λ r. RunsWords source source' sink sink' status r in subst P (sym is) runs
 
--- an input is answered by one of three statuses
-scenario_status : (r : Result Scenario InputFault) → is_of_input (answer_by r).status ≡ true
-scenario_status (Ok s) = refl
-scenario_status (Err (inputs.Description f)) = refl
-scenario_status (Err (inputs.Script f)) = refl
-scenario_status (Err (inputs.NotBuilt unbuilt.Description)) = refl
-scenario_status (Err (inputs.NotBuilt (unbuilt.Line n))) = refl
-
-answer_status : (bytes : List ℕ) → is_of_input (answer_of bytes).status ≡ true
-answer_status bytes = scenario_status (scenario_of bytes)
-
--- each status by itself
-runs_six : (old new : Ends) (text : List ℕ) → IsDefined old new text → Rose old.sink_faults new.sink_faults → WroteFront old new text → old.source_faults ≤ new.source_faults → old.sink_faults ≤ new.sink_faults → Runs old new 6
-runs_six old new text defined rose front source sink = record {
-  known = refl;
-  answered = λ (h : false ≡ true). cc;
-  safe = λ (e : 6 ≡ 0). absurd (omega arith);
-  read_fault = λ (e : 6 ≡ 5). absurd (omega arith);
-  write_fault = λ e. (rose, (text, defined, front));
-  no_memory = λ (e : 6 ≡ 7). absurd (omega arith);
-  too_long = λ (e : 6 ≡ 10). absurd (omega arith);
-  source_later = source;
-  sink_later = sink;
-}
-
-runs_five : (old new : Ends) → Rose old.source_faults new.source_faults → Appends old.got new.got read_fault.text → old.source_faults ≤ new.source_faults → old.sink_faults ≤ new.sink_faults → Runs old new 5
-runs_five old new rose text source sink = record {
-  known = refl;
-  answered = λ (h : false ≡ true). cc;
-  safe = λ (e : 5 ≡ 0). absurd (omega arith);
-  read_fault = λ e. (rose, text);
-  write_fault = λ (e : 5 ≡ 6). absurd (omega arith);
-  no_memory = λ (e : 5 ≡ 7). absurd (omega arith);
-  too_long = λ (e : 5 ≡ 10). absurd (omega arith);
-  source_later = source;
-  sink_later = sink;
-}
-
-runs_ten : (old new : Ends) → IfSome old.left (λ bytes. most_bytes < length bytes) → Appends old.got new.got too_long.text → old.source_faults ≤ new.source_faults → old.sink_faults ≤ new.sink_faults → Runs old new 10
-runs_ten old new long text source sink = record {
-  known = refl;
-  answered = λ (h : false ≡ true). cc;
-  safe = λ (e : 10 ≡ 0). absurd (omega arith);
-  read_fault = λ (e : 10 ≡ 5). absurd (omega arith);
-  write_fault = λ (e : 10 ≡ 6). absurd (omega arith);
-  no_memory = λ (e : 10 ≡ 7). absurd (omega arith);
-  too_long = λ e. (long, text);
-  source_later = source;
-  sink_later = sink;
-}
-
-runs_seven : (old new : Ends) → new.got ≡ old.got → old.source_faults ≤ new.source_faults → old.sink_faults ≤ new.sink_faults → Runs old new 7
-runs_seven old new unwritten source sink = record {
-  known = refl;
-  answered = λ (h : false ≡ true). cc;
-  safe = λ (e : 7 ≡ 0). absurd (omega arith);
-  read_fault = λ (e : 7 ≡ 5). absurd (omega arith);
-  write_fault = λ (e : 7 ≡ 6). absurd (omega arith);
-  no_memory = λ e. unwritten;
-  too_long = λ (e : 7 ≡ 10). absurd (omega arith);
-  source_later = source;
-  sink_later = sink;
-}
-
-other_status : (status n : ℕ) → is_of_input status ≡ true → is_of_input n ≡ false → status ≡ n → ⊥
-other_status status n is not_is e = let P : ℕ → Type 0 = λ k. is_of_input k ≡ true in let bad : is_of_input n ≡ true = subst P e is in cc
-
--- what happens is safe, whatever was read
-each_safe : (left : Option (List ℕ)) → IfSome left IsSafeRun
-each_safe None = tt
-each_safe (Some bytes) = run_safe bytes
-
-runs_input : (old new : Ends) (status : ℕ) → is_of_input status ≡ true → IfSome old.left (IsAnswered old new status) → old.source_faults ≤ new.source_faults → old.sink_faults ≤ new.sink_faults → Runs old new status
-runs_input old new status is answered source sink = record {
-  known = rw is refl;
-  answered = λ h. answered;
-  safe = λ e. each_safe old.left;
-  read_fault = λ e. absurd (other_status status 5 is refl e);
-  write_fault = λ e. absurd (other_status status 6 is refl e);
-  no_memory = λ e. absurd (other_status status 7 is refl e);
-  too_long = λ e. absurd (other_status status 10 is refl e);
-  source_later = source;
-  sink_later = sink;
-}
-
--- a status and its text are written
-abbrev pub Written : Ends → Ends → ℕ → List ℕ → ℕ → Type 0
-Written old new status text result = Writes status text old.got new.got old.sink_faults new.sink_faults result
-
-pub runs_read_fault : (old new : Ends) (result : ℕ) → Rose old.source_faults new.source_faults → old.source_faults ≤ new.source_faults → Written old new 5 read_fault.text result → Runs old new result
-runs_read_fault old new result rose source w =
-    let P : ℕ → Type 0 = λ n. Runs old new n in
-    elim w.ended [
-      | inl a ↦ subst P (sym a.0) (runs_five old new rose a.1 source w.later)
-      | inr b ↦ subst P (sym b.0) (runs_six old new read_fault.text (inr (inl (refl, rose))) b.1 b.2 source w.later)
-    ]
-
-pub runs_too_long : (old new : Ends) (result : ℕ) → Gave old.left new.left (λ bytes. most_bytes < length bytes) → old.source_faults ≤ new.source_faults → Written old new 10 too_long.text result → Runs old new result
-runs_too_long old new result gave source w =
-    let P : ℕ → Type 0 = λ n. Runs old new n in
-    let long = more_left old.left new.left gave.0 most_bytes gave.1 gave.2 in
-    elim w.ended [
-      | inl a ↦ subst P (sym a.0) (runs_ten old new long a.1 source w.later)
-      | inr b ↦ subst P (sym b.0) (runs_six old new too_long.text (inr (inr (refl, long))) b.1 b.2 source w.later)
-    ]
-
-pub runs_answer : (old new : Ends) (bytes text : List ℕ) (status result : ℕ) → Consumes old.left new.left bytes → IsAtEnd new.left → length bytes ≤ most_bytes
-    → status ≡ (answer_of bytes).status → text ≡ (answer_of bytes).text → old.source_faults ≤ new.source_faults → Written old new status text result → Runs old new result
-runs_answer old new bytes text status result read end short status_is text_is source w =
-    let P : ℕ → Type 0 = λ n. Runs old new n in
-    let all = all_read old.left new.left bytes read end in
-    let Is : ℕ → Type 0 = λ n. is_of_input n ≡ true in
-    let is = subst Is (sym status_is) (answer_status bytes) in
-    let Short : List ℕ → Type 0 = λ b. length b ≤ most_bytes in
-    elim w.ended [
-      | inl a ↦
-          subst P (sym a.0) (runs_input old new status is
-          (if_some old.left
-          (λ b (b_is : b ≡ bytes). record {
-            short = subst Short (sym b_is) short;
-            answers = ap (λ (x : List ℕ). (answer_of x).status) b_is ∙ sym status_is;
-            text = (let T : List ℕ → Type 0 = λ t. Appends old.got new.got t in subst T (text_is ∙ ap (λ (x : List ℕ). (answer_of x).text) (sym b_is)) a.1);
-            end = end;
-          })
-          all)
-          source w.later)
-      | inr b ↦
-          subst P (sym b.0) (runs_six old new text
-          (inl (if_some old.left (λ x (x_is : x ≡ bytes). (subst Short (sym x_is) short, text_is ∙ ap (λ (y : List ℕ). (answer_of y).text) (sym x_is))) all))
-          b.1 b.2 source w.later)
-    ]
+-- memory was wanted before anything was read or written
+pub words_unheard : (asked : Result Words WordsFault) (source : SourceAt) (sink : SinkAt) → RunsWords source source sink sink no_memory asked
+words_unheard (Ok (asks.Run task)) source sink = record { ended = inr (record { wanted = refl; got = refl }); source_later = omega arith; sink_later = omega arith }
+words_unheard (Ok asks.Help) source sink = record { ended = inr (refl, refl); unread = refl }
+words_unheard (Ok asks.Version) source sink = record { ended = inr (refl, refl); unread = refl }
+words_unheard (Err faults.Refused) source sink = record { ended = inr (refl, refl); unread = refl }
+words_unheard (Err faults.OutOfMemory) source sink = (refl, refl, refl)
 
 -- an answer to the words alone
-pub tells : (answer : Answer) (old new : Ends) (result : ℕ) → (answer.status ≡ 6 → ⊥) → (answer.status ≡ 7 → ⊥) → new.left ≡ old.left → new.source_faults ≡ old.source_faults → Written old new answer.status answer.text result
-    → Tells answer old new result
-tells answer old new result not_six not_seven left source w =
-    let P : ℕ → Type 0 = λ n. Tells answer old new n in
-    elim w.ended [
-      | inl a ↦ subst P (sym a.0) (record {
-        known = grind (arith, nat_tests);
-        whole = λ e. a.1;
-        write_fault = λ e. absurd (not_six e);
-        no_memory = λ e. absurd (not_seven e);
-        left = left;
-        source = source;
-        sink_later = w.later;
-      })
-      | inr b ↦ subst P (sym b.0) (record {
-        known = grind (arith, nat_tests);
-        whole = λ e. absurd (not_six (sym e));
-        write_fault = λ e. (b.1, b.2);
-        no_memory = λ (e : 6 ≡ 7). absurd (omega arith);
-        left = left;
-        source = source;
-        sink_later = w.later;
-      })
-    ]
+told : (answer : Answer) (text : List ℕ) (source : SourceAt) (sink sink' : SinkAt) (result : ℕ) → text ≡ answer.text
+    → Writes (record { status = answer.status; text = text }) sink sink' result → Tells answer source source sink sink' result
+told answer text source sink sink' result text_is w =
+    let P : List ℕ → Type 0 = λ t. Writes (record { status = answer.status; text = t }) sink sink' result in
+    record { ended = inl (subst P text_is w); unread = refl }
 
--- want of memory before anything is read or written
-tells_seven : (answer : Answer) (old : Ends) → (answer.status ≡ 7 → ⊥) → Tells answer old old 7
-tells_seven answer old not_seven = record {
-  known = grind (arith, nat_tests);
-  whole = λ e. absurd (not_seven (sym e));
-  write_fault = λ (e : 7 ≡ 6). absurd (omega arith);
-  no_memory = λ e. refl;
-  left = refl;
-  source = refl;
-  sink_later = omega arith;
-}
+pub tells_usage : (text : List ℕ) (source : SourceAt) (sink sink' : SinkAt) (result : ℕ) → text ≡ usage.text
+    → Writes (record { status = usage.status; text = text }) sink sink' result → RunsWords source source sink sink' result (Ok asks.Help)
+tells_usage text source sink sink' result text_is w = told usage text source sink sink' result text_is w
 
-pub words_seven : (asked : Result Words WordsFault) (old : Ends) → RunsWords old old 7 asked
-words_seven (Ok (asks.Run task)) old = runs_seven old old refl (omega arith) (omega arith)
-words_seven (Ok asks.Help) old = tells_seven usage old (λ (e : 0 ≡ 7). omega arith)
-words_seven (Ok asks.Version) old = tells_seven version old (λ (e : 0 ≡ 7). omega arith)
-words_seven (Err faults.Refused) old = tells_seven words_refused old (λ (e : 2 ≡ 7). omega arith)
-words_seven (Err faults.OutOfMemory) old = (refl, refl)
+pub tells_version : (text : List ℕ) (source : SourceAt) (sink sink' : SinkAt) (result : ℕ) → text ≡ version.text
+    → Writes (record { status = version.status; text = text }) sink sink' result → RunsWords source source sink sink' result (Ok asks.Version)
+tells_version text source sink sink' result text_is w = told version text source sink sink' result text_is w
 
--- what was asked for is done
-pub runs_asked : (asked : Result Words WordsFault) (task : Task) (old new : Ends) (result : ℕ) → asked ≡ Ok (asks.Run task) → Runs old new result → RunsWords old new result asked
-runs_asked asked task old new result is runs = let P : Result Words WordsFault → Type 0 = λ r. RunsWords old new result r in subst P (sym is) runs
+pub refuses_words : (source : SourceAt) (sink sink' : SinkAt) (result : ℕ) → Writes words_refused sink sink' result
+    → RunsWords source source sink sink' result (Err faults.Refused)
+refuses_words source sink sink' result w = record { ended = inl w; unread = refl }
 
-abbrev pub IsUnread : Ends → Ends → Type 0
-IsUnread old new = (new.left ≡ old.left) × (new.source_faults ≡ old.source_faults)
-
-told : (answer : Answer) (old new : Ends) (result : ℕ) (text : List ℕ) → (answer.status ≡ 6 → ⊥) → (answer.status ≡ 7 → ⊥) → IsUnread old new → text ≡ answer.text → Written old new answer.status text result → Tells answer old new result
-told answer old new result text not_six not_seven unread text_is w =
-    let P : List ℕ → Type 0 = λ t. Written old new answer.status t result in
-    tells answer old new result not_six not_seven unread.0 unread.1 (subst P text_is w)
-
-pub helps : (asked : Result Words WordsFault) (old new : Ends) (result : ℕ) (text : List ℕ) → asked ≡ Ok asks.Help → IsUnread old new → text ≡ usage.text → Written old new 0 text result → RunsWords old new result asked
-helps asked old new result text is unread text_is w =
-    let P : Result Words WordsFault → Type 0 = λ r. RunsWords old new result r in
-    subst P (sym is) (told usage old new result text (λ (e : 0 ≡ 6). omega arith) (λ (e : 0 ≡ 7). omega arith) unread text_is w)
-
-pub tells_version : (asked : Result Words WordsFault) (old new : Ends) (result : ℕ) (text : List ℕ) → asked ≡ Ok asks.Version → IsUnread old new → text ≡ version.text → Written old new 0 text result → RunsWords old new result asked
-tells_version asked old new result text is unread text_is w =
-    let P : Result Words WordsFault → Type 0 = λ r. RunsWords old new result r in
-    subst P (sym is) (told version old new result text (λ (e : 0 ≡ 6). omega arith) (λ (e : 0 ≡ 7). omega arith) unread text_is w)
-
-is_refused : (asked : Result Words WordsFault) (fault : WordsFault) → fault ≡ faults.Refused → (fault ≡ faults.OutOfMemory) ⊎ (asked ≡ Err fault) → asked ≡ Err faults.Refused
+pub is_refused : (asked : Result Words WordsFault) (fault : WordsFault) → fault ≡ faults.Refused → (fault ≡ faults.OutOfMemory) ⊎ (asked ≡ Err fault) → asked ≡ Err faults.Refused
 is_refused asked fault is (inl other) = cc
 is_refused asked fault is (inr found) = found ∙ ap (λ (f : WordsFault). Err f) is
 
-pub refuses : (asked : Result Words WordsFault) (fault : WordsFault) (old new : Ends) (result : ℕ) → fault ≡ faults.Refused → (fault ≡ faults.OutOfMemory) ⊎ (asked ≡ Err fault) → IsUnread old new
-    → Written old new 2 words_refused.text result → RunsWords old new result asked
-refuses asked fault old new result is found unread w =
-    let P : Result Words WordsFault → Type 0 = λ r. RunsWords old new result r in
-    subst P (sym (is_refused asked fault is found)) (tells words_refused old new result (λ (e : 2 ≡ 6). omega arith) (λ (e : 2 ≡ 7). omega arith) unread.0 unread.1 w)
+-- words that are there
+pub holds_of_told : {A : Type 0} (text : A → List ℕ) (words : List A) (Holds : Result Words WordsFault → Type 0) → 0 < length words → HoldsOfAsked (map text words) Holds
+    → HoldsOfTold (map text words) Holds
+holds_of_told text [] Holds some h = absurd (omega arith)
+holds_of_told text (word ∷ words) Holds some h = h

@@ -2,6 +2,10 @@
 use Rattle.std.specs.Prelude.{ℕ, List, ◌++◌, Result, Ok, Err, codes, decimal}
 use Rattle.hx_cluster.specs.Steps.{opening}
 use Rattle.hx_words.specs.Usage.{usage_text, version_text}
+use Rattle.hx_words.specs.declared.RunMode.{RunMode}
+use Rattle.hx_words.specs.declared.RunMode.TheVariants as modes
+use Rattle.hx_words.specs.declared.Task.{Task}
+use Rattle.hx_app.specs.Constants as statuses
 use Rattle.hx_app.specs.FirstPath.{script_text}
 use Rattle.hx_app.specs.KindNames.{desc_kind_name, script_kind_name}
 use Rattle.hx_app.specs.declared.input.Scenario.{Scenario}
@@ -16,32 +20,47 @@ pub record Answer : Type 0 where
 
 -- an input that isn't run
 abbrev pub fault_answer : InputFault → Answer
-fault_answer (faults.Description f) = record { status = 3; text = codes "description " ++ desc_kind_name f.kind ++ codes " " ++ f.path ++ codes "\n" }
-fault_answer (faults.Script f) = record { status = 4; text = codes "script " ++ decimal f.line ++ codes " " ++ script_kind_name f.kind ++ codes "\n" }
-fault_answer (faults.NotBuilt unbuilt.Description) = record { status = 3; text = codes "description not-built $\n" }
-fault_answer (faults.NotBuilt (unbuilt.Line n)) = record { status = 4; text = codes "script " ++ decimal n ++ codes " not-built\n" }
+fault_answer (faults.Description f) = record {
+  status = statuses.description_refused;
+  text = codes "description " ++ desc_kind_name f.kind ++ codes " " ++ f.path ++ codes "\n";
+}
+fault_answer (faults.Script f) = record {
+  status = statuses.script_refused;
+  text = codes "script " ++ decimal f.line ++ codes " " ++ script_kind_name f.kind ++ codes "\n";
+}
+fault_answer (faults.NotBuilt unbuilt.Description) = record {
+  status = statuses.description_refused;
+  text = codes "description not-built $\n";
+}
+fault_answer (faults.NotBuilt (unbuilt.Line n)) = record {
+  status = statuses.script_refused;
+  text = codes "script " ++ decimal n ++ codes " not-built\n";
+}
 
 -- one that is
 abbrev pub answer_by : Result Scenario InputFault → Answer
-answer_by (Ok s) = record { status = 0; text = script_text s.spec (opening s.spec) s.lines }
+answer_by (Ok s) = record { status = statuses.done; text = script_text s.spec (opening s.spec) s.lines }
 answer_by (Err f) = fault_answer f
 
--- the answer to an input that was read
-abbrev pub answer_of : List ℕ → Answer
-answer_of bytes = answer_by (scenario_of bytes)
+-- the answer to an input that was read, in a mode and for a task
+abbrev pub answer_in : RunMode → List ℕ → Answer
+answer_in modes.Sim bytes = answer_by (scenario_of bytes)
+
+abbrev pub answer_of : Task → List ℕ → Answer
+answer_of task bytes = answer_in task.mode bytes
 
 -- the other answers
 abbrev pub usage : Answer
-usage = record { status = 0; text = usage_text }
+usage = record { status = statuses.done; text = usage_text }
 
 abbrev pub version : Answer
-version = record { status = 0; text = version_text }
+version = record { status = statuses.done; text = version_text }
 
 abbrev pub words_refused : Answer
-words_refused = record { status = 2; text = codes "words refused\n" }
+words_refused = record { status = statuses.words_refused; text = codes "words refused\n" }
 
 abbrev pub read_fault : Answer
-read_fault = record { status = 5; text = codes "read fault\n" }
+read_fault = record { status = statuses.read_fault; text = codes "read fault\n" }
 
 abbrev pub too_long : Answer
-too_long = record { status = 10; text = codes "input too long\n" }
+too_long = record { status = statuses.too_long; text = codes "input too long\n" }

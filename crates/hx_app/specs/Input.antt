@@ -12,15 +12,12 @@ use Rattle.hx_script.specs.declared.faults.ScriptKind.TheVariants as kinds
 use Rattle.hx_script.specs.declared.faults.ScriptFault.{ScriptFault}
 use Rattle.hx_script.specs.Grammar.{then_ok, script_of}
 use Rattle.hx_desc.specs.Description.{is_demo, input_spec}
+use Rattle.hx_app.specs.Constants.{most_line, most_lines}
 use Rattle.hx_app.specs.declared.input.Scenario.{Scenario}
 use Rattle.hx_app.specs.declared.input.NotBuilt.{NotBuilt}
 use Rattle.hx_app.specs.declared.input.NotBuilt.TheVariants as unbuilt
 use Rattle.hx_app.specs.declared.input.InputFault.{InputFault}
 use Rattle.hx_app.specs.declared.input.InputFault.TheVariants as faults
-
--- the most bytes that a line of a script has
-abbrev pub most_line : ℕ
-most_line = 16384
 
 -- all lines of a script are tested as texts before any is read
 abbrev pub fault_by_text : TextFault → Option ScriptFault
@@ -51,10 +48,7 @@ is_built _ = false
 abbrev pub first_unbuilt : List Line → Option ℕ
 first_unbuilt lines = option_map (λ l. l.number) (find (λ l. not (is_built l.what)) lines)
 
--- how many lines a script may have so far, comments among them, and the first line past those
-abbrev pub most_lines : ℕ
-most_lines = 1000
-
+-- the first line past those that a script may have
 abbrev pub line_past : ℕ → Option ℕ
 line_past count = if nat_lt most_lines count then Some (most_lines + 1) else None
 

@@ -1,3 +1,4 @@
+pub mod Constants
 pub mod Demo
 pub mod DemoPlan
 pub mod FirstPath

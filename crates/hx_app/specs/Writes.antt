@@ -1,16 +1,33 @@
--- A text that is written for a status, and a status with its text.
-use Rattle.std.specs.Prelude.{◌≡◌, ◌⊎◌, ℕ, ◌≤◌, List, take, Option}
+-- An answer that is written.
+use Rattle.std.specs.Prelude.{◌≡◌, ◌⊎◌, ℕ, ◌<◌, ◌≤◌, List, length, take, Option}
 use Rattle.std.specs.Io.KnownBytes.{Appends}
 use Rattle.hx_lists.specs.Counts.{Rose}
 use Rattle.hx_app.specs.declared.program.Reply.{Reply}
+use Rattle.hx_app.specs.Constants.{write_fault}
 use Rattle.hx_app.specs.Answers.{Answer}
 
--- the text was written whole, and the status is its own; or the sink failed, has a front of the text, and the status is 6
-pub record Writes (status : ℕ) (text : List ℕ) (old new : Option (List ℕ)) (before now : ℕ) (result : ℕ) : Type 0 where
-  pub ended : ((result ≡ status) × Appends old new text) ⊎ ((result ≡ 6) × Rose before now × ((n : ℕ) × Appends old new (take n text)))
-  pub later : before ≤ now
+-- a sink at one moment: the bytes that it took, where it tells them, and how many calls have failed
+pub record SinkAt : Type 0 where
+  pub got : Option (List ℕ)
+  pub faults : ℕ
 
--- an answer as it is defined
+-- the text of an answer was written whole, and the status is its own
+pub record IsWhole (answer : Answer) (old new : SinkAt) (status : ℕ) : Type 0 where
+  pub own : status ≡ answer.status
+  pub text : Appends old.got new.got answer.text
+
+-- the sink failed: what went out is a front of the text, and not all of it
+pub record IsCut (answer : Answer) (old new : SinkAt) (status : ℕ) : Type 0 where
+  pub fault : status ≡ write_fault
+  pub rose : Rose old.faults new.faults
+  pub front : (n : ℕ) × (n < length answer.text) × Appends old.got new.got (take n answer.text)
+
+-- an answer was written, whole or cut. The count of faults never falls
+pub record Writes (answer : Answer) (old new : SinkAt) (status : ℕ) : Type 0 where
+  pub ended : IsWhole answer old new status ⊎ IsCut answer old new status
+  pub later : old.faults ≤ new.faults
+
+-- a reply is an answer as it is defined
 pub record AnswersAs (wanted : Answer) (reply : Reply) : Type 0 where
-  pub status : reply.status ≡ wanted.status
+  pub status : reply.status.0 ≡ wanted.status
   pub text : reply.text ≡ wanted.text

@@ -1,11 +1,13 @@
 //! What an input asks for, or why it isn't run.
-ghost use Rattle.std.specs.Prelude.{◌≡◌, ◌-◌, ◌^◌, ◌<◌, ◌≤◌, length, Ok, None, IfOk, IfErr};
+ghost use Rattle.std.specs.Prelude.{◌≡◌, ◌≤◌, length, Ok, None, IfOk, IfErr};
 ghost use Rattle.hx_text.specs.Lines.{lines_of};
 ghost use Rattle.hx_script.specs.Parsing.{IsReadable};
 ghost use Rattle.hx_desc.specs.Demo.{demo};
+ghost use Rattle.hx_app.specs.Constants.{most_bytes};
 ghost use Rattle.hx_app.specs.Input.{text_fault, script_in, is_built, first_unbuilt, line_past, lower, not_built_of, scenario_of};
 ghost use Rattle.hx_app.specs.Refusals.{Refuses, IsTextFault, RefusesScript};
 
+use crate::constants::{MOST_LINE, MOST_LINES};
 use hx_cluster::Spec;
 use hx_desc::{DescFault, DescRefusal, is_demo, read};
 use hx_lists::Seq;
@@ -72,15 +74,9 @@ impl From<ScriptRefusal> for InputRefusal {
     }
 }
 
-/// The most bytes that a line of a script has.
-const MOST_LINE: usize = 16_384;
-
-/// How many lines a script may have so far, comments among them.
-const MOST_LINES: u32 = 1000;
-
 /// The lines of a script, as texts.
 fn texts(alloc: Global, script: &[u8]) -> Result<Lines, ScriptRefusal>
-    requires { length script.now < 2 ^ 32 - 1 }
+    requires { length script.now ≤ most_bytes }
     ensures lines { IfOk result (λ lines. lines ≡ lines_of script.now) }
     ensures ok { IfOk result (λ _. text_fault script.now ≡ None) }
     ensures err { IfErr result (IsTextFault (text_fault script.now)) }
@@ -108,7 +104,7 @@ struct Script {
 
 /// Reads a script. The names that it brings are added to the description.
 fn read_script(alloc: Global, script: &[u8], spec: &mut Spec) -> Result<Script, ScriptRefusal>
-    requires short { length script.now < 2 ^ 32 - 1 }
+    requires short { length script.now ≤ most_bytes }
     requires readable { IsReadable spec.old (lines_of script.now) }
     ensures ok { IfOk result (λ s. script_in script.now spec.old ≡ Ok (s.lines.items, spec.new)) }
     ensures count { IfOk result (λ s. s.count ≡ length (lines_of script.now)) }
@@ -177,7 +173,7 @@ fn not_built(description: &[u8], script: &Script) -> Option<NotBuilt>
 
 /// What an input asks for.
 pub(crate) fn read_scenario(alloc: Global, bytes: &[u8]) -> Result<Scenario, InputRefusal>
-    requires { length bytes.now ≤ 16777216 }
+    requires { length bytes.now ≤ most_bytes }
     ensures ok { IfOk result (λ scenario. scenario_of bytes.now ≡ Ok scenario) }
     ensures demo { IfOk result (λ scenario. scenario.spec ≡ demo) }
     ensures err { IfErr result (Refuses (scenario_of bytes.now)) }

@@ -1,6 +1,7 @@
 //! The program: from the bytes of a source to the bytes of a sink.
 #![tactic(auto)]
 
+mod constants;
 mod demo_plan;
 mod input;
 mod kind_names;
@@ -9,8 +10,6 @@ mod program;
 mod script;
 mod world;
 
+pub use constants::Status;
 pub use hx_words::{RunMode, Task};
-pub use program::{Status, run, run_script};
-
-#[cfg(test)]
-mod tests;
+pub use program::{run, run_script, start};

@@ -1,11 +1,14 @@
 //! The run of the program: it reads a description and a script, and writes what comes of them.
-ghost use Rattle.std.specs.Prelude.{◌≡◌, ◌<◌, ◌≤◌, length, map, IfOk};
+ghost use Rattle.std.specs.Prelude.{◌≡◌, ◌<◌, ◌≤◌, length, map, Err, IfOk, MatchResult};
 ghost use Rattle.std.specs.String.{string_bytes};
+ghost use Rattle.std.specs.IoError.{error_kind};
 ghost use Rattle.hx_words.specs.Tasks.{HasRanges, HoldsOfAsked};
-ghost use Rattle.hx_app.specs.Answers.{fault_answer, answer_of};
-ghost use Rattle.hx_app.specs.Runs.{Runs, RunsWords};
-ghost use Rattle.hx_app.specs.Writes.{Writes, AnswersAs};
+ghost use Rattle.hx_app.specs.Constants.{most_bytes};
+ghost use Rattle.hx_app.specs.Answers.{fault_answer, answer_in, answer_of, words_refused};
+ghost use Rattle.hx_app.specs.Writes.{AnswersAs, Writes};
+ghost use Rattle.hx_app.specs.Runs.{Runs, RunsWords, HoldsOfTold, untold_by};
 
+use crate::constants::{MOST_BYTES, Status};
 use crate::input::{InputFault, InputRefusal, NotBuilt, read_scenario};
 use crate::kind_names::{desc_kind_name, script_kind_name};
 use crate::script::script_page;
@@ -13,27 +16,17 @@ use hx_desc::DescFault;
 use hx_io::{ReadFault, Sink, Source, read_all, write_all};
 use hx_script::ScriptFault;
 use hx_text::{Page, Piece};
-use hx_words::{Task, Words, WordsFault, read_words, usage, version};
+use hx_words::{RunMode, Task, Words, WordsFault, read_words, usage, version};
 use std::alloc::{AllocError, Global};
+use std::io;
+use std::io::ErrorKind;
 use std::sync::Wait;
 use std::thread::Threads;
-
-/// How a run ended: 0 where its work was done.
-#[derive(Clone, Copy, Debug, PartialEq, Eq)]
-pub struct Status(pub u8);
-
-/// The most bytes that are read.
-const MOST_BYTES: usize = 16_777_216;
-
-/// The status of an input whose description isn't run, and of one whose script isn't.
-const DESCRIPTION_REFUSED: u8 = 3;
-
-const SCRIPT_REFUSED: u8 = 4;
 
 /// A status with its text.
 #[derive(Drop)]
 struct Reply {
-    status: u8,
+    status: Status,
     text: Page,
 }
 
@@ -60,7 +53,7 @@ fn description_refused(alloc: Global, fault: &DescFault) -> Result<Reply, AllocE
         Piece::Text("\n"),
     ])?;
     Ok(Reply {
-        status: DESCRIPTION_REFUSED,
+        status: Status::DESCRIPTION_REFUSED,
         text,
     })
 }
@@ -77,7 +70,7 @@ fn script_refused(alloc: Global, fault: &ScriptFault) -> Result<Reply, AllocErro
         Piece::Text("\n"),
     ])?;
     Ok(Reply {
-        status: SCRIPT_REFUSED,
+        status: Status::SCRIPT_REFUSED,
         text,
     })
 }
@@ -90,7 +83,7 @@ fn not_built(alloc: Global, part: NotBuilt) -> Result<Reply, AllocError>
         NotBuilt::Description => {
             text.push_str("description not-built $\n")?;
             Ok(Reply {
-                status: DESCRIPTION_REFUSED,
+                status: Status::DESCRIPTION_REFUSED,
                 text,
             })
         }
@@ -101,21 +94,21 @@ fn not_built(alloc: Global, part: NotBuilt) -> Result<Reply, AllocError>
                 Piece::Text(" not-built\n"),
             ])?;
             Ok(Reply {
-                status: SCRIPT_REFUSED,
+                status: Status::SCRIPT_REFUSED,
                 text,
             })
         }
     }
 }
 
-/// The answer to an input.
-fn answer(alloc: Global, bytes: &[u8]) -> Result<Reply, AllocError>
-    requires { length bytes.now ≤ 16777216 }
-    ensures { IfOk result (AnswersAs (answer_of bytes.now)) }
+/// The answer to an input whose script is run line by line.
+fn simulated(alloc: Global, bytes: &[u8]) -> Result<Reply, AllocError>
+    requires { length bytes.now ≤ most_bytes }
+    ensures { IfOk result (AnswersAs (answer_in RunMode.Sim bytes.now)) }
 {
     match read_scenario(alloc, bytes) {
         Ok(scenario) => Ok(Reply {
-            status: 0,
+            status: Status::DONE,
             text: script_page(alloc, &scenario.spec, scenario.lines.as_slice())?,
         }),
         Err(InputRefusal::Fault(fault)) => refused(alloc, &fault),
@@ -123,34 +116,48 @@ fn answer(alloc: Global, bytes: &[u8]) -> Result<Reply, AllocError>
     }
 }
 
-/// Writes a text for a status. A sink that refuses gives 6 in its place.
-fn write<K: Sink>(status: u8, text: &[u8], out: &mut K) -> Status
-    ensures { Writes status text.now (K.got out.old) (K.got out.new) (K.faults out.old) (K.faults out.new) result.0 }
+/// The answer to an input, as the task asks.
+fn answer(alloc: Global, task: Task, bytes: &[u8]) -> Result<Reply, AllocError>
+    requires { length bytes.now ≤ most_bytes }
+    ensures { IfOk result (AnswersAs (answer_of task bytes.now)) }
 {
-    match write_all(out, text) {
-        Ok(()) => Status(status),
-        Err(_) => Status(6),
+    match task.mode {
+        RunMode::Sim => simulated(alloc, bytes),
     }
 }
 
-/// Does a script.
-pub fn run_script<S: Source, K: Sink>(alloc: Global, task: Task, src: &mut S, out: &mut K) -> Status
-    requires { HasRanges task }
-    ensures { Runs
-        (record { left = S.left src.old; got = K.got out.old; source_faults = S.faults src.old; sink_faults = K.faults out.old })
-        (record { left = S.left src.new; got = K.got out.new; source_faults = S.faults src.new; sink_faults = K.faults out.new })
+/// Writes a text for a status. A sink that fails gives another in its place.
+fn write<K: Sink>(status: Status, text: &[u8], out: &mut K) -> Status
+    ensures { Writes (record { status = status.0; text = text.now })
+        (record { got = K.got out.old; faults = K.faults out.old })
+        (record { got = K.got out.new; faults = K.faults out.new })
         result.0 }
 {
-    let _ = task;
+    match write_all(out, text) {
+        Ok(()) => status,
+        Err(_) => Status::WRITE_FAULT,
+    }
+}
+
+/// Does a task on what the source gives.
+pub fn run_script<S: Source, K: Sink>(alloc: Global, task: Task, src: &mut S, out: &mut K) -> Status
+    requires { HasRanges task }
+    ensures { Runs task
+        (record { left = S.left src.old; faults = S.faults src.old })
+        (record { left = S.left src.new; faults = S.faults src.new })
+        (record { got = K.got out.old; faults = K.faults out.old })
+        (record { got = K.got out.new; faults = K.faults out.new })
+        result.0 }
+{
     let bytes = match read_all(alloc, src, MOST_BYTES) {
         Ok(bytes) => bytes,
-        Err(ReadFault::Failed) => return write(5, b"read fault\n", out),
-        Err(ReadFault::TooLong) => return write(10, b"input too long\n", out),
-        Err(ReadFault::OutOfMemory) => return Status(7),
+        Err(ReadFault::Failed) => return write(Status::READ_FAULT, b"read fault\n", out),
+        Err(ReadFault::TooLong) => return write(Status::TOO_LONG, b"input too long\n", out),
+        Err(ReadFault::OutOfMemory) => return Status::NO_MEMORY,
     };
-    match answer(alloc, &bytes) {
+    match answer(alloc, task, &bytes) {
         Ok(reply) => write(reply.status, reply.text.as_bytes(), out),
-        Err(AllocError) => Status(7),
+        Err(AllocError) => Status::NO_MEMORY,
     }
 }
 
@@ -166,16 +173,79 @@ pub fn run<R: Threads + Wait + Sync, S: Source, K: Sink>(
 ) -> Status
     requires { 0 < length words.now }
     ensures { HoldsOfAsked (map string_bytes words.now) (RunsWords
-        (record { left = S.left src.old; got = K.got out.old; source_faults = S.faults src.old; sink_faults = K.faults out.old })
-        (record { left = S.left src.new; got = K.got out.new; source_faults = S.faults src.new; sink_faults = K.faults out.new })
+        (record { left = S.left src.old; faults = S.faults src.old })
+        (record { left = S.left src.new; faults = S.faults src.new })
+        (record { got = K.got out.old; faults = K.faults out.old })
+        (record { got = K.got out.new; faults = K.faults out.new })
         result.0) }
 {
     let _ = rt;
     match read_words(alloc, words) {
         Ok(Words::Run(task)) => run_script(alloc, task, src, out),
-        Ok(Words::Help) => write(0, usage().as_bytes(), out),
-        Ok(Words::Version) => write(0, version().as_bytes(), out),
-        Err(WordsFault::Refused) => write(2, b"words refused\n", out),
-        Err(WordsFault::OutOfMemory) => Status(7),
+        Ok(Words::Help) => write(Status::DONE, usage().as_bytes(), out),
+        Ok(Words::Version) => write(Status::DONE, version().as_bytes(), out),
+        Err(WordsFault::Refused) => refuse_words(out),
+        Err(WordsFault::OutOfMemory) => Status::NO_MEMORY,
+    }
+}
+
+/// Writes that the words are refused.
+fn refuse_words<K: Sink>(out: &mut K) -> Status
+    ensures { Writes words_refused
+        (record { got = K.got out.old; faults = K.faults out.old })
+        (record { got = K.got out.new; faults = K.faults out.new })
+        result.0 }
+{
+    write(Status::WORDS_REFUSED, b"words refused\n", out)
+}
+
+/// Runs the program on its words, of which there may be none: these are refused.
+fn run_told<R: Threads + Wait + Sync, S: Source, K: Sink>(
+    rt: &R,
+    alloc: Global,
+    words: &[String],
+    src: &mut S,
+    out: &mut K,
+) -> Status
+    ensures { HoldsOfTold (map string_bytes words.now) (RunsWords
+        (record { left = S.left src.old; faults = S.faults src.old })
+        (record { left = S.left src.new; faults = S.faults src.new })
+        (record { got = K.got out.old; faults = K.faults out.old })
+        (record { got = K.got out.new; faults = K.faults out.new })
+        result.0) }
+{
+    if words.is_empty() {
+        return refuse_words(out);
+    }
+    run(rt, alloc, words, src, out)
+}
+
+/// Runs the program on its words as the system tells them: an error where one of them isn't text.
+///
+/// Such words are refused, and so are none at all.
+pub fn start<R: Threads + Wait + Sync, S: Source, K: Sink>(
+    rt: &R,
+    alloc: Global,
+    words: io::Result<Vec<String>>,
+    src: &mut S,
+    out: &mut K,
+) -> Status
+    ensures { let Holds = RunsWords
+        (record { left = S.left src.old; faults = S.faults src.old })
+        (record { left = S.left src.new; faults = S.faults src.new })
+        (record { got = K.got out.old; faults = K.faults out.old })
+        (record { got = K.got out.new; faults = K.faults out.new })
+        result.0
+        in
+        MatchResult words
+        (λ words. HoldsOfTold (map string_bytes words.items) Holds)
+        (λ error. Holds (Err (untold_by (error_kind error)))) }
+{
+    match words {
+        Ok(words) => run_told(rt, alloc, &words, src, out),
+        Err(error) => match error.kind() {
+            ErrorKind::OutOfMemory => Status::NO_MEMORY,
+            _ => refuse_words(out),
+        },
     }
 }

@@ -1,0 +1,240 @@
+use hx_app::{RunMode, Status, Task, run_script, start};
+use hx_io::{MemSink, MemSource};
+use std::alloc::{AllocError, Global};
+use std::env::{Env, FillError};
+use std::sync::Wait;
+use std::test::Fail;
+use std::thread::Threads;
+use std::{env, io};
+
+/// How a run ended, and what it wrote.
+#[derive(Drop)]
+struct Ran {
+    status: Status,
+    got: Vec<u8>,
+}
+
+const TASK: Task = Task {
+    mode: RunMode::Sim,
+    lanes: 4,
+    rounds: 10,
+    seed: 1,
+    size: 64,
+};
+
+/// Runs an input through a source whose given calls fail, and a sink that takes so many bytes.
+fn run_on(alloc: Global, input: &str, fails: &[u64], most: u64) -> Result<Ran, AllocError> {
+    let bytes = Vec::from_slice(alloc, input.as_bytes())?;
+    let mut source = MemSource::new(bytes, Vec::from_slice(alloc, fails)?);
+    let mut sink = MemSink::new(alloc, Vec::new(alloc), most);
+    let status = run_script(alloc, TASK, &mut source, &mut sink);
+    let got = Vec::from_slice(alloc, sink.got())?;
+    Ok(Ran { status, got })
+}
+
+const PLENTY: u64 = 1 << 20;
+
+const EMPTY: &str = "builtin demo\n---\n";
+
+const EMPTY_VIEW: &str = "= db#0/0 -\n= db#0/1 -\n";
+
+const ONE_INSTANCE: &str = "builtin demo\n---\njoin n1\nlead c1\npass c1\nwork n1\nview\n";
+
+const ITS_OUTPUT: &str = "line 1
+join n1 s1
+line 2
+lead c1 e1
+line 3
+begin c1 e1 p1
+live c1 p1
+mail c1 p1 s1
+states c1 p1 s1
+ideals c1 p1
+send c1 e1 p1
+  sent m1 s1 db#0/0 OFFLINE>ONLINE
+  sent m2 s1 db#0/1 OFFLINE>ONLINE
+? c1 sent 2
+post c1 e1 0
+line 4
+fetch n1 s1 2
+take s1 m1
+write s1 m1 ok
+ack s1 m1
+take s1 m2
+write s1 m2 ok
+ack s1 m2
+line 5
+= db#0/0 n1:ONLINE
+= db#0/1 n1:ONLINE
+= db#0/0 n1:ONLINE
+= db#0/1 n1:ONLINE
+";
+
+/// A valid description that isn't the demo's.
+const ONE_PARTITION: &str =
+    r#"{"version":1,"controllers":2,"timeout":30,"instances":["n1","n2","n3"],
+ "resources":[{"name":"db","model":"MasterSlave","replicas":3,"partitions":1,
+ "mode":"SEMI_AUTO","lists":[["n1","n2","n3"]]}]}
+---
+"#;
+
+const UNKNOWN_INSTANCE: &str =
+    r#"{"version":1,"controllers":2,"timeout":30,"instances":["n1","n2","n3"],
+ "resources":[{"name":"db","model":"MasterSlave","replicas":3,"partitions":1,
+ "mode":"SEMI_AUTO","lists":[["n1","n9","n3"]]}]}
+---
+"#;
+
+const ZERO_BOUND: &str = r#"{"version":1,"controllers":2,"timeout":30,"instances":["n1","n2","n3"],
+ "resources":[{"name":"db","model":"MasterSlave","replicas":3,"partitions":1,
+ "mode":"SEMI_AUTO","lists":[["n1","n2","n3"]]}],
+ "models":[{"name":"Swap","initial":"OFFLINE",
+ "states":[{"name":"P","bound":"0"},{"name":"Q","bound":"2"},{"name":"OFFLINE","bound":"-1"}],
+ "transitions":["OFFLINE>Q","Q>P","P>Q","Q>OFFLINE","OFFLINE>DROPPED"]}]}
+---
+"#;
+
+#[test]
+fn inputs_are_answered(rt: HostRuntime) -> Result<(), Fail> {
+    for (input, status, output) in [
+        (EMPTY, Status::DONE, EMPTY_VIEW),
+        (ONE_INSTANCE, Status::DONE, ITS_OUTPUT),
+        (
+            "builtin demo\n",
+            Status::DESCRIPTION_REFUSED,
+            "description no-separator $\n",
+        ),
+        (
+            "{\"a\":\"b\n---\n",
+            Status::DESCRIPTION_REFUSED,
+            "description bad-json $\n",
+        ),
+        (
+            UNKNOWN_INSTANCE,
+            Status::DESCRIPTION_REFUSED,
+            "description unknown-instance $.resources[0].lists[0][1]\n",
+        ),
+        (
+            ZERO_BOUND,
+            Status::DESCRIPTION_REFUSED,
+            "description zero-bound $.models[0].states[0].bound\n",
+        ),
+        (
+            ONE_PARTITION,
+            Status::DESCRIPTION_REFUSED,
+            "description not-built $\n",
+        ),
+        (
+            "builtin demo\n---\njoin n1\nsettle\njion n1\n",
+            Status::SCRIPT_REFUSED,
+            "script 3 unknown-word\n",
+        ),
+        (
+            "builtin demo\n---\ntick 1\nwork n9\n",
+            Status::SCRIPT_REFUSED,
+            "script 2 unknown-instance\n",
+        ),
+        (
+            "builtin demo\n---\n#\ntick 1\n",
+            Status::SCRIPT_REFUSED,
+            "script 2 not-built\n",
+        ),
+    ] {
+        let ran = run_on(rt.alloc(), input, &[], PLENTY)?;
+        assert_eq!(rt; ran.status, status, "of {input}");
+        assert!(rt; ran.got.as_slice() == output.as_bytes(), "of {input}");
+    }
+    Ok(())
+}
+
+#[test]
+fn sources_and_sinks_fail(rt: HostRuntime) -> Result<(), Fail> {
+    let second_call = [2].as_slice();
+    for (fails, most, status, output) in [
+        (second_call, PLENTY, Status::READ_FAULT, "read fault\n"),
+        (second_call, 10, Status::WRITE_FAULT, "read fault"),
+        ([].as_slice(), 10, Status::WRITE_FAULT, "line 1\njoi"),
+    ] {
+        let ran = run_on(rt.alloc(), ONE_INSTANCE, fails, most)?;
+        assert_eq!(rt; ran.status, status, "of {output}");
+        assert!(rt; ran.got.as_slice() == output.as_bytes(), "of {output}");
+    }
+    Ok(())
+}
+
+/// A system that tells these words, which need not be text.
+#[derive(Clone, Copy)]
+struct Told<'a> {
+    words: &'a [&'a [u8]],
+}
+
+impl Env for Told<'_> {
+    fn arg(&self, i: usize, buf: &mut [u8]) -> Result<usize, FillError> {
+        let Some(word) = self.words.get(i) else {
+            return Err(FillError::NotPresent);
+        };
+        if word.len() > buf.len() {
+            return Err(FillError::TooLong);
+        }
+        buf[..word.len()].copy_from_slice(word);
+        Ok(word.len())
+    }
+
+    fn var(&self, _name: &str, _buf: &mut [u8]) -> Result<usize, FillError> {
+        Err(FillError::NotPresent)
+    }
+
+    fn var_at(&self, _i: usize, _buf: &mut [u8]) -> Result<usize, FillError> {
+        Err(FillError::NotPresent)
+    }
+}
+
+/// Runs the program on words that the system tells, and the empty script.
+fn run_told<R: Threads + Wait + Sync>(
+    rt: &R,
+    alloc: Global,
+    words: &[&[u8]],
+) -> Result<Ran, AllocError> {
+    let told = env::args(&(Told { words }, alloc));
+    let words: io::Result<Vec<String>> = told.and_then(|words| Ok(words.collect(alloc)?));
+    let bytes = Vec::from_slice(alloc, EMPTY.as_bytes())?;
+    let mut source = MemSource::new(bytes, Vec::new(alloc));
+    let mut sink = MemSink::new(alloc, Vec::new(alloc), PLENTY);
+    let status = start(rt, alloc, words, &mut source, &mut sink);
+    let got = Vec::from_slice(alloc, sink.got())?;
+    Ok(Ran { status, got })
+}
+
+#[test]
+fn words_are_answered(rt: HostRuntime) -> Result<(), Fail> {
+    let name = b"fodderca".as_slice();
+    for (words, status, output) in [
+        ([name].as_slice(), Status::DONE, EMPTY_VIEW),
+        (
+            [name, b"--mode=sim".as_slice()].as_slice(),
+            Status::DONE,
+            EMPTY_VIEW,
+        ),
+        (
+            [name, b"--version".as_slice()].as_slice(),
+            Status::DONE,
+            "fodderca 0.1.0\n",
+        ),
+        (
+            [name, b"--mode=fast".as_slice()].as_slice(),
+            Status::WORDS_REFUSED,
+            "words refused\n",
+        ),
+        (
+            [name, b"--mode=\xff".as_slice()].as_slice(),
+            Status::WORDS_REFUSED,
+            "words refused\n",
+        ),
+        ([].as_slice(), Status::WORDS_REFUSED, "words refused\n"),
+    ] {
+        let ran = run_told(&rt, rt.alloc(), words)?;
+        assert_eq!(rt; ran.status, status, "of {words:?}");
+        assert!(rt; ran.got.as_slice() == output.as_bytes(), "of {words:?}");
+    }
+    Ok(())
+}
