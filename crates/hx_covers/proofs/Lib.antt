@@ -1,6 +1,3 @@
-pub mod Fronts
-pub mod On
-pub mod Calming
 pub mod Fits
 pub mod Calls
 pub mod Sorting

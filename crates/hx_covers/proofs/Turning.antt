@@ -22,9 +22,9 @@ use Rattle.hx_pass.specs.Turns.{Call, Live, Mail, States, Ideals, Send, Post, Tu
 use Rattle.hx_safe.proofs.Counting.{and-first, and-second, and-both, any-append, all-append, all-le, all-map}
 use Rattle.hx_safe.proofs.Ends.{same-self}
 use Rattle.hx_safe.proofs.Fixed.{IsFixed}
-use Rattle.hx_covers.specs.Onward.{is_same_kind, has_same_replicas, IsOn}
+use Rattle.hx_runs.specs.Onward.{is_same_kind, has_same_replicas, IsOn}
 use Rattle.hx_covers.specs.Reading.{may_follow, is_in_order_from, is_in_order, is_unread, is_read, IsTurn}
-use Rattle.hx_covers.proofs.Fronts.{front-self, front-both, kind-self, kind-both, replicas-self, replicas-both}
+use Rattle.hx_runs.proofs.Fronts.{front-self, front-both, kind-self, kind-both, replicas-self, replicas-both}
 use Rattle.hx_covers.proofs.Calls.{order_rest, live_no_more, calls_in_order, calls_once, call_no_more}
 use Rattle.hx_covers.proofs.Sorting.{all-sort}
 use Rattle.hx_covers.proofs.Viewing.{beside, formed_same, formed_on, formed_nothing, with_mail, formed_mail, with_states, formed_states, with_sessions, formed_live, own_shown, sessions_once, each_shown}

@@ -25,7 +25,7 @@ use Rattle.hx_safe.proofs.Fixed.{IsFixed, fixed_self, fixed_both, fixed_next}
 use Rattle.hx_safe.proofs.Ranges.{ranged_next}
 use Rattle.hx_safe.proofs.Whole.{IsWhole, whole_next, whole_opening, sound_from, ranged_opening, length-replicate}
 use Rattle.hx_covers.specs.Reading.{is_read, view_with, IsTurn}
-use Rattle.hx_covers.proofs.On.{on_next}
+use Rattle.hx_runs.proofs.On.{on_next}
 use Rattle.hx_covers.proofs.Viewing.{beside, with_mail, with_states}
 use Rattle.hx_covers.proofs.Turning.{turn_on, turn_idle, turn_begun, turn_live, turn_mail, turn_states, turn_ideals, turn_send}
 

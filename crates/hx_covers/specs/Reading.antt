@@ -9,7 +9,7 @@ use Rattle.hx_cluster.specs.Ends.{is_live, shown_of, is_shown, instance_in}
 use Rattle.hx_cluster.specs.Reads.{ideals_shown, nothing_shown}
 use Rattle.hx_cluster.specs.Views.{is_well_formed}
 use Rattle.hx_pass.specs.Turns.{Call, Live, Mail, States, Ideals, Send, Post, same_call, is_first, Turn}
-use Rattle.hx_covers.specs.Onward.{is_front, is_same_kind, has_same_replicas}
+use Rattle.hx_runs.specs.Onward.{is_front, is_same_kind, has_same_replicas}
 
 -- which call follows another, and which are last
 abbrev pub may_follow : Call → Call → Bool
