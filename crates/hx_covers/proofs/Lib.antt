@@ -4,3 +4,7 @@ pub mod Sorting
 pub mod Viewing
 pub mod Turning
 pub mod Whole
+pub mod Leads
+pub mod Covering
+pub mod Owning
+pub mod Covered

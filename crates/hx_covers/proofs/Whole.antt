@@ -139,7 +139,7 @@ ground c w ranged = record {
   sessions = record { numbers = w.kept.numbers; below = w.kept.below; instances = w.seated.instances; beats = w.seated.beats; leader = w.seated.leader };
 }
 
-turn_next : (c : Cluster) (k : ControllerId) (t : Turn) (e : Event) → IsWhole c → IsRanged c → IsStep c e → IsTurn c t → IsTurn (next c e) (turn_after c k t e)
+pub turn_next : (c : Cluster) (k : ControllerId) (t : Turn) (e : Event) → IsWhole c → IsRanged c → IsStep c e → IsTurn c t → IsTurn (next c e) (turn_after c k t e)
 turn_next c k t e w ranged step h =
     turn_on c (next c e) (turn_after c k t e) (on_next c e w.kept.numbers) (fixed_next c e) (ranged_next c e ranged step)
     (turn_call c k t e (ground c w ranged) step h)

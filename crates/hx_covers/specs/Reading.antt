@@ -57,6 +57,9 @@ pub record IsTurn (c : Cluster) (t : Turn) : Type 0 where
   pub once : (call : Call) → count (same_call call) t.left ≤ 1
   pub unread : list_all (is_unread t.view) t.left ≡ true
   pub nothing : is_first Live t.left ≡ true → t.view ≡ nothing_shown
+  -- the states of a session are read after its mail
+  pub mail_first : (s : SessionId) → list_any (same_call (Mail s)) t.left ≡ true
+      → list_any (same_call (States s)) t.left ≡ true
   -- shown sessions have old numbers, and those that are live their own instances
   pub below : list_all (λ e. nat_lt e.0.0 c.next_session) t.view.live ≡ true
   pub own : (s : SessionId) → is_live c.live s ≡ true → is_shown t.view.live s ≡ true

@@ -47,7 +47,7 @@ pub record IsWaiting (c : Cluster) (m : Message) (taken : Bool) : Type 0 where
   pub there : is_live c.live m.session ≡ true → list_any (waits m taken) c.mail ≡ true
 
 -- tests of lists
-any-le : {X : Type 0} (p q : X → Bool) (h : (x : X) → p x ≡ true → q x ≡ true) (xs : List X) → list_any p xs ≡ true → list_any q xs ≡ true
+pub any-le : {X : Type 0} (p q : X → Bool) (h : (x : X) → p x ≡ true → q x ≡ true) (xs : List X) → list_any p xs ≡ true → list_any q xs ≡ true
 any-le p q h [] e = cc
 any-le p q h (x ∷ xs) e = grind (arith, e, h x, any-le p q h xs)
 
@@ -59,7 +59,7 @@ any-both : {X : Type 0} (p r : X → Bool) (xs : List X) → list_any p xs ≡ t
 any-both p r [] e all = cc
 any-both p r (x ∷ xs) e all = grind (arith, e, all, any-both p r xs)
 
-any-one : {X : Type 0} (p : X → Bool) (xs : List X) → list_any p xs ≡ true → (x : X) × (p x ≡ true) × ((q : X → Bool) → list_all q xs ≡ true → q x ≡ true)
+pub any-one : {X : Type 0} (p : X → Bool) (xs : List X) → list_any p xs ≡ true → (x : X) × (p x ≡ true) × ((q : X → Bool) → list_all q xs ≡ true → q x ≡ true)
 any-one p [] e = cc
 any-one {X} p (x ∷ xs) e = one (p x) refl e (λ w. any-one p xs w)
   where
@@ -69,7 +69,7 @@ any-one {X} p (x ∷ xs) e = one (p x) refl e (λ w. any-one p xs w)
     one false is w rest = let more = rest w in (more.0, more.1, λ q all. more.2 q (and-second (q x) (list_all q xs) all))
 
 -- where at most one passes a test, and what passes another passes it too
-any-single : {X : Type 0} (p q r : X → Bool) → ((x : X) → p x ≡ true → q x ≡ true) → ((x : X) → p x ≡ true → r x ≡ true) → (xs : List X) → list_any p xs ≡ true → count q xs ≤ 1
+pub any-single : {X : Type 0} (p q r : X → Bool) → ((x : X) → p x ≡ true → q x ≡ true) → ((x : X) → p x ≡ true → r x ≡ true) → (xs : List X) → list_any p xs ≡ true → count q xs ≤ 1
     → list_all (λ x. not (q x) || r x) xs ≡ true
 any-single p q r h g [] e most = cc
 any-single {X} p q r h g (x ∷ xs) e most = one (p x) refl e (λ w few. any-single p q r h g xs w few)
