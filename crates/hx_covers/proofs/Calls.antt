@@ -1,12 +1,12 @@
 -- The calls of a turn: their order, and that each stands once.
-use Rattle.std.proofs.Common.{◌≡◌, ℕ, ◌+◌, ◌≤◌, ◌==◌, Bool, true, false, List, [], ◌∷◌, ◌++◌, map, refl, arith}
+use Rattle.std.proofs.Common.{◌≡◌, ℕ, ◌||◌, ◌∙◌, sym, ◌+◌, ◌≤◌, ◌==◌, Bool, true, false, List, [], ◌∷◌, ◌++◌, map, refl, arith}
 use Rattle.std.specs.List.{list_any}
 use Rattle.std.proofs.lemmas.Bool.Decides.{nat_tests}
 use Rattle.hx_lists.specs.Lists.{count}
 use Rattle.hx_ids.specs.declared.InstanceId.{InstanceId}
 use Rattle.hx_ids.specs.declared.SessionId.{SessionId}
 use Rattle.hx_pass.specs.Turns.{Call, Live, Mail, States, Ideals, Send, Post, same_call, is_first, calls_after_live}
-use Rattle.hx_safe.proofs.Counting.{count-append, count-map, and-first, and-second}
+use Rattle.hx_safe.proofs.Counting.{any-append, count-append, count-map, and-first, and-second}
 use Rattle.hx_safe.proofs.Ends.{same-self}
 use Rattle.hx_covers.specs.Reading.{may_follow, is_in_order_from, is_in_order}
 
@@ -114,3 +114,84 @@ call_no_more call rest once = one (list_any (same_call call) rest) refl
     one : (b : Bool) → list_any (same_call call) rest ≡ b → b ≡ false
     one true is = absurd (grind (arith, once, call_self call, there rest is))
     one false is = refl
+
+-- after live both the mail and the states of a session are left, or neither
+map-any : {X : Type 0} (p : Call → Bool) (f : X → Call) (xs : List X) → list_any p (map f xs) ≡ list_any (λ x. p (f x)) xs
+map-any p f [] = refl
+map-any p f (x ∷ xs) = grind (arith, map-any p f xs)
+
+never : {X : Type 0} (p : X → Bool) → ((x : X) → p x ≡ false) → (xs : List X) → list_any p xs ≡ false
+never p h [] = refl
+never p h (x ∷ xs) = grind (arith, h x, never p h xs)
+
+left_mail : (live : List (SessionId × InstanceId)) (s : SessionId) → list_any (same_call (Mail s)) (calls_after_live live) ≡ list_any (λ (e : SessionId × InstanceId). s.0 == e.0.0) live
+left_mail live s =
+    let none : list_any (same_call (Mail s)) (map (λ (e : SessionId × InstanceId). States e.0) live) ≡ false
+    = map-any (same_call (Mail s)) (λ (e : SessionId × InstanceId). States e.0) live ∙ never (λ (e : SessionId × InstanceId). same_call (Mail s) (States e.0)) (λ e. refl) live in
+    any-append (same_call (Mail s)) (map (λ (e : SessionId × InstanceId). Mail e.0) live ++ map (λ (e : SessionId × InstanceId). States e.0) live) (Ideals ∷ Send ∷ Post ∷ [])
+    ∙ one (list_any (same_call (Mail s)) (map (λ (e : SessionId × InstanceId). Mail e.0) live ++ map (λ (e : SessionId × InstanceId). States e.0) live)) _
+    (any-append (same_call (Mail s)) (map (λ (e : SessionId × InstanceId). Mail e.0) live) (map (λ (e : SessionId × InstanceId). States e.0) live))
+    (map-any (same_call (Mail s)) (λ (e : SessionId × InstanceId). Mail e.0) live) none
+  where
+    one : (a d : Bool) → {b f : Bool} → a ≡ (b || f) → b ≡ d → f ≡ false → (a || false) ≡ d
+    one a d is at none = grind (arith, is, at, none)
+
+left_states : (live : List (SessionId × InstanceId)) (s : SessionId) → list_any (same_call (States s)) (calls_after_live live) ≡ list_any (λ (e : SessionId × InstanceId). s.0 == e.0.0) live
+left_states live s =
+    let none : list_any (same_call (States s)) (map (λ (e : SessionId × InstanceId). Mail e.0) live) ≡ false
+    = map-any (same_call (States s)) (λ (e : SessionId × InstanceId). Mail e.0) live ∙ never (λ (e : SessionId × InstanceId). same_call (States s) (Mail e.0)) (λ e. refl) live in
+    any-append (same_call (States s)) (map (λ (e : SessionId × InstanceId). Mail e.0) live ++ map (λ (e : SessionId × InstanceId). States e.0) live) (Ideals ∷ Send ∷ Post ∷ [])
+    ∙ one (list_any (same_call (States s)) (map (λ (e : SessionId × InstanceId). Mail e.0) live ++ map (λ (e : SessionId × InstanceId). States e.0) live)) _
+    (any-append (same_call (States s)) (map (λ (e : SessionId × InstanceId). Mail e.0) live) (map (λ (e : SessionId × InstanceId). States e.0) live)) none
+    (map-any (same_call (States s)) (λ (e : SessionId × InstanceId). States e.0) live)
+  where
+    one : (a d : Bool) → {b f : Bool} → a ≡ (b || f) → b ≡ false → f ≡ d → (a || false) ≡ d
+    one a d is none at = grind (arith, is, at, none)
+
+pub both_left : (live : List (SessionId × InstanceId)) (s : SessionId) → list_any (same_call (Mail s)) (calls_after_live live) ≡ true → list_any (same_call (States s)) (calls_after_live live) ≡ true
+both_left live s e = left_states live s ∙ sym (left_mail live s) ∙ e
+
+-- and they are those of the shown sessions
+shown-turned : (live : List (SessionId × InstanceId)) (s : SessionId) → list_any (λ (e : SessionId × InstanceId). s.0 == e.0.0) live ≡ list_any (λ (e : SessionId × InstanceId). e.0.0 == s.0) live
+shown-turned [] s = refl
+shown-turned (e ∷ live) s = grind (arith, nat_tests, shown-turned live s)
+
+pub mail_left : (live : List (SessionId × InstanceId)) (s : SessionId) → list_any (same_call (Mail s)) (calls_after_live live) ≡ list_any (λ (e : SessionId × InstanceId). e.0.0 == s.0) live
+mail_left live s = left_mail live s ∙ shown-turned live s
+
+pub states_left : (live : List (SessionId × InstanceId)) (s : SessionId) → list_any (same_call (States s)) (calls_after_live live) ≡ list_any (λ (e : SessionId × InstanceId). e.0.0 == s.0) live
+states_left live s = left_states live s ∙ shown-turned live s
+
+-- behind the states of one session comes the mail of none
+abbrev pub is_mail : Call → Bool
+is_mail (Mail s) = true
+is_mail _ = false
+
+pub no_mail_behind : (a : Call) (rest : List Call) (s : SessionId) → is_in_order (a ∷ rest) ≡ true → is_mail a ≡ false → list_any (same_call (Mail s)) rest ≡ false
+no_mail_behind a [] s e other = refl
+no_mail_behind a (b ∷ rest) s e other =
+    let next : is_mail b ≡ false = one a b (and-first (may_follow a b) (is_in_order_from b rest) e) other in
+    let more = no_mail_behind b rest s (and-second (may_follow a b) (is_in_order_from b rest) e) next in
+    let here = two b next in
+    grind (arith, more, here)
+  where
+    one : (a b : Call) → may_follow a b ≡ true → is_mail a ≡ false → is_mail b ≡ false
+    one (Mail s) b e w = cc
+    one Live (Mail t) e w = cc
+    one (States s) (Mail t) e w = cc
+    one Ideals (Mail t) e w = cc
+    one Send (Mail t) e w = cc
+    one Post (Mail t) e w = cc
+    one a Live e w = refl
+    one a (States t) e w = refl
+    one a Ideals e w = refl
+    one a Send e w = refl
+    one a Post e w = refl
+
+    two : (b : Call) → is_mail b ≡ false → same_call (Mail s) b ≡ false
+    two (Mail t) w = cc
+    two Live w = refl
+    two (States t) w = refl
+    two Ideals w = refl
+    two Send w = refl
+    two Post w = refl

@@ -27,8 +27,8 @@ use Rattle.hx_cluster.specs.Views.{is_good_part, is_good_state, is_good_row, is_
 use Rattle.hx_safe.proofs.Counting.{and-first, and-second, and-both, and-three, and-four, and-six}
 use Rattle.hx_safe.proofs.Ideals.{none_from, good_mode, mode_of_good}
 use Rattle.hx_safe.proofs.Models.{IsGood, good_model}
-use Rattle.hx_covers.specs.Onward.{is_front, is_same_kind}
-use Rattle.hx_covers.proofs.Fronts.{front-get}
+use Rattle.hx_runs.specs.Onward.{is_front, is_same_kind}
+use Rattle.hx_runs.proofs.Fronts.{front-get}
 
 -- whether a state is ERROR or of a part's model
 abbrev pub may_stand : List ModelParts → List Resource → PartId → StateId → Bool

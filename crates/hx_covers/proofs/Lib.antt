@@ -1,9 +1,10 @@
-pub mod Fronts
-pub mod On
-pub mod Calming
 pub mod Fits
 pub mod Calls
 pub mod Sorting
 pub mod Viewing
 pub mod Turning
 pub mod Whole
+pub mod Leads
+pub mod Covering
+pub mod Owning
+pub mod Covered

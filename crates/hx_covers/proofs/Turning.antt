@@ -22,10 +22,10 @@ use Rattle.hx_pass.specs.Turns.{Call, Live, Mail, States, Ideals, Send, Post, Tu
 use Rattle.hx_safe.proofs.Counting.{and-first, and-second, and-both, any-append, all-append, all-le, all-map}
 use Rattle.hx_safe.proofs.Ends.{same-self}
 use Rattle.hx_safe.proofs.Fixed.{IsFixed}
-use Rattle.hx_covers.specs.Onward.{is_same_kind, has_same_replicas, IsOn}
+use Rattle.hx_runs.specs.Onward.{is_same_kind, has_same_replicas, IsOn}
 use Rattle.hx_covers.specs.Reading.{may_follow, is_in_order_from, is_in_order, is_unread, is_read, IsTurn}
-use Rattle.hx_covers.proofs.Fronts.{front-self, front-both, kind-self, kind-both, replicas-self, replicas-both}
-use Rattle.hx_covers.proofs.Calls.{order_rest, live_no_more, calls_in_order, calls_once, call_no_more}
+use Rattle.hx_runs.proofs.Fronts.{front-self, front-both, kind-self, kind-both, replicas-self, replicas-both}
+use Rattle.hx_covers.proofs.Calls.{both_left, no_mail_behind, order_rest, live_no_more, calls_in_order, calls_once, call_no_more}
 use Rattle.hx_covers.proofs.Sorting.{all-sort}
 use Rattle.hx_covers.proofs.Viewing.{beside, formed_same, formed_on, formed_nothing, with_mail, formed_mail, with_states, formed_states, with_sessions, formed_live, own_shown, sessions_once, each_shown}
 
@@ -43,6 +43,7 @@ turn_on c d t on same ranged h = record {
   once = h.once;
   unread = h.unread;
   nothing = h.nothing;
+  mail_first = h.mail_first;
   below = all-le (λ e. nat_lt e.0.0 c.next_session) (λ e. nat_lt e.0.0 d.next_session) (λ e low. later e.0.0 low) t.view.live h.below;
   own = λ s live shown. own s (old t.view.live h.below s shown) live shown;
   well_formed = formed_along c d t.view (is_read t) on same ranged h.well_formed;
@@ -71,6 +72,7 @@ turn_idle c ranged = record {
   once = λ call. omega arith;
   unread = refl;
   nothing = λ e. refl;
+  mail_first = λ s e. cc;
   below = refl;
   own = λ s live shown. cc;
   well_formed = formed_nothing c ranged;
@@ -85,6 +87,7 @@ turn_begun c begun epoch ranged = record {
   once = once;
   unread = refl;
   nothing = λ e. refl;
+  mail_first = λ s e. cc;
   below = refl;
   own = λ s live shown. cc;
   well_formed = formed_nothing c ranged;
@@ -127,6 +130,7 @@ turn_live c begun epoch ranged sessions =
       once = calls_once (live_shown c) (sessions_once c sessions.numbers);
       unread = calls_unread (live_shown c);
       nothing = λ e. let both = sym first.0 ∙ e in cc;
+      mail_first = λ s e. both_left (live_shown c) s e;
       below = all-sort (λ (e : SessionId × InstanceId). nat_lt e.0.0 c.next_session) instance_before (shown_of c.live)
           ∙ all-map (λ (e : SessionId × InstanceId). nat_lt e.0.0 c.next_session) (λ (l : LiveSession). (l.session, l.instance)) c.live ∙ sessions.below;
       own = λ s live shown. own_shown c sessions.numbers s;
@@ -168,6 +172,10 @@ unread_behind a (b ∷ rest) order s is = one a b (and-first (may_follow a b) (i
     one Send Post e is = cc
     one Post Post e is = cc
 
+weaker : (a b : Bool) → b ≡ true → (a || b) ≡ true
+weaker true b e = refl
+weaker false b e = e
+
 -- a session's mail is read
 none_of_session : (u v : SessionId) (mail : List Message) → (u.0 == v.0) ≡ false → list_any (λ m. m.session.0 == v.0) (filter (λ m. m.session.0 == u.0) mail) ≡ false
 none_of_session u v [] ne = refl
@@ -204,6 +212,7 @@ turn_mail c begun view u rest sound mail h =
       once = rest_once (Mail u) rest h.once;
       unread = unread_mails c view u rest (call_no_more (Mail u) rest (h.once (Mail u))) (and-second (is_unread view (Mail u)) (list_all (is_unread view) rest) h.unread);
       nothing = λ e. let both = sym (live_no_more (Mail u) rest h.order) ∙ e in cc;
+      mail_first = λ s e. h.mail_first s (weaker (same_call (Mail s) (Mail u)) (list_any (same_call (Mail s)) rest) e);
       below = h.below;
       own = h.own;
       well_formed = ap (λ (b : Bool). is_well_formed c.models (length c.instances) (if b then with_mail c u view else beside (with_mail c u view) c)) behind
@@ -252,6 +261,7 @@ turn_states c begun view u rest rows h =
       once = rest_once (States u) rest h.once;
       unread = unread_states c view u rest (call_no_more (States u) rest (h.once (States u))) (and-second (is_unread view (States u)) (list_all (is_unread view) rest) h.unread);
       nothing = λ e. let both = sym (live_no_more (States u) rest h.order) ∙ e in cc;
+      mail_first = λ s e. let both = sym (no_mail_behind (States u) rest s h.order refl) ∙ e in cc;
       below = h.below;
       own = h.own;
       well_formed = ap (λ (b : Bool). is_well_formed c.models (length c.instances) (if b then with_states c u view else beside (with_states c u view) c)) behind
@@ -278,6 +288,7 @@ turn_ideals c begun view rest h = record {
   once = rest_once Ideals rest h.once;
   unread = h.unread;
   nothing = λ e. let both = sym (live_no_more Ideals rest h.order) ∙ e in cc;
+  mail_first = λ s e. let both = sym (no_mail_behind Ideals rest s h.order refl) ∙ e in cc;
   below = h.below;
   own = h.own;
   well_formed = either_way c view (is_first Send rest || is_first Post rest) h.well_formed;
@@ -303,6 +314,7 @@ turn_send c begun view rest h = record {
   once = rest_once Send rest h.once;
   unread = h.unread;
   nothing = λ e. let both = sym (live_no_more Send rest h.order) ∙ e in cc;
+  mail_first = λ s e. let both = sym (no_mail_behind Send rest s h.order refl) ∙ e in cc;
   below = h.below;
   own = h.own;
   well_formed = ap (λ (b : Bool). is_well_formed c.models (length c.instances) (if b then view else beside view c)) (post_behind rest h.order) ∙ h.well_formed;

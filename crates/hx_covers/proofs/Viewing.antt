@@ -24,7 +24,7 @@ use Rattle.hx_cluster.specs.Views.{is_good_session, is_good_message, is_good_row
 use Rattle.hx_safe.proofs.Counting.{and-both, and-six, and-first, and-second, count-append, count-filter, count-map, count-none, all-append, all-le, all-map, all-filter, all-both, none-from-all}
 use Rattle.hx_safe.proofs.Ends.{session_same, same-self, part_eq-self}
 use Rattle.hx_safe.proofs.Fixed.{IsFixed}
-use Rattle.hx_covers.specs.Onward.{IsOn}
+use Rattle.hx_runs.specs.Onward.{IsOn}
 use Rattle.hx_covers.proofs.Fits.{message_fits, message_once, message_good, row_fits, row_once, row_good, message_on, row_on, pending_fits, kept_fits, resource_good}
 use Rattle.hx_covers.proofs.Sorting.{count-sort, all-sort, find-sort, each_there, exactly, all-passed, none-all}
 

@@ -25,7 +25,7 @@ use Rattle.hx_safe.proofs.Fixed.{IsFixed, fixed_self, fixed_both, fixed_next}
 use Rattle.hx_safe.proofs.Ranges.{ranged_next}
 use Rattle.hx_safe.proofs.Whole.{IsWhole, whole_next, whole_opening, sound_from, ranged_opening, length-replicate}
 use Rattle.hx_covers.specs.Reading.{is_read, view_with, IsTurn}
-use Rattle.hx_covers.proofs.On.{on_next}
+use Rattle.hx_runs.proofs.On.{on_next}
 use Rattle.hx_covers.proofs.Viewing.{beside, with_mail, with_states}
 use Rattle.hx_covers.proofs.Turning.{turn_on, turn_idle, turn_begun, turn_live, turn_mail, turn_states, turn_ideals, turn_send}
 
@@ -139,7 +139,7 @@ ground c w ranged = record {
   sessions = record { numbers = w.kept.numbers; below = w.kept.below; instances = w.seated.instances; beats = w.seated.beats; leader = w.seated.leader };
 }
 
-turn_next : (c : Cluster) (k : ControllerId) (t : Turn) (e : Event) → IsWhole c → IsRanged c → IsStep c e → IsTurn c t → IsTurn (next c e) (turn_after c k t e)
+pub turn_next : (c : Cluster) (k : ControllerId) (t : Turn) (e : Event) → IsWhole c → IsRanged c → IsStep c e → IsTurn c t → IsTurn (next c e) (turn_after c k t e)
 turn_next c k t e w ranged step h =
     turn_on c (next c e) (turn_after c k t e) (on_next c e w.kept.numbers) (fixed_next c e) (ranged_next c e ranged step)
     (turn_call c k t e (ground c w ranged) step h)

@@ -16,7 +16,7 @@ use Rattle.hx_cluster.specs.Steps.{opening, is_leader}
 use Rattle.hx_cluster.specs.Reads.{pass_of}
 use Rattle.hx_cluster.specs.Events.{next, replay, is_epoch}
 use Rattle.hx_pass.specs.Turns.{Call, Live, Mail, States, same_call, Turn, turn_of}
-use Rattle.hx_covers.specs.Calm.{is_among, has_stayed}
+use Rattle.hx_runs.specs.Calm.{is_among, has_stayed}
 
 -- the messages that were pending at a controller's last begin
 abbrev pub mail_begun_after : Cluster → ControllerId → List Message → Event → List Message

@@ -12,8 +12,8 @@ use Rattle.hx_cluster.specs.declared.state.Cluster.{Cluster}
 use Rattle.hx_cluster.specs.Ends.{part_eq, is_message, is_live, is_shown, shown_of, instance_in, state_of, message_of, count_of, limit_at, load_of}
 use Rattle.hx_select.specs.Selection.{goes_to}
 use Rattle.hx_throttle.specs.Throttle.{counts_too}
-use Rattle.hx_covers.specs.Onward.{is_front, is_same_kind, has_same_replicas}
-use Rattle.hx_covers.specs.Calm.{is_among, has_stayed}
+use Rattle.hx_runs.specs.Onward.{is_front, is_same_kind, has_same_replicas}
+use Rattle.hx_runs.specs.Calm.{is_among, has_stayed}
 use Rattle.hx_covers.specs.Covers.{has_nothing}
 
 -- a view shows what the board has, but for messages that moved replicas since, and for what is gone

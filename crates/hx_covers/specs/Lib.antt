@@ -1,5 +1,3 @@
-pub mod Onward
-pub mod Calm
 pub mod Reading
 pub mod Covers
 pub mod Gate

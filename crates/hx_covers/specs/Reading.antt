@@ -9,7 +9,7 @@ use Rattle.hx_cluster.specs.Ends.{is_live, shown_of, is_shown, instance_in}
 use Rattle.hx_cluster.specs.Reads.{ideals_shown, nothing_shown}
 use Rattle.hx_cluster.specs.Views.{is_well_formed}
 use Rattle.hx_pass.specs.Turns.{Call, Live, Mail, States, Ideals, Send, Post, same_call, is_first, Turn}
-use Rattle.hx_covers.specs.Onward.{is_front, is_same_kind, has_same_replicas}
+use Rattle.hx_runs.specs.Onward.{is_front, is_same_kind, has_same_replicas}
 
 -- which call follows another, and which are last
 abbrev pub may_follow : Call → Call → Bool
@@ -57,6 +57,9 @@ pub record IsTurn (c : Cluster) (t : Turn) : Type 0 where
   pub once : (call : Call) → count (same_call call) t.left ≤ 1
   pub unread : list_all (is_unread t.view) t.left ≡ true
   pub nothing : is_first Live t.left ≡ true → t.view ≡ nothing_shown
+  -- the states of a session are read after its mail
+  pub mail_first : (s : SessionId) → list_any (same_call (Mail s)) t.left ≡ true
+      → list_any (same_call (States s)) t.left ≡ true
   -- shown sessions have old numbers, and those that are live their own instances
   pub below : list_all (λ e. nat_lt e.0.0 c.next_session) t.view.live ≡ true
   pub own : (s : SessionId) → is_live c.live s ≡ true → is_shown t.view.live s ≡ true

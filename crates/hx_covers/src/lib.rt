@@ -2,32 +2,18 @@
 //! over the definitions alone.
 #![tactic(auto)]
 
-ghost use Rattle.std.specs.Prelude.{◌≡◌, true, false, List, length};
+ghost use Rattle.std.specs.Prelude.{◌≡◌, ◌++◌, true, List, length};
 ghost use Rattle.hx_ids.specs.declared.ControllerId.{ControllerId};
 ghost use Rattle.hx_cluster.specs.declared.description.Spec.{Spec};
 ghost use Rattle.hx_cluster.specs.declared.happenings.Event.{Event};
-ghost use Rattle.hx_cluster.specs.declared.state.Cluster.{Cluster};
 ghost use Rattle.hx_cluster.specs.Steps.{opening};
-ghost use Rattle.hx_cluster.specs.Events.{next, replay, IsLegal};
-ghost use Rattle.hx_cluster.specs.Safe.{IsSafe};
+ghost use Rattle.hx_cluster.specs.Events.{replay, IsLegal};
 ghost use Rattle.hx_cluster.specs.Valid.{IsValid};
 ghost use Rattle.hx_cluster.specs.Views.{is_well_formed};
 ghost use Rattle.hx_pass.specs.Turns.{turn_of, view_of};
-ghost use Rattle.hx_covers.specs.Onward.{IsOn};
-ghost use Rattle.hx_covers.specs.Calm.{is_dispatch, IsCalm};
+ghost use Rattle.hx_pass.specs.Lawful.{IsLawful};
+ghost use Rattle.hx_covers.specs.Covers.{Covers};
 ghost use Rattle.hx_covers.specs.Reading.{is_read, view_with, IsTurn};
-
-/// Each event leads on: resources are added at the end alone, and a session that was there keeps
-/// its instance.
-pub fn events_lead_on()
-    ensures { (c : Cluster) → IsSafe c → (e : Event) → IsOn c (next c e) }
-{}
-
-/// Each event but a dispatch brings no message, and moves a replica only to where its message
-/// leads.
-pub fn all_but_dispatches_are_calm()
-    ensures { (c : Cluster) → IsSafe c → (e : Event) → is_dispatch e ≡ false → IsCalm c (next c e) }
-{}
 
 /// A controller's turn keeps its shape along every legal history.
 pub fn legal_turns_keep_their_shape()
@@ -50,4 +36,11 @@ pub fn what_was_shown_is_well_formed()
         → IsLegal (opening spec) h
         → is_well_formed spec.models (length spec.instances)
         (view_with (replay (opening spec) h) (turn_of spec k h)) ≡ true }
+{}
+
+/// At each place of a lawful history what a controller was shown covers what the board has, while
+/// the epoch and the pass of its begin stand: whatever happened between its reads.
+pub fn lawful_reads_cover_the_board()
+    ensures { (spec : Spec) (h more : List Event) (k : ControllerId) → IsValid spec
+        → IsLawful spec (h ++ more) → Covers spec h k }
 {}

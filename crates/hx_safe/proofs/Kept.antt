@@ -113,7 +113,7 @@ kept_ack c s id k =
     }
 
 -- each live number is below the next
-number-below : (n : ℕ) (s : SessionId) (live : List Live) → list_all (λ l. nat_lt l.session.0 n) live ≡ true → is_live live s ≡ true → nat_lt s.0 n ≡ true
+pub number-below : (n : ℕ) (s : SessionId) (live : List Live) → list_all (λ l. nat_lt l.session.0 n) live ≡ true → is_live live s ≡ true → nat_lt s.0 n ≡ true
 number-below n s [] a e = cc
 number-below n s (l ∷ live) a e = grind (arith, nat_tests, a, e, number-below n s live)
 

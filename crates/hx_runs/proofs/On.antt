@@ -30,8 +30,8 @@ use Rattle.hx_cluster.specs.Events.{next}
 use Rattle.hx_cluster.proofs.Shown.{instance_in_shown}
 use Rattle.hx_safe.proofs.Counting.{any-append}
 use Rattle.hx_safe.proofs.Throttles.{instance_on, live-on, instance-join, instance-beat, instance-without}
-use Rattle.hx_covers.specs.Onward.{is_front, is_same_kind, has_same_replicas, IsOn}
-use Rattle.hx_covers.proofs.Fronts.{front-self, front-append, front-put, front-both, kind-self, kind-both, replicas-self, replicas-both}
+use Rattle.hx_runs.specs.Onward.{is_front, is_same_kind, has_same_replicas, IsOn}
+use Rattle.hx_runs.proofs.Fronts.{front-self, front-append, front-put, front-both, kind-self, kind-both, replicas-self, replicas-both}
 
 -- a session that was there has the instance that it had
 abbrev HasOldInstances : Cluster → Cluster → Type 0

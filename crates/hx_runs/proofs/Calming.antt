@@ -25,8 +25,8 @@ use Rattle.hx_safe.proofs.Ends.{session_same, part_same, same-self, part_eq-self
 use Rattle.hx_safe.proofs.Leaving.{state-without}
 use Rattle.hx_safe.proofs.Writing.{message_here, written_place}
 use Rattle.hx_safe.proofs.Beside.{beside_step, beside_pass}
-use Rattle.hx_covers.specs.Calm.{is_dispatch, is_among, is_same_state, has_stayed, IsCalm}
-use Rattle.hx_covers.proofs.On.{other-live}
+use Rattle.hx_runs.specs.Calm.{is_dispatch, is_among, is_same_state, has_stayed, IsCalm}
+use Rattle.hx_runs.proofs.On.{other-live}
 
 -- a message is the same as itself, whatever its marks
 pub same_self : (m : Message) → is_same m m ≡ true
@@ -58,7 +58,7 @@ calm_same c d mail rows = record {
 }
 
 -- sessions that end
-live-all : (c : Cluster) (ss : List SessionId) (u : SessionId) → is_live (without_all c ss).live u ≡ true → is_live c.live u ≡ true
+pub live-all : (c : Cluster) (ss : List SessionId) (u : SessionId) → is_live (without_all c ss).live u ≡ true → is_live c.live u ≡ true
 live-all c [] u e = e
 live-all c (s ∷ ss) u e = more c.live (live-all (without c s) ss u e)
   where
@@ -124,7 +124,7 @@ written_same s id x m = one (has_id s id m)
     one true = refl
     one false = refl
 
-any-same : {X : Type 0} (p q : X → Bool) (h : (x : X) → p x ≡ q x) (xs : List X) → list_any p xs ≡ list_any q xs
+pub any-same : {X : Type 0} (p q : X → Bool) (h : (x : X) → p x ≡ q x) (xs : List X) → list_any p xs ≡ list_any q xs
 any-same p q h [] = refl
 any-same p q h (x ∷ xs) = grind (arith, h x, any-same p q h xs)
 

@@ -4,7 +4,7 @@ use Rattle.std.specs.Prelude.{slice_get, slice_set}
 use Rattle.std.proofs.lemmas.Bool.Decides.{nat_tests}
 use Rattle.hx_cluster.specs.declared.description.Resource.{Resource}
 use Rattle.hx_safe.proofs.Ends.{same-self}
-use Rattle.hx_covers.specs.Onward.{is_front, is_same_kind, has_same_replicas}
+use Rattle.hx_runs.specs.Onward.{is_front, is_same_kind, has_same_replicas}
 
 pub front-self : {X : Type 0} (like : X → X → Bool) → ((x : X) → like x x ≡ true) → (xs : List X) → is_front like xs xs ≡ true
 front-self like self [] = refl
