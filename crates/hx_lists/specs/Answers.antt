@@ -1,5 +1,6 @@
 -- Refusals of calls.
 use Rattle.std.specs.Prelude.{◌≡◌, ◌⊎◌, Option, None, Some, Result, MatchResult}
+pub use Rattle.hx_lists.specs.Counts.{count_up, Rose}
 
 -- a call is refused exactly where it says, and so
 abbrev pub RefusedAs : {T E : Type 0} → Option E → Result T E → Type 0
