@@ -1,5 +1,7 @@
 -- What each event weighs.
-use Rattle.std.specs.Prelude.{ℕ, ◌+◌, ◌*◌, List, [], ◌∷◌, length}
+use Rattle.std.specs.Prelude.{ℕ, ◌+◌, ◌*◌, Bool, List, [], ◌∷◌, length, if◌then◌else◌}
+use Rattle.hx_cluster.specs.declared.state.Message.{Message}
+use Rattle.hx_cluster.specs.declared.state.Cluster.{Cluster}
 use Rattle.hx_cluster.specs.declared.happenings.Admin.{Admin}
 use Rattle.hx_cluster.specs.declared.happenings.Admin.TheVariants as steps
 use Rattle.hx_cluster.specs.declared.happenings.Event.{Event}
@@ -27,3 +29,18 @@ weight_of _ = 1
 abbrev pub weight_of_all : List Event → ℕ
 weight_of_all [] = 0
 weight_of_all (e ∷ es) = weight_of e + weight_of_all es
+
+-- the events that were paid for and may still come: of a message the take, the write and the acknowledgement, and of each live session
+-- its end
+abbrev pub one_unless : Bool → ℕ
+one_unless b = if b then 0 else 1
+
+abbrev pub owed_by : Message → ℕ
+owed_by m = 1 + one_unless m.taken + one_unless m.written
+
+abbrev pub owed_in : List Message → ℕ
+owed_in [] = 0
+owed_in (m ∷ ms) = owed_by m + owed_in ms
+
+abbrev pub owed_of : Cluster → ℕ
+owed_of c = length c.live + owed_in c.mail

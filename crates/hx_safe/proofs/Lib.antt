@@ -15,3 +15,4 @@ pub mod Ideals
 pub mod Fixed
 pub mod Ranges
 pub mod Whole
+pub mod Weighing

@@ -1,3 +1,4 @@
 pub mod Sound
 pub mod Ordered
 pub mod Along
+pub mod Weighed

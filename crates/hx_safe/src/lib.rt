@@ -15,7 +15,9 @@ ghost use Rattle.hx_cluster.specs.Safe.{IsBoundedBy, IsSafeBy, IsSafe, SafeAlong
 ghost use Rattle.hx_cluster.specs.Valid.{IsValid};
 ghost use Rattle.hx_cluster.specs.Ranged.{IsRanged};
 ghost use Rattle.hx_safe.specs.Ordered.{IsOrdered};
+ghost use Rattle.hx_cluster.specs.Weight.{weight_of_all};
 ghost use Rattle.hx_safe.specs.Along.{HoldsAlong};
+ghost use Rattle.hx_safe.specs.Weighed.{IsWeighed};
 
 /// Each cluster along a legal history is safe: before each event, and after the last.
 pub fn legal_is_safe()
@@ -52,6 +54,13 @@ pub fn legal_is_ranged()
 pub fn reached_is_ranged()
     ensures { (spec : Spec) → IsValid spec → (h : List Event) → IsLegal (opening spec) h
         → IsRanged (replay (opening spec) h) }
+{}
+
+/// Its numbers rose no further than its history weighs, and each event that may still come to a live
+/// session or a message was paid for.
+pub fn reached_is_weighed()
+    ensures { (spec : Spec) → IsValid spec → (h : List Event) → IsLegal (opening spec) h
+        → IsWeighed (replay (opening spec) h) (weight_of_all h) }
 {}
 
 /// Where a state has a limit after an event, no more replicas have it among their ends than before

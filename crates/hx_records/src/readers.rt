@@ -1,0 +1,90 @@
+//! What stands in a cluster. No reader takes memory.
+ghost use Rattle.std.specs.Prelude.{◌≡◌, ◌<◌, length, option_copied};
+ghost use Rattle.hx_cluster.specs.Ends.{state_of, message_of, resource_at};
+ghost use Rattle.hx_cluster.specs.Steps.{session_of, is_drained, is_leader, newest};
+ghost use Rattle.hx_cluster.specs.Reads.{pass_of};
+ghost use Rattle.hx_cluster.specs.Numbered.{IsNumbered};
+
+use crate::Records;
+use hx_cluster::{Message, Resource, Seen, state_on};
+use hx_ids::{ControllerId, Epoch, InstanceId, PartId, PassNo, ResourceId, SessionId, StateId};
+
+impl Records {
+    /// The live session of an instance.
+    pub fn session_of(&self, instance: InstanceId) -> Option<SessionId>
+        ensures { result ≡ session_of self.now instance }
+    {
+        self.rest.session_of(instance)
+    }
+
+    /// Whether an instance is drained.
+    pub fn drained(&self, instance: InstanceId) -> bool
+        ensures { result ≡ is_drained self.now.instances instance }
+    {
+        self.rest.is_drained(instance)
+    }
+
+    /// The state of a session's replica, if it has one.
+    pub fn row(&self, session: SessionId, part: PartId) -> Option<StateId>
+        ensures { result ≡ state_of self.now.rows session part }
+    {
+        state_on(&self.rows, session, part)
+    }
+
+    /// The pending message of a session's part.
+    pub fn message(&self, session: SessionId, part: PartId) -> Option<&Message>
+        ensures { option_copied result ≡ message_of self.now.mail session part }
+    {
+        self.rest.mail.iter().find(|m| m.is_of(session, part))
+    }
+
+    /// A resource, dropped or not.
+    pub fn resource(&self, resource: ResourceId) -> Option<&Resource>
+        ensures { option_copied result ≡ resource_at self.now.resources resource }
+    {
+        self.rest.resource(resource)
+    }
+
+    /// The newest resource of a name, by the name's place among the resource names.
+    pub fn newest(&self, name: u32) -> Option<ResourceId>
+        requires { IsNumbered self.now }
+        ensures { result ≡ newest self.now name }
+    {
+        self.rest.newest(name)
+    }
+
+    /// Who leads.
+    pub fn leader(&self) -> Option<ControllerId>
+        ensures { result ≡ self.now.leader }
+    {
+        self.rest.leader
+    }
+
+    /// Whether a controller leads.
+    pub fn is_leader(&self, controller: ControllerId) -> bool
+        ensures { result ≡ is_leader controller self.now.leader }
+    {
+        self.rest.is_leader(controller)
+    }
+
+    /// The epoch that stands.
+    pub fn epoch(&self) -> Epoch
+        ensures { result ≡ self.now.epoch }
+    {
+        self.rest.epoch
+    }
+
+    /// The number of a controller's pass.
+    pub fn pass_of(&self, controller: ControllerId) -> PassNo
+        ensures { result ≡ pass_of self.now controller }
+    {
+        self.rest.pass_of(controller)
+    }
+
+    /// The rows of the last post.
+    pub fn posted(&self) -> &[Seen]
+        ensures { result.now ≡ self.now.posted }
+    {
+        self.rest.posted.as_slice()
+    }
+}
