@@ -20,51 +20,6 @@ fn pages_grow_at_their_end(rt: HostRuntime) -> Result<(), Fail> {
 }
 
 #[test]
-fn names_are_told_by_the_grammar(rt: HostRuntime) -> Result<(), Fail> {
-    let most = "n23456789_123456789_123456789_123456789_123456789_123456789_123";
-    let more = "n23456789_123456789_123456789_123456789_123456789_123456789_1234";
-    for (text, want) in [
-        ("n1", true),
-        ("Z", true),
-        ("aB_c.d-9", true),
-        (most, true),
-        (more, false),
-        ("", false),
-        ("1n", false),
-        ("_n", false),
-        ("a b", false),
-        ("n=1", false),
-        ("né", false),
-    ] {
-        assert_eq!(rt; is_name(text), want, "of {text}");
-    }
-    Ok(())
-}
-
-#[test]
-fn numbers_are_digits_without_a_zero_in_front(rt: HostRuntime) -> Result<(), Fail> {
-    for (text, want) in [
-        ("0", Some(0)),
-        ("7", Some(7)),
-        ("10", Some(10)),
-        ("18446744073709551615", Some(u64::MAX)),
-        ("18446744073709551616", None),
-        ("100000000000000000000", None),
-        ("", None),
-        ("00", None),
-        ("01", None),
-        ("+1", None),
-        ("-1", None),
-        (" 1", None),
-        ("1_000", None),
-        ("1a", None),
-    ] {
-        assert_eq!(rt; read_u64(text), want, "of {text}");
-    }
-    Ok(())
-}
-
-#[test]
 fn lines_end_at_line_feeds(rt: HostRuntime) -> Result<(), Fail> {
     let line_end = b"a\r\n\n  b c\r\r\nlast\r".as_slice();
     for (bytes, want) in [
