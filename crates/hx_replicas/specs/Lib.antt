@@ -1,2 +1,4 @@
 pub mod Participants
+pub mod Jobs
 pub mod Ledger
+pub mod Layout

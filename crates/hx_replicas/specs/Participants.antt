@@ -164,14 +164,22 @@ makes x m = is_none x.handler && not (leaves_error m)
 -- a making that is answered counts. Its handler stands in the slot, unless the making failed
 abbrev pub made_ready : Slot → Message → Bool → Slot
 made_ready x m is_failed =
-    record { part = x.part; state = x.state; last = x.last; initial = x.initial; work = x.work;
-      handler = if makes x m then (if is_failed then None else Some 0) else x.handler }
+    record {
+      part = x.part;
+      state = x.state;
+      last = x.last;
+      initial = x.initial;
+      work = x.work;
+      handler = if makes x m then (if is_failed then None else Some 0) else x.handler;
+    }
 
 abbrev pub readied : Participant → Message → Bool → Participant
 readied w m is_failed =
-    record { session = w.session;
+    record {
+      session = w.session;
       slots = put_slot w.slots (made_ready (slot_of w m.part) m is_failed);
-      tried = if makes (slot_of w m.part) m then tried_up w.tried m.part else w.tried }
+      tried = if makes (slot_of w m.part) m then tried_up w.tried m.part else w.tried;
+    }
 
 -- a message goes out, with the slot's handler
 abbrev pub emptied_for : Slot → Message → Slot
@@ -206,8 +214,14 @@ end_of m (Some o) = state_after m o
 -- a slot comes to a state, and gets back the handler, if any, with its runs. A handler at DROPPED is retired
 abbrev pub brought : Slot → StateId → Option ℕ → Slot
 brought x t runs =
-    record { part = x.part; state = t; last = x.last; initial = x.initial; work = Idle;
-      handler = if t.0 == dropped.0 then None else runs }
+    record {
+      part = x.part;
+      state = t;
+      last = x.last;
+      initial = x.initial;
+      work = Idle;
+      handler = if t.0 == dropped.0 then None else runs;
+    }
 
 -- a job ends
 abbrev pub finish : Participant → Message → Option Outcome → Option ℕ → Participant
