@@ -1,15 +1,8 @@
--- What handlers and factories count. A count stands still at the end of its type.
-use Rattle.std.specs.Prelude.{ℕ, ◌+◌, ◌-◌, ◌^◌, ◌<◌, ◌≤◌, min, List, [], ◌∷◌, if◌then◌else◌}
+-- What handlers and factories count.
+use Rattle.std.specs.Prelude.{ℕ, ◌-◌, ◌^◌, ◌<◌, List, [], ◌∷◌, if◌then◌else◌}
+use Rattle.hx_lists.specs.Answers.{count_up}
 use Rattle.hx_ids.specs.declared.PartId.{PartId}
 use Rattle.hx_cluster.specs.Ends.{part_eq}
-
--- a count after one more
-abbrev pub count_up : ℕ → ℕ
-count_up n = min (n + 1) (2 ^ 64 - 1)
-
--- a count rose, or stands at the end of its type
-abbrev pub Rose : ℕ → ℕ → Type 0
-Rose before now = count_up before ≤ now
 
 -- a count isn't at the end of its type
 abbrev pub CountsOn : ℕ → Type 0

@@ -1,6 +1,6 @@
 -- A plain participant: its session, for each part what its replica is and does, and the makings of handlers that were tried.
 use Rattle.std.specs.Prelude.{◌≡◌, ◌≢◌, ℕ, ◌+◌, Bool, true, false, not, ◌==◌, ◌&&◌, List, [], ◌∷◌, map, find, Option, None, Some, if◌then◌else◌, is_none, is_some, unwrap_or, nat_le, nat_lt}
-use Rattle.std.specs.List.{list_any, filter_map}
+use Rattle.std.specs.List.{list_any, list_all, filter_map}
 use Rattle.hx_lists.specs.Lists.{sort_by, count}
 use Rattle.hx_ids.specs.declared.StateId.{StateId}
 use Rattle.hx_ids.specs.declared.SessionId.{SessionId}
@@ -81,7 +81,7 @@ abbrev pub any_out : Participant → Bool
 any_out w = list_any (λ x. is_out x.work) w.slots
 
 abbrev pub all_idle : Participant → Bool
-all_idle w = not (list_any (λ x. not (is_idle x.work)) w.slots)
+all_idle w = list_all (λ x. is_idle x.work) w.slots
 
 -- how many parts have accepted a message in this session
 abbrev pub used_of : Participant → ℕ

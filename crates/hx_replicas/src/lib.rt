@@ -10,6 +10,7 @@ mod slots;
 
 pub use jobs::{Done, Job, Ran};
 pub use participants::Participant;
+pub use slots::Work;
 
 /// Why a message is not accepted.
 #[derive(Clone, Copy, Debug, PartialEq, Eq)]

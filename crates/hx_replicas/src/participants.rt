@@ -10,8 +10,8 @@ ghost use Rattle.hx_replicas.specs.Layout.{IsUnused};
 use crate::DeliverFault;
 use crate::jobs::{Done, Job};
 use crate::slots::{
-    Slot, Work, accepted_place, bring, free, give, keep, place_of, ready, refusal, state_for,
-    wipe_all,
+    Slot, Work, accepted_place, all_rest, bring, count_used, free, give, keep, place_of, ready,
+    refusal, state_for, wipe_all,
 };
 use hx_cluster::Message;
 use hx_handler::Factory;
@@ -99,7 +99,7 @@ impl<F: Factory> Participant<F> {
     pub fn idle(&self) -> bool
         ensures { result ≡ all_idle self.now.plain }
     {
-        !self.slots.iter().any(|slot| slot.work != Work::Idle)
+        all_rest(&self.slots)
     }
 
     /// The state as which a part counts for a message with an initial state, and the number of the
@@ -131,7 +131,7 @@ impl<F: Factory> Participant<F> {
     pub fn used(&self) -> u64
         ensures { result ≡ used_of self.now.plain }
     {
-        self.slots.iter().filter(|slot| slot.last.0 > 0).count() as u64
+        count_used(&self.slots) as u64
     }
 
     /// Makes room for so many deliveries.
@@ -163,7 +163,7 @@ impl<F: Factory> Participant<F> {
         ensures spare { OnOk result (self.new.spare + 1 ≡ self.old.spare) }
         ensures err { OnErr result (self.new ≡ self.old) }
     {
-        if self.session != Some(message.session) {
+        if !is_mine(self.session, message.session) {
             return Err(DeliverFault::OtherSession { mine: self.session });
         }
         let Some(place) = place_of(&self.slots, message.part) else {
@@ -222,12 +222,13 @@ impl<F: Factory> Participant<F> {
         ensures ledger { IsBalanced self.new.made self.new.retired self.new.plain }
     {
         let end = done.end();
-        let (message, handler) = done.into_parts();
-        let kept = keep(handler, end, &mut self.factory);
-        let Some(place) = place_of(&self.slots, message.part) else {
+        let Some(place) = place_of(&self.slots, done.message().part) else {
             unreachable!()
         };
-        bring(&mut self.slots[place], end, kept);
+        let (_, handler) = done.into_parts();
+        let slot = &mut self.slots[place];
+        let kept = keep(handler, end, &mut self.factory);
+        bring(slot, end, kept);
     }
 
     /// Retires all handlers, empties all parts, and takes a session. It takes no memory.
@@ -298,4 +299,11 @@ impl<F: Factory> Participant<F> {
         self.spare -= 1;
         Ok(())
     }
+}
+
+// Whether a session is the participant's.
+fn is_mine(mine: Option<SessionId>, session: SessionId) -> bool
+    ensures { result ≡ is_session mine session }
+{
+    mine == Some(session)
 }

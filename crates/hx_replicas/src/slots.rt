@@ -1,12 +1,13 @@
 //! The slots of a participant, and what is done with one of them.
-ghost use Rattle.std.specs.Prelude.{◌≡◌, ℕ, ◌+◌, ◌≤◌, ◌==◌, Bool, true, false, List, Option, map, None, Some, position, OnOk, OnErr, IfSome, is_none, if◌then◌else◌, vec_len, vec_capacity};
-ghost use Rattle.std.specs.List.{All, sum_by};
+ghost use Rattle.std.specs.Prelude.{◌≡◌, ℕ, ◌+◌, ◌≤◌, ◌==◌, Bool, true, false, List, Option, map, None, Some, position, OnOk, OnErr, IfSome, is_none, nat_lt, if◌then◌else◌, vec_len, vec_capacity};
+ghost use Rattle.std.specs.List.{All, sum_by, list_all};
+ghost use Rattle.hx_lists.specs.Lists.{count};
 ghost use Rattle.hx_model.specs.Model.{dropped};
 ghost use Rattle.hx_cluster.specs.declared.description.Failure.{Failure};
 ghost use Rattle.hx_handler.specs.Counts.{tried_up};
 ghost use Rattle.hx_replicas.specs.declared.slots.Work.TheVariants.{Accepted};
 ghost use Rattle.hx_replicas.specs.Ledger.{in_place};
-ghost use Rattle.hx_replicas.specs.Participants.{slot_fault, has_accepted, makes, made_ready, is_out, state_for as state_of_slot};
+ghost use Rattle.hx_replicas.specs.Participants.{slot_fault, has_accepted, is_idle, makes, made_ready, is_out, state_for as state_of_slot};
 ghost use Rattle.hx_replicas.specs.Jobs.{seen_in, Job as SeenJob, IsMaking};
 ghost use Rattle.hx_replicas.specs.Layout.{IsSlot, IsQuiet, IsBare, has_part, has_number, plain_slot, count_of, filled, wiped, restored, sent_out};
 
@@ -43,6 +44,30 @@ pub fn place_of<H>(slots: &[Slot<H>], part: PartId) -> Option<usize>
     ensures { result ≡ position (has_part part) slots.now }
 {
     slots.iter().position(|slot| slot.part == part)
+}
+
+/// Whether a slot has nothing to do.
+fn rests(work: Work) -> bool
+    ensures { result ≡ is_idle work }
+{
+    match work {
+        Work::Idle => true,
+        _ => false,
+    }
+}
+
+/// Whether no slot has anything to do.
+pub fn all_rest<H>(slots: &[Slot<H>]) -> bool
+    ensures { result ≡ list_all (λ x. is_idle x.work) slots.now }
+{
+    slots.iter().all(|slot| rests(slot.work))
+}
+
+/// How many slots have accepted a message in this session.
+pub fn count_used<H>(slots: &[Slot<H>]) -> usize
+    ensures { result ≡ count (λ x. nat_lt 0 x.last.0) slots.now }
+{
+    slots.iter().filter(|slot| slot.last.0 > 0).count()
 }
 
 /// Whether a slot has accepted the message with a number.
