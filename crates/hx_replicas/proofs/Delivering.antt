@@ -1,6 +1,6 @@
 -- A delivery: what it refuses, and that the slots stay laid out.
-use Rattle.std.proofs.Common.{◌≡◌, ◌≢◌, ℕ, ◌+◌, ◌<◌, ◌≤◌, ◌++◌, ◌∷◌, [], List, map, length, get_or, set, arith, rules, refl, sym, ap, Bool, true, false, Option, None, Some, ◌==◌, ◌∙◌}
-use Rattle.std.specs.List.{list_any, find, position}
+use Rattle.std.proofs.Common.{◌≡◌, ◌≢◌, ℕ, ◌<◌, ◌++◌, ◌∷◌, [], List, map, length, get_or, set, arith, refl, sym, Bool, true, false, Option, None, Some, ◌==◌, ◌∙◌}
+use Rattle.std.specs.List.{find, position}
 use Rattle.std.proofs.lemmas.Grind.{common_steps}
 use Rattle.hx_ids.specs.declared.PartId.{PartId}
 use Rattle.hx_ids.specs.declared.StateId.{StateId}
@@ -13,9 +13,9 @@ use Rattle.hx_handler.specs.declared.Handler as handler
 use Rattle.hx_replicas.specs.declared.slots.Work.{Work}
 use Rattle.hx_replicas.specs.declared.slots.Work.TheVariants.{Idle, Accepted, Out}
 use Rattle.hx_replicas.specs.declared.slots.Slot.{Slot}
-use Rattle.hx_replicas.specs.Participants.{IsSound, IsLike, slot_fault, state_for, slot_in, put_slot, new_slot, accepted}
-use Rattle.hx_replicas.specs.Ledger.{lent, in_place}
-use Rattle.hx_replicas.specs.Layout.{count_of, plain_slot, IsSlot, Stands, IsLaidOut, AreDistinct, taken, fresh, has_part}
+use Rattle.hx_replicas.specs.Participants.{IsSound, IsLike, slot_fault, state_for, slot_in, put_slot, accepted}
+use Rattle.hx_replicas.specs.Ledger.{lent}
+use Rattle.hx_replicas.specs.Layout.{plain_slot, IsSlot, Stands, IsLaidOut, AreDistinct, taken, fresh, has_part}
 use Rattle.hx_replicas.proofs.Parts.{state_same, state_other, state_differs}
 use Rattle.hx_replicas.proofs.Searching.{found-in}
 use Rattle.hx_replicas.proofs.Placing.{slot-found, put-at, part-found, unused-put, unused-any}

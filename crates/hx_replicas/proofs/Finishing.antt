@@ -1,23 +1,22 @@
 -- A job that comes back: its handler, and that the slots stay laid out.
-use Rattle.std.proofs.Common.{◌≡◌, ◌≢◌, ℕ, ◌+◌, ◌<◌, ◌≤◌, ◌∷◌, [], List, map, length, get_or, set, arith, refl, sym, Bool, true, false, Option, None, Some, is_some, ◌==◌, if◌then◌else◌}
-use Rattle.std.specs.List.{All, position, sum_by}
+use Rattle.std.proofs.Common.{◌≡◌, ℕ, ◌+◌, ◌<◌, ◌≤◌, List, map, length, get_or, set, arith, refl, Bool, true, false, Option, None, Some, is_some, ◌==◌, if◌then◌else◌}
+use Rattle.std.specs.List.{position, sum_by}
 use Rattle.std.specs.Option.{option_map, ForSome}
-use Rattle.hx_model.specs.Model.{error, dropped}
+use Rattle.hx_model.specs.Model.{dropped}
 use Rattle.hx_ids.specs.declared.PartId.{PartId}
 use Rattle.hx_ids.specs.declared.StateId.{StateId}
 use Rattle.hx_cluster.specs.declared.state.Message.{Message}
 use Rattle.hx_cluster.specs.declared.description.Failure.{Failure}
 use Rattle.hx_handler.specs.declared.Handler as handler
-use Rattle.hx_replicas.specs.declared.slots.Work.{Work}
-use Rattle.hx_replicas.specs.declared.slots.Work.TheVariants.{Idle, Accepted, Out}
+use Rattle.hx_replicas.specs.declared.slots.Work.TheVariants.{Idle, Out}
 use Rattle.hx_replicas.specs.declared.slots.Slot.{Slot}
-use Rattle.hx_replicas.specs.Participants.{slot_in, put_slot, new_slot, brought, is_out}
+use Rattle.hx_replicas.specs.Participants.{slot_in, put_slot, brought}
 use Rattle.hx_replicas.specs.Ledger.{lent, in_place}
-use Rattle.hx_replicas.specs.Jobs.{Held, StandsEmpty, StandsAt, runs_of, seen, seen_in}
+use Rattle.hx_replicas.specs.Jobs.{StandsAt, runs_of, seen, seen_in}
 use Rattle.hx_replicas.specs.Layout.{count_of, plain_slot, IsSlot, Stands, OfSlot, IsLaidOut, AreDistinct, has_part, restored}
 use Rattle.hx_replicas.proofs.Parts.{state_same, state_other}
 use Rattle.hx_replicas.proofs.Searching.{found-in}
-use Rattle.hx_replicas.proofs.Placing.{slot-found, slot-none, put-at, part-found}
+use Rattle.hx_replicas.proofs.Placing.{slot-found, slot-none, put-at}
 use Rattle.hx_replicas.proofs.Ledgers.{sum_by-ge}
 use Rattle.hx_replicas.proofs.Laying.{IsLaidOut-set}
 

@@ -1,8 +1,7 @@
 -- A message that is handed out: its handler, and that the slots stay laid out.
-use Rattle.std.proofs.Common.{◌≡◌, ◌≢◌, ℕ, ◌+◌, ◌<◌, ◌≤◌, ◌∷◌, [], List, map, length, get_or, set, arith, refl, sym, ap, ◌∙◌, Bool, true, false, Option, None, Some, is_some, is_none, if◌then◌else◌}
-use Rattle.std.specs.List.{All, position}
+use Rattle.std.proofs.Common.{◌≡◌, ℕ, ◌+◌, ◌<◌, List, map, length, get_or, set, arith, refl, sym, ap, ◌∙◌, Bool, true, Option, None, Some, is_some, is_none, if◌then◌else◌}
+use Rattle.std.specs.List.{position}
 use Rattle.std.specs.Option.{option_map, ForSome}
-use Rattle.hx_model.specs.Model.{error, dropped}
 use Rattle.hx_ids.specs.declared.PartId.{PartId}
 use Rattle.hx_ids.specs.declared.StateId.{StateId}
 use Rattle.hx_ids.specs.declared.MsgId.{MsgId}
@@ -12,12 +11,12 @@ use Rattle.hx_handler.specs.declared.Handler as handler
 use Rattle.hx_replicas.specs.declared.slots.Work.{Work}
 use Rattle.hx_replicas.specs.declared.slots.Work.TheVariants.{Idle, Accepted, Out}
 use Rattle.hx_replicas.specs.declared.slots.Slot.{Slot}
-use Rattle.hx_replicas.specs.Participants.{Participant, has_accepted, accepted_of, slot_in, slot_of, put_slot, made_ready, makes, emptied_for, hand_out}
+use Rattle.hx_replicas.specs.Participants.{Participant, has_accepted, slot_in, slot_of, put_slot, made_ready, makes, emptied_for, hand_out}
 use Rattle.hx_handler.specs.Counts.{tried_up}
 use Rattle.hx_replicas.specs.Ledger.{lent, in_place}
-use Rattle.hx_replicas.specs.Jobs.{Held, StandsEmpty, runs_of, seen, seen_in}
-use Rattle.hx_replicas.specs.Layout.{count_of, plain_slot, IsSlot, Stands, OfSlot, IsLaidOut, AreDistinct, has_number, sent_out}
-use Rattle.hx_replicas.proofs.Searching.{found-in, found-passes}
+use Rattle.hx_replicas.specs.Jobs.{StandsEmpty, runs_of, seen, seen_in}
+use Rattle.hx_replicas.specs.Layout.{plain_slot, IsSlot, Stands, OfSlot, IsLaidOut, AreDistinct, has_number, sent_out}
+use Rattle.hx_replicas.proofs.Searching.{found-passes}
 use Rattle.hx_replicas.proofs.Placing.{slot-at, put-at}
 use Rattle.hx_replicas.proofs.Putting.{slots-hand_out}
 use Rattle.hx_replicas.proofs.Laying.{IsLaidOut-set}

@@ -2,7 +2,7 @@
 use Rattle.std.proofs.Common.{◌≡◌, ℕ, ◌+◌, ◌≤◌, ◌<◌, List, [], ◌∷◌, map, length, get_or, arith, refl, Option, None, Some}
 use Rattle.std.specs.List.{sum_by}
 use Rattle.std.proofs.lemmas.List.Sums.{sum_by-cons, sum_by-take-drop}
-use Rattle.std.proofs.Common.{take, drop, suc, add-one, drop-cons}
+use Rattle.std.proofs.Common.{drop, suc, add-one, drop-cons}
 use Rattle.std.specs.Option.{option_map}
 use Rattle.hx_cluster.specs.declared.description.Failure.{Failure}
 use Rattle.hx_handler.specs.declared.Handler as handler

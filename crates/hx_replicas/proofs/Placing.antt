@@ -1,5 +1,5 @@
 -- The slot of a part, found and put in the list of slots.
-use Rattle.std.proofs.Common.{◌≡◌, ℕ, ◌+◌, ◌<◌, ◌≤◌, ◌++◌, ◌∷◌, [], List, zero, suc, map, length, get_or, set, arith, refl, sym, ap, Bool, true, false, Option, None, Some}
+use Rattle.std.proofs.Common.{◌≡◌, ℕ, ◌<◌, ◌++◌, ◌∷◌, [], List, zero, suc, map, length, get_or, set, arith, refl, ap, Bool, true, false, None, Some}
 use Rattle.std.specs.List.{list_any, list_all, find, position}
 use Rattle.std.specs.Prelude.{nat_lt}
 use Rattle.hx_lists.specs.Lists.{count}
@@ -7,13 +7,12 @@ use Rattle.std.proofs.lemmas.Grind.{common_steps}
 use Rattle.hx_ids.specs.declared.PartId.{PartId}
 use Rattle.hx_ids.specs.declared.MsgId.{MsgId}
 use Rattle.hx_cluster.specs.Ends.{part_eq}
-use Rattle.hx_cluster.specs.declared.state.Message.{Message}
 use Rattle.hx_handler.specs.declared.Handler as handler
 use Rattle.hx_replicas.specs.declared.slots.Slot.{Slot}
 use Rattle.hx_replicas.specs.Participants.{slot_in, put_slot, new_slot, accepted_in, accepted_of, has_accepted, is_idle}
 use Rattle.hx_replicas.specs.Layout.{plain_slot, has_part, has_number, AreDistinct}
-use Rattle.hx_replicas.proofs.Parts.{part_same, part_eq-self, part_eq-same}
-use Rattle.hx_replicas.proofs.Searching.{find-map, found-in, found-passes, found-first, found-none, none-any}
+use Rattle.hx_replicas.proofs.Parts.{part_same, part_eq-self}
+use Rattle.hx_replicas.proofs.Searching.{find-map, found-passes, found-first, found-none}
 
 -- a part is not among those behind it
 among : {H : Type 0} (p : PartId) (xs : List (Slot H)) (i : ℕ) (d : Slot H) → list_any (part_eq p) (map (λ x. x.part) xs) ≡ false → i < length xs → part_eq p (get_or xs i d).part ≡ false

@@ -1,10 +1,9 @@
 -- What is put in a plain list of slots is found there, and the last one put counts.
-use Rattle.std.proofs.Common.{◌≡◌, ◌∷◌, [], List, arith, refl, sym, ap, subst, ◌∙◌, Bool, true, false, if◌then◌else◌}
-use Rattle.std.proofs.lemmas.Grind.{common_steps}
+use Rattle.std.proofs.Common.{◌≡◌, ◌∷◌, [], List, refl, sym, ap, subst, ◌∙◌, Bool, true, false, if◌then◌else◌}
 use Rattle.hx_ids.specs.declared.PartId.{PartId}
 use Rattle.hx_cluster.specs.Ends.{part_eq}
 use Rattle.hx_cluster.specs.declared.state.Message.{Message}
-use Rattle.hx_replicas.specs.Participants.{Participant, Slot, slot_in, slot_of, put_slot, made_ready, emptied_for, readied, given, hand_out}
+use Rattle.hx_replicas.specs.Participants.{Participant, Slot, slot_in, slot_of, put_slot, made_ready, emptied_for, hand_out}
 use Rattle.hx_replicas.proofs.Parts.{part_same, part_eq-same}
 
 -- the slot of a part is of that part

@@ -1,5 +1,5 @@
 -- What emptied slots are as plain slots, and that they are laid out.
-use Rattle.std.proofs.Common.{◌≡◌, ℕ, ◌+◌, ◌<◌, ◌++◌, ◌∷◌, [], List, map, take, drop, length, get_or, arith, refl, Bool, false, zero, suc, Option}
+use Rattle.std.proofs.Common.{◌≡◌, ℕ, ◌<◌, ◌++◌, ◌∷◌, [], List, map, take, drop, length, get_or, arith, refl, false, zero, suc, Option}
 use Rattle.std.specs.List.{sum_by, All, list_any}
 use Rattle.std.proofs.lemmas.List.Sums.{sum_by-cons}
 use Rattle.std.proofs.lemmas.Grind.{common_steps}

@@ -1,5 +1,5 @@
 -- What contracts see of a participant and of its jobs, and how jobs are handed out and run.
-use Rattle.std.specs.Prelude.{◌≡◌, ◌≢◌, ℕ, ◌+◌, ◌≤◌, Bool, true, false, List, Option, None, Some, is_none, is_some, if◌then◌else◌, ◌==◌}
+use Rattle.std.specs.Prelude.{◌≡◌, ◌≢◌, ℕ, ◌+◌, ◌≤◌, Bool, true, false, List, Option, None, Some, is_none}
 use Rattle.std.specs.Option.{option_map, ForSome}
 use Rattle.hx_ids.specs.declared.PartId.{PartId}
 use Rattle.hx_ids.specs.declared.StateId.{StateId}
@@ -13,7 +13,7 @@ use Rattle.hx_handler.specs.declared.Handler as handler
 use Rattle.hx_lists.specs.Answers.{count_up, Rose}
 use Rattle.hx_handler.specs.Counts.{CountsOn, tried_of}
 use Rattle.hx_handler.specs.Told.{IsTold}
-use Rattle.hx_replicas.specs.Participants.{Participant, IsSound, slot_of, makes, made_ready, leaves_error, end_of}
+use Rattle.hx_replicas.specs.Participants.{Participant, IsSound, slot_of, makes, made_ready, leaves_error}
 
 -- a participant: `spare` is how many more deliveries need no memory; the rest is what its factory means
 pub record ParticipantState : Type 0 where

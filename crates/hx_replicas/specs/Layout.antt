@@ -1,6 +1,6 @@
 -- How a participant's fields stand for a plain participant. No public clause cites this module.
-use Rattle.std.specs.Prelude.{◌≡◌, ◌≢◌, ℕ, ◌+◌, Bool, true, false, List, [], ◌∷◌, map, Option, None, Some, is_some, find, if◌then◌else◌}
-use Rattle.std.specs.Option.{option_map, ForSome}
+use Rattle.std.specs.Prelude.{◌≡◌, ◌≢◌, ℕ, ◌+◌, Bool, true, false, List, [], ◌∷◌, map, Option, None, Some, is_some, find}
+use Rattle.std.specs.Option.{option_map}
 use Rattle.std.specs.List.{All, sum_by, list_any}
 use Rattle.hx_ids.specs.declared.PartId.{PartId}
 use Rattle.hx_ids.specs.declared.StateId.{StateId}
@@ -15,7 +15,7 @@ use Rattle.hx_replicas.specs.declared.slots.Work.TheVariants.{Idle, Accepted, Ou
 use Rattle.hx_replicas.specs.declared.slots.Slot.{Slot}
 use Rattle.hx_replicas.specs.Participants.{Slot as PlainSlot, Participant, IsSound, is_out, has_accepted}
 use Rattle.hx_replicas.specs.Ledger.{in_place, lent}
-use Rattle.hx_replicas.specs.Jobs.{StandsEmpty, seen}
+use Rattle.hx_replicas.specs.Jobs.{StandsEmpty}
 
 abbrev pub plain_slot : {H : Type 0} → handler.Ghosts H → Slot H → PlainSlot
 plain_slot k x = record { part = x.part; state = x.state; last = x.last; initial = x.initial; work = x.work; handler = option_map (λ h. k.runs h) x.handler }

@@ -1,5 +1,5 @@
 -- A plain participant: its session, for each part what its replica is and does, and the makings of handlers that were tried.
-use Rattle.std.specs.Prelude.{◌≡◌, ◌≢◌, ℕ, ◌+◌, Bool, true, false, not, ◌==◌, ◌&&◌, List, [], ◌∷◌, map, find, Option, None, Some, if◌then◌else◌, is_none, is_some, unwrap_or, nat_le, nat_lt}
+use Rattle.std.specs.Prelude.{◌≡◌, ◌≢◌, ℕ, Bool, true, false, not, ◌==◌, ◌&&◌, List, [], ◌∷◌, map, find, Option, None, Some, if◌then◌else◌, is_none, is_some, unwrap_or, nat_le, nat_lt}
 use Rattle.std.specs.List.{list_any, list_all, filter_map}
 use Rattle.hx_lists.specs.Lists.{sort_by, count}
 use Rattle.hx_ids.specs.declared.StateId.{StateId}
@@ -14,7 +14,6 @@ use Rattle.hx_cluster.specs.declared.happenings.Outcome.{Outcome}
 use Rattle.hx_cluster.specs.Ends.{part_eq}
 use Rattle.hx_cluster.specs.Messages.{state_after}
 use Rattle.hx_handler.specs.Counts.{tried_up}
-use Rattle.hx_handler.specs.Failures.{has_failure}
 use Rattle.hx_replicas.specs.declared.DeliverFault.{DeliverFault}
 use Rattle.hx_replicas.specs.declared.DeliverFault.TheVariants as faults
 use Rattle.hx_replicas.specs.declared.slots.Work.{Work}

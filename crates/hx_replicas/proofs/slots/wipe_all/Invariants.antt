@@ -1,4 +1,4 @@
-use Rattle.std.proofs.Common.{◌≡◌, ℕ, ◌+◌, ◌<◌, ◌≤◌, ◌++◌, map, take, drop, length}
+use Rattle.std.proofs.Common.{◌≡◌, ◌+◌, ◌≤◌, ◌++◌, map, take, drop}
 use Rattle.std.specs.List.{sum_by}
 use Rattle.hx_replicas.specs.Layout.{wiped, count_of}
 use Rattle.hx_replicas.proofs.slots.wipe_all.Given as goal

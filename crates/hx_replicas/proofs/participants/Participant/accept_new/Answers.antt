@@ -1,4 +1,4 @@
-use Rattle.std.proofs.Common.{◌≡◌, ◌+◌, ◌<◌, ◌≤◌, length, map, arith, refl, None, Some}
+use Rattle.std.proofs.Common.{◌≡◌, map, arith, refl, None}
 use Rattle.std.specs.List.{find}
 use Rattle.hx_model.specs.Model.{dropped}
 use Rattle.hx_cluster.specs.Ends.{part_eq}

@@ -1,5 +1,5 @@
-use Rattle.std.proofs.Common.{◌≡◌, ◌+◌, ◌<◌, ◌≤◌, length, get_or, map, arith, rules, refl}
-use Rattle.hx_replicas.specs.Layout.{wiped, IsLaidOut}
+use Rattle.std.proofs.Common.{map, arith, refl}
+use Rattle.hx_replicas.specs.Layout.{wiped}
 use Rattle.hx_replicas.proofs.Ledgers.{ledger}
 use Rattle.hx_replicas.proofs.Wiping.{IsLaidOut-wiped, map-emptied, none_out-plain, quiet-emptied}
 use Rattle.hx_replicas.proofs.participants.Participant.adopt.Goals as goal

@@ -1,4 +1,3 @@
-use Rattle.std.proofs.Common.{◌≡◌, ◌<◌, length, rules}
 use Rattle.hx_replicas.proofs.Wiping.{none_out-plain, bare-wiped}
 use Rattle.hx_replicas.proofs.participants.Participant.close.Goals as goal
 

@@ -1,7 +1,7 @@
-use Rattle.std.proofs.Common.{◌≡◌, ◌+◌, ◌<◌, ◌≤◌, length, map, get_or, arith, rules, refl, sym, true, None, Some}
+use Rattle.std.proofs.Common.{◌≡◌, get_or, arith, refl, true, None, Some}
 use Rattle.std.specs.List.{position}
 use Rattle.hx_replicas.specs.Participants.{is_session, slot_fault}
-use Rattle.hx_replicas.specs.Layout.{has_part, plain_slot}
+use Rattle.hx_replicas.specs.Layout.{has_part}
 use Rattle.hx_replicas.proofs.Placing.{unused-none, slot-found}
 use Rattle.hx_replicas.proofs.Delivering.{IsLaidOut-accept, accept-held, like-held}
 use Rattle.hx_replicas.proofs.participants.Participant.deliver.Goals as goal

@@ -1,10 +1,8 @@
-use Rattle.std.proofs.Common.{◌≡◌, ◌+◌, ◌<◌, ◌≤◌, length, map, set, get_or, arith, rules, refl, sym, ap, ◌∙◌, true, false, None, Some, Bool, is_some, List, if◌then◌else◌, ◌==◌}
+use Rattle.std.proofs.Common.{◌≡◌, ◌<◌, length, map, set, get_or, refl, None, Some, is_some}
 use Rattle.std.specs.List.{position}
 use Rattle.std.specs.Option.{ForSome}
-use Rattle.hx_model.specs.Model.{dropped}
 use Rattle.hx_replicas.specs.declared.slots.Work.TheVariants.{Out}
-use Rattle.hx_replicas.specs.Participants.{slot_in, end_of}
-use Rattle.hx_replicas.specs.Ledger.{in_place}
+use Rattle.hx_replicas.specs.Participants.{slot_in}
 use Rattle.hx_replicas.specs.Jobs.{seen_in, StandsAt}
 use Rattle.hx_replicas.specs.Layout.{has_part, plain_slot, IsSlot, IsLaidOut, restored}
 use Rattle.hx_replicas.proofs.Searching.{found-in}

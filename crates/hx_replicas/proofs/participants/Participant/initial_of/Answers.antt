@@ -1,4 +1,4 @@
-use Rattle.std.proofs.Common.{◌≡◌, ◌<◌, length, get_or, refl, None, Some}
+use Rattle.std.proofs.Common.{◌≡◌, get_or, refl, None, Some}
 use Rattle.std.specs.List.{position}
 use Rattle.hx_replicas.specs.Layout.{has_part}
 use Rattle.hx_replicas.proofs.Placing.{slot-found, slot-none}

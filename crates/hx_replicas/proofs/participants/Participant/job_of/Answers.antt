@@ -1,11 +1,11 @@
-use Rattle.std.proofs.Common.{◌≡◌, ◌+◌, ◌<◌, ◌≤◌, length, map, set, get_or, arith, rules, refl, sym, ap, ◌∙◌, true, false, None, Some, Bool, is_none, List, if◌then◌else◌}
+use Rattle.std.proofs.Common.{◌≡◌, ◌<◌, length, set, get_or, arith, refl, sym, ap, ◌∙◌, None, Some, is_none}
 use Rattle.std.specs.List.{position}
 use Rattle.std.proofs.lemmas.Grind.{common_steps}
 use Rattle.std.proofs.lemmas.Result.{err_from_is_err_and}
 use Rattle.hx_replicas.specs.declared.slots.Work.TheVariants.{Accepted}
-use Rattle.hx_replicas.specs.Participants.{makes, made_ready}
+use Rattle.hx_replicas.specs.Participants.{made_ready}
 use Rattle.hx_replicas.specs.Jobs.{seen_in}
-use Rattle.hx_replicas.specs.Layout.{has_number, plain_slot, IsSlot, IsLaidOut, sent_out, OfSlot}
+use Rattle.hx_replicas.specs.Layout.{has_number, plain_slot, IsSlot, IsLaidOut, OfSlot}
 use Rattle.hx_replicas.proofs.Searching.{found-in}
 use Rattle.hx_replicas.proofs.Ledgers.{ledger}
 use Rattle.hx_replicas.proofs.Placing.{accepted-none, accepted-some, slot-at}

@@ -1,13 +1,7 @@
-use Rattle.std.proofs.Common.{◌≡◌, ◌<◌, length, get_or, refl, arith, None, Some}
+use Rattle.std.proofs.Common.{◌≡◌, get_or, refl, None, Some}
 use Rattle.std.specs.List.{position}
 use Rattle.hx_replicas.specs.Layout.{has_part}
 use Rattle.hx_replicas.proofs.Placing.{slot-found, slot-none}
-use Rattle.hx_replicas.proofs.Laying.{IsLaidOut-push}
-use Rattle.hx_replicas.proofs.Ledgers.{ledger}
-use Rattle.hx_replicas.proofs.Delivering.{accept-new}
-use Rattle.hx_replicas.proofs.Handing.{hand_out-slots}
-use Rattle.hx_replicas.proofs.Finishing.{finish-slots}
-use Rattle.hx_replicas.proofs.Wiping.{map-emptied}
 use Rattle.hx_replicas.proofs.participants.Participant.slot.Goals as goal
 
 pub returns-in-None-clause-state : goal.returns-in-None-clause-state
