@@ -11,14 +11,14 @@ use Rattle.hx_handler.specs.declared.Handler as handler
 use Rattle.hx_replicas.specs.declared.slots.Work.{Work}
 use Rattle.hx_replicas.specs.declared.slots.Work.TheVariants.{Idle, Accepted, Out}
 use Rattle.hx_replicas.specs.declared.slots.Slot.{Slot}
-use Rattle.hx_replicas.specs.Participants.{Participant, has_accepted, slot_in, slot_of, put_slot, made_ready, makes, emptied_for, hand_out}
+use Rattle.hx_replicas.specs.Participants.{Participant, has_accepted, slot_in, slot_of, put_slot, made_ready, makes, emptied_for, readied, given, hand_out}
 use Rattle.hx_handler.specs.Counts.{tried_up}
 use Rattle.hx_replicas.specs.Ledger.{lent, in_place}
 use Rattle.hx_replicas.specs.Jobs.{StandsEmpty, runs_of, seen, seen_in}
-use Rattle.hx_replicas.specs.Layout.{plain_slot, IsSlot, Stands, OfSlot, IsLaidOut, AreDistinct, has_number, sent_out}
+use Rattle.hx_replicas.specs.Layout.{plain_slot, IsSlot, Stands, OfSlot, IsLaidOut, AreDistinct, has_number, has_part, sent_out}
 use Rattle.hx_replicas.proofs.Searching.{found-passes}
-use Rattle.hx_replicas.proofs.Placing.{slot-at, put-at}
-use Rattle.hx_replicas.proofs.Putting.{slots-hand_out}
+use Rattle.hx_replicas.proofs.Placing.{slot-at, put-at, slot-found, slot-none}
+use Rattle.hx_replicas.proofs.Putting.{slots-hand_out, slot_in-put}
 use Rattle.hx_replicas.proofs.Laying.{IsLaidOut-set}
 
 pub is_some-map : {X Y : Type 0} (f : X → Y) (o : Option X) → is_some (option_map f o) ≡ is_some o
@@ -101,3 +101,32 @@ module _ {H : Type 0} (k : handler.Ghosts H) where
       hand_out-slots w xs m i x y f is lt at_i found same plain (λ z own. put-at k xs i x z distinct lt at_i own) in
       let tries_too : tried ≡ (hand_out w m f).tried = tries ∙ sym (ap (λ s. if makes s m then tried_up w.tried m.part else w.tried) found) in
       (λ j. record { session = w.session; slots = slots j; tried = tries_too j })
+
+  -- a message that is accepted has a slot
+  pub accepted-found : (xs : List (Slot H)) (p : PartId) (m : Message) → (slot_in (map (plain_slot k) xs) p).work ≡ Accepted m → position (has_part p) xs ≡ None → ⊥
+  accepted-found xs p m is none = let e : Idle ≡ Accepted m = rw (slot-none k xs p none) at is in (cc)
+
+  pub accepted-work : (xs : List (Slot H)) (p : PartId) (i : ℕ) (x : Slot H) (m : Message) → position (has_part p) xs ≡ Some i → x ≡ get_or xs i x → (slot_in (map (plain_slot k) xs) p).work ≡ Accepted m → x.work ≡ Accepted m
+  accepted-work xs p i x m e at_i is = rw (slot-found k xs p i x e at_i) at is
+
+  pub slot-set : (xs : List (Slot H)) (i : ℕ) (p : PartId) (x y : Slot H) → AreDistinct (map (λ x. x.part) xs) → i < length xs → x ≡ get_or xs i x → p ≡ x.part → y.part ≡ x.part → slot_in (map (plain_slot k) (set xs i y)) p ≡ plain_slot k y
+  slot-set xs i p x y distinct lt at_i part same =
+      ap (λ ss. slot_in ss p) (sym (put-at k xs i x y distinct lt at_i same)) ∙ slot_in-put (map (plain_slot k) xs) (plain_slot k y) p (same ∙ sym part)
+
+  -- the plain participant after a message's handler was made, and after the message went out
+  pub readied-plain : (w : Participant) (xs : List (Slot H)) (tried : List (PartId × ℕ)) (m : Message) (i : ℕ) (x y : Slot H) (f : Bool) → w.slots ≡ map (plain_slot k) xs → AreDistinct (map (λ x. x.part) xs) → i < length xs → x ≡ get_or xs i x → m.part ≡ x.part → y.part ≡ x.part → plain_slot k y ≡ made_ready (plain_slot k x) m f → tried ≡ (if makes (plain_slot k x) m then tried_up w.tried m.part else w.tried) → record { session = w.session; slots = map (plain_slot k) (set xs i y); tried = tried } ≡ readied w m f
+  readied-plain w xs tried m i x y f is distinct lt at_i part same plain tries =
+      let found : slot_of w m.part ≡ plain_slot k x = ap (λ ss. slot_in ss m.part) is ∙ slot-at k xs i m.part x distinct lt at_i part in
+      let at : plain_slot k y ≡ made_ready (slot_of w m.part) m f = plain ∙ sym (ap (λ s. made_ready s m f) found) in
+      let slots : map (plain_slot k) (set xs i y) ≡ put_slot w.slots (made_ready (slot_of w m.part) m f) =
+      sym (put-at k xs i x y distinct lt at_i same) ∙ ap (λ s. put_slot (map (plain_slot k) xs) s) at ∙ ap (λ ss. put_slot ss (made_ready (slot_of w m.part) m f)) (sym is) in
+      let tries_too : tried ≡ (readied w m f).tried = tries ∙ sym (ap (λ s. if makes s m then tried_up w.tried m.part else w.tried) found) in
+      (λ j. record { session = w.session; slots = slots j; tried = tries_too j })
+
+  pub given-plain : (w : Participant) (xs : List (Slot H)) (m : Message) (i : ℕ) (x : Slot H) → w.slots ≡ map (plain_slot k) xs → AreDistinct (map (λ x. x.part) xs) → i < length xs → x ≡ get_or xs i x → m.part ≡ x.part → record { session = w.session; slots = map (plain_slot k) (set xs i (sent_out x m)); tried = w.tried } ≡ given w m
+  given-plain w xs m i x is distinct lt at_i part =
+      let found : slot_of w m.part ≡ plain_slot k x = ap (λ ss. slot_in ss m.part) is ∙ slot-at k xs i m.part x distinct lt at_i part in
+      let at : plain_slot k (sent_out x m) ≡ emptied_for (slot_of w m.part) m = plain-sent x m ∙ sym (ap (λ s. emptied_for s m) found) in
+      let slots : map (plain_slot k) (set xs i (sent_out x m)) ≡ put_slot w.slots (emptied_for (slot_of w m.part) m) =
+      sym (put-at k xs i x (sent_out x m) distinct lt at_i refl) ∙ ap (λ s. put_slot (map (plain_slot k) xs) s) at ∙ ap (λ ss. put_slot ss (emptied_for (slot_of w m.part) m)) (sym is) in
+      (λ j. record { session = w.session; slots = slots j; tried = w.tried })

@@ -8,3 +8,5 @@ pub mod Delivering
 pub mod Handing
 pub mod Finishing
 pub mod Wiping
+pub mod Together
+pub mod Sorting

@@ -15,10 +15,10 @@ part-slot_in (x ∷ xs) p = one (part_eq x.part p) refl (part-slot_in xs p)
     one true e later = rw e (part_same x.part p e)
     one false e later = rw e later
 
-put-step : (x : Slot) (xs : List Slot) (y : Slot) (b : Bool) → part_eq x.part y.part ≡ b → put_slot (x ∷ xs) y ≡ (if b then y ∷ xs else x ∷ put_slot xs y)
+pub put-step : (x : Slot) (xs : List Slot) (y : Slot) (b : Bool) → part_eq x.part y.part ≡ b → put_slot (x ∷ xs) y ≡ (if b then y ∷ xs else x ∷ put_slot xs y)
 put-step x xs y b e = rw e refl
 
-find-step : (x : Slot) (xs : List Slot) (p : PartId) (b : Bool) → part_eq x.part p ≡ b → slot_in (x ∷ xs) p ≡ (if b then x else slot_in xs p)
+pub find-step : (x : Slot) (xs : List Slot) (p : PartId) (b : Bool) → part_eq x.part p ≡ b → slot_in (x ∷ xs) p ≡ (if b then x else slot_in xs p)
 find-step x xs p true e = rw e refl
 find-step x xs p false e = rw e refl
 

@@ -1,5 +1,5 @@
 -- What contracts see of a participant and of its jobs, and how jobs are handed out and run.
-use Rattle.std.specs.Prelude.{◌≡◌, ◌≢◌, ℕ, ◌+◌, ◌≤◌, Bool, true, false, List, Option, None, Some, is_none}
+use Rattle.std.specs.Prelude.{◌≡◌, ◌≢◌, ℕ, ◌+◌, ◌≤◌, Bool, true, false, List, [], ◌∷◌, Option, None, Some, is_none}
 use Rattle.std.specs.Option.{option_map, ForSome}
 use Rattle.hx_ids.specs.declared.PartId.{PartId}
 use Rattle.hx_ids.specs.declared.StateId.{StateId}
@@ -86,6 +86,13 @@ pub record KeepsRest (a b : ParticipantState) : Type 0 where
 pub record IsMaking (faults later made : ℕ) (listed : Option (List Failure)) (tried : List (PartId × ℕ)) (p : PartId) (is_failed : Bool) : Type 0 where
   pub cause : is_failed ≡ true → Rose faults later
   pub told : CountsOn made → CountsOn (tried_of tried p) → IsTold listed p true (tried_of tried p + 1) is_failed
+
+-- the makings for messages are answered, as far as they came
+abbrev pub AreAnswered : ParticipantState → ParticipantState → List Message → List Bool → Type 0
+AreAnswered a b ms [] = Unit {0}
+AreAnswered a b [] (f ∷ fs) = ⊥
+AreAnswered a b (m ∷ ms) (f ∷ fs) =
+    (makes (slot_of a.plain m.part) m ≡ true → IsMaking a.faults b.faults b.made a.listed a.plain.tried m.part f) × AreAnswered a b ms fs
 
 -- a message is out with the handler that stood in its slot, or with the one that was made for it, or with none
 pub record IsHanded (a b : ParticipantState) (job : Job) : Type 0 where

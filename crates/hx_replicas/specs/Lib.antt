@@ -2,3 +2,4 @@ pub mod Participants
 pub mod Jobs
 pub mod Ledger
 pub mod Layout
+pub mod Batches

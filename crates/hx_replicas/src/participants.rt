@@ -1,17 +1,19 @@
 //! Participants.
-ghost use Rattle.std.specs.Prelude.{◌≡◌, ◌+◌, ◌<◌, ◌≤◌, ◌==◌, true, false, None, Some, OnOk, OnErr, IfOk, IfSome, IfNone, is_none, is_some, if◌then◌else◌, MatchResult};
+ghost use Rattle.std.specs.Prelude.{◌≡◌, ◌+◌, ◌<◌, ◌≤◌, ◌==◌, Bool, true, false, List, [], length, map, vec_len, vec_capacity, None, Some, OnOk, OnErr, IfOk, IfSome, IfNone, is_none, is_some, if◌then◌else◌, MatchResult};
 ghost use Rattle.std.specs.Option.{option_map, ForSome};
-ghost use Rattle.hx_replicas.specs.declared.slots.Work.TheVariants.{Out};
+ghost use Rattle.std.specs.List.{All};
+ghost use Rattle.hx_replicas.specs.declared.slots.Work.TheVariants.{Accepted, Out};
 ghost use Rattle.hx_replicas.specs.Ledger.{IsBalanced, in_place};
-ghost use Rattle.hx_replicas.specs.Participants.{new_participant, slot_of, counts_as, used_of, all_idle, any_out, is_session, Fits, deliver_fault, accept, accepted_by, hand_out, end_of, finish as finish_of, adopt as adopt_of};
-ghost use Rattle.hx_replicas.specs.Jobs.{ParticipantState, IsHanded, KeepsRest, runs_of};
+ghost use Rattle.hx_replicas.specs.Participants.{new_participant, slot_of, counts_as, used_of, all_idle, any_out, is_session, Fits, deliver_fault, accept, accepted_by, accepted_all, makes, readied, readied_all, given, given_all, hand_out, hand_out_all, end_of, finish as finish_of, adopt as adopt_of};
+ghost use Rattle.hx_replicas.specs.Jobs.{ParticipantState, IsHanded, IsMaking, AreAnswered, KeepsRest, runs_of};
 ghost use Rattle.hx_replicas.specs.Layout.{IsUnused};
+ghost use Rattle.hx_replicas.specs.Batches.{AreSpread, AreAccepted, IsReadied, AreGiven};
 
 use crate::DeliverFault;
 use crate::jobs::{Done, Job};
 use crate::slots::{
-    Slot, Work, accepted_place, all_rest, bring, count_used, free, give, keep, place_of, ready,
-    refusal, state_for, wipe_all,
+    Slot, Work, accepted_messages, accepted_place, all_rest, bring, count_used, free, give, keep,
+    place_of, ready, refusal, state_for, wipe_all,
 };
 use hx_cluster::Message;
 use hx_handler::Factory;
@@ -205,6 +207,30 @@ impl<F: Factory> Participant<F> {
         Ok(Some(give(slot, &message)))
     }
 
+    /// Hands out all accepted messages by their numbers, as `job_of` does. It makes the handlers
+    /// first. At want of memory no job is out, and the handlers that were made stay.
+    pub fn jobs(&mut self) -> Result<Vec<Job<F::H>>, AllocError>
+        ensures asked { IfOk result (λ jobs.
+            map (λ job. job.message) jobs.items ≡ accepted_all self.old.plain) }
+        ensures plain { IfOk result (λ jobs. self.new.plain
+            ≡ hand_out_all self.old.plain (accepted_all self.old.plain)
+            (map (λ job. is_none job.handler) jobs.items)) }
+        ensures handed { IfOk result (λ jobs. All (IsHanded self.old self.new) jobs.items) }
+        ensures err { OnErr result ((answers : List Bool)
+            × (self.new.plain
+            ≡ readied_all self.old.plain (accepted_all self.old.plain) answers)
+            × AreAnswered self.old self.new (accepted_all self.old.plain) answers) }
+        ensures rest { KeepsRest self.old self.new }
+        ensures ledger { IsBalanced self.new.made self.new.retired self.new.plain }
+    {
+        let alloc = *self.slots.allocator();
+        let messages = accepted_messages(alloc, &self.slots)?;
+        self.ready_all(&messages)?;
+        let mut jobs = Vec::with_capacity(alloc, messages.len())?;
+        self.give_all(&messages, &mut jobs);
+        Ok(jobs)
+    }
+
     /// Takes a job back. Its handler is retired at DROPPED. It takes no memory.
     pub fn finish(&mut self, done: Done<F::H>)
         requires out { (slot_of self.old.plain done.message.part).work
@@ -267,6 +293,81 @@ impl<F: Factory> Participant<F> {
         wipe_all(&mut slots, &mut factory);
         free(slots);
         factory
+    }
+
+    // Makes the handler that an accepted message needs, where its part has none.
+    fn ready_one(&mut self, message: &Message) -> Result<(), AllocError>
+        requires { (slot_of self.old.plain message.now.part).work ≡ Accepted message.now }
+        ensures plain { OnOk result (self.new.plain
+            ≡ readied self.old.plain message.now
+            (is_none (slot_of self.new.plain message.now.part).handler)) }
+        ensures answer { OnOk result
+            (makes (slot_of self.old.plain message.now.part) message.now ≡ true →
+            IsMaking self.old.faults self.new.faults self.new.made self.old.listed
+            self.old.plain.tried message.now.part
+            (is_none (slot_of self.new.plain message.now.part).handler)) }
+        ensures err { OnErr result (self.new.plain ≡ self.old.plain) }
+        ensures made { self.old.made ≤ self.new.made }
+        ensures rest { KeepsRest self.old self.new }
+        ensures ledger { IsBalanced self.new.made self.new.retired self.new.plain }
+    {
+        let Some(place) = place_of(&self.slots, message.part) else {
+            unreachable!()
+        };
+        ready(&mut self.slots[place], message, &mut self.factory)?;
+        Ok(())
+    }
+
+    // Hands out an accepted message with its part's handler, if there is one.
+    fn give_one(&mut self, message: &Message) -> Job<F::H>
+        requires { (slot_of self.old.plain message.now.part).work ≡ Accepted message.now }
+        ensures plain { self.new.plain ≡ given self.old.plain message.now }
+        ensures message { result.message ≡ message.now }
+        ensures runs { runs_of result.handler
+            ≡ (slot_of self.old.plain message.now.part).handler }
+        ensures listed { ForSome result.handler (λ h. h.listed ≡ self.old.listed) }
+        ensures rest { self.new ≡ record self.old { plain = self.new.plain } }
+        ensures ledger { IsBalanced self.new.made self.new.retired self.new.plain }
+    {
+        let Some(place) = place_of(&self.slots, message.part) else {
+            unreachable!()
+        };
+        give(&mut self.slots[place], message)
+    }
+
+    // Makes the handlers that messages need, as far as there is memory.
+    fn ready_all(&mut self, messages: &[Message]) -> Result<(), AllocError>
+        requires spread { AreSpread messages.now }
+        requires accepted { AreAccepted self.old.plain messages.now }
+        requires ledger { IsBalanced self.old.made self.old.retired self.old.plain }
+        ensures answers { MatchResult result
+            (λ _. (answers : List Bool) × IsReadied self.old self.new messages.now answers
+            × (length answers ≡ length messages.now))
+            (λ _. (answers : List Bool) × IsReadied self.old self.new messages.now answers) }
+        ensures ledger { IsBalanced self.new.made self.new.retired self.new.plain }
+    {
+        for message in messages {
+            self.ready_one(message)?;
+        }
+        Ok(())
+    }
+
+    // Hands out messages, into a vector with room for their jobs.
+    fn give_all(&mut self, messages: &[Message], jobs: &mut Vec<Job<F::H>>)
+        requires spread { AreSpread messages.now }
+        requires accepted { AreAccepted self.old.plain messages.now }
+        requires ledger { IsBalanced self.old.made self.old.retired self.old.plain }
+        requires empty { jobs.old.items ≡ [] }
+        requires room { vec_len jobs.old + length messages.now ≤ vec_capacity jobs.old }
+        ensures plain { self.new.plain ≡ given_all self.old.plain messages.now }
+        ensures given { AreGiven self.old messages.now jobs.new.items }
+        ensures len { length jobs.new.items ≡ length messages.now }
+        ensures rest { self.new ≡ record self.old { plain = self.new.plain } }
+        ensures ledger { IsBalanced self.new.made self.new.retired self.new.plain }
+    {
+        for message in messages {
+            jobs.push_reserved(self.give_one(message));
+        }
     }
 
     // Accepts a message of a part that wasn't used yet, or says why not.

@@ -1,23 +1,25 @@
 //! The slots of a participant, and what is done with one of them.
-ghost use Rattle.std.specs.Prelude.{◌≡◌, ℕ, ◌+◌, ◌≤◌, ◌==◌, Bool, true, false, List, Option, map, None, Some, position, OnOk, OnErr, IfSome, is_none, nat_lt, if◌then◌else◌, vec_len, vec_capacity};
-ghost use Rattle.std.specs.List.{All, sum_by, list_all};
-ghost use Rattle.hx_lists.specs.Lists.{count};
+ghost use Rattle.std.specs.Prelude.{◌≡◌, ℕ, ◌+◌, ◌≤◌, ◌==◌, Bool, true, false, List, Option, map, None, Some, position, OnOk, OnErr, IfOk, IfSome, is_none, nat_lt, if◌then◌else◌, vec_len, vec_capacity};
+ghost use Rattle.std.specs.List.{All, sum_by, list_all, filter_map};
+ghost use Rattle.hx_lists.specs.Lists.{count, sort_by};
 ghost use Rattle.hx_model.specs.Model.{dropped};
 ghost use Rattle.hx_cluster.specs.declared.description.Failure.{Failure};
 ghost use Rattle.hx_handler.specs.Counts.{tried_up};
 ghost use Rattle.hx_replicas.specs.declared.slots.Work.TheVariants.{Accepted};
 ghost use Rattle.hx_replicas.specs.Ledger.{in_place};
-ghost use Rattle.hx_replicas.specs.Participants.{slot_fault, has_accepted, is_idle, makes, made_ready, is_out, state_for as state_of_slot};
+ghost use Rattle.hx_replicas.specs.Participants.{slot_fault, has_accepted, accepted_of, number_before, is_idle, makes, made_ready, is_out, state_for as state_of_slot};
 ghost use Rattle.hx_replicas.specs.Jobs.{seen_in, Job as SeenJob, IsMaking};
 ghost use Rattle.hx_replicas.specs.Layout.{IsSlot, IsQuiet, IsBare, has_part, has_number, plain_slot, count_of, filled, wiped, restored, sent_out};
+ghost use Rattle.hx_replicas.specs.Batches.{with_accepted};
 
 use crate::DeliverFault;
 use crate::jobs::Job;
 use hx_cluster::Message;
 use hx_handler::{Factory, Handler, MakeFault};
 use hx_ids::{MsgId, PartId, StateId};
+use hx_lists::insert_reserved;
 use hx_model::{DROPPED, ERROR};
-use std::alloc::AllocError;
+use std::alloc::{AllocError, Global};
 use std::mem;
 
 /// What a slot holds: no message, one that was accepted, or one that is out in a job, with a handler
@@ -85,6 +87,30 @@ pub fn accepted_place<H>(slots: &[Slot<H>], id: MsgId) -> Option<usize>
     ensures { result ≡ position (has_number id) slots.now }
 {
     slots.iter().position(|slot| holds(slot.work, id))
+}
+
+/// Puts an accepted message among others, by number.
+fn insert_accepted(messages: &mut Vec<Message>, work: Work) -> Result<(), AllocError>
+    ensures { OnOk result
+        (messages.new.items ≡ with_accepted (accepted_of work) messages.old.items) }
+{
+    if let Work::Accepted(message) = work {
+        messages.reserve(1)?;
+        insert_reserved(messages, message, |other| other.id.0 < message.id.0);
+    }
+    Ok(())
+}
+
+/// The accepted messages, by number.
+pub fn accepted_messages<H>(alloc: Global, slots: &[Slot<H>]) -> Result<Vec<Message>, AllocError>
+    ensures { IfOk result (λ messages. messages.items
+        ≡ sort_by number_before (filter_map (λ x. accepted_of x.work) slots.now)) }
+{
+    let mut messages = Vec::new(alloc);
+    for i in (0..slots.len()).rev() {
+        insert_accepted(&mut messages, slots[i].work)?;
+    }
+    Ok(messages)
 }
 
 /// Why a slot refuses a message, if it does.
