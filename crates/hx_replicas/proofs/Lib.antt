@@ -10,3 +10,4 @@ pub mod Finishing
 pub mod Wiping
 pub mod Together
 pub mod Sorting
+pub mod Outs

@@ -1,5 +1,5 @@
 -- A plain participant: its session, for each part what its replica is and does, and the makings of handlers that were tried.
-use Rattle.std.specs.Prelude.{◌≡◌, ◌≢◌, ℕ, Bool, true, false, not, ◌==◌, ◌&&◌, List, [], ◌∷◌, map, find, Option, None, Some, if◌then◌else◌, is_none, is_some, unwrap_or, nat_le, nat_lt}
+use Rattle.std.specs.Prelude.{◌≡◌, ◌≢◌, ℕ, Bool, true, false, not, ◌==◌, ◌&&◌, List, [], ◌∷◌, map, find, filter, Option, None, Some, if◌then◌else◌, is_none, is_some, unwrap_or, nat_le, nat_lt}
 use Rattle.std.specs.List.{list_any, list_all, filter_map}
 use Rattle.hx_lists.specs.Lists.{sort_by, count}
 use Rattle.hx_ids.specs.declared.StateId.{StateId}
@@ -233,9 +233,9 @@ emptied x = new_slot x.part
 abbrev pub adopt : Participant → Option SessionId → Participant
 adopt w session = record { session = session; slots = map emptied w.slots; tried = w.tried }
 
--- whether a description has the k-th making, or the k-th run of a handler, of a part on an instance fail
+-- the failures of an instance, which its factory tells
 abbrev pub is_on : InstanceId → Failure → Bool
 is_on i f = f.instance.0 == i.0
 
 abbrev pub failures_on : InstanceId → List Failure → List Failure
-failures_on i failures = filter_map (λ f. if is_on i f then Some f else None) failures
+failures_on i failures = filter (is_on i) failures

@@ -106,8 +106,8 @@ impl<H: Handler> Job<H> {
         &self.message
     }
 
-    /// Runs the transition: a reset where it leaves ERROR; a failure where there is no handler; else
-    /// a run of the handler.
+    /// Runs the transition: a reset where it leaves ERROR; a failure where there is no handler;
+    /// else a run of the handler.
     pub fn run(self) -> Ran<H>
         ensures message { result.message ≡ self.message }
         ensures runs { RunsWith self.message self.handler result.handler

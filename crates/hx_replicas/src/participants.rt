@@ -183,8 +183,8 @@ impl<F: Factory> Participant<F> {
         Ok(())
     }
 
-    /// Hands out an accepted message by its number, with a handler, which is made where its part has
-    /// none and the message doesn't leave ERROR.
+    /// Hands out an accepted message by its number, with a handler, which is made where its part
+    /// has none and the message doesn't leave ERROR.
     pub fn job_of(&mut self, id: MsgId) -> Result<Option<Job<F::H>>, AllocError>
         ensures asked { IfOk result (λ found.
             option_map (λ job. job.message) found ≡ accepted_by self.old.plain id) }

@@ -22,8 +22,8 @@ use hx_model::{DROPPED, ERROR};
 use std::alloc::{AllocError, Global};
 use std::mem;
 
-/// What a slot holds: no message, one that was accepted, or one that is out in a job, with a handler
-/// or without.
+/// What a slot holds: no message, one that was accepted, or one that is out in a job, with a
+/// handler or without.
 #[derive(Clone, Copy, Debug, PartialEq, Eq)]
 pub enum Work {
     Idle,
