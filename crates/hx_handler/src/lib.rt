@@ -6,8 +6,8 @@ ghost use Rattle.hx_ids.specs.declared.PartId.{PartId};
 ghost use Rattle.hx_ids.specs.declared.StateId.{StateId};
 ghost use Rattle.hx_model.specs.Model.{error, dropped};
 ghost use Rattle.hx_cluster.specs.declared.description.Failure.{Failure};
-ghost use Rattle.hx_lists.specs.Answers.{count_up, Rose};
-ghost use Rattle.hx_handler.specs.Counts.{CountsOn, tried_of};
+ghost use Rattle.hx_lists.specs.Counts.{count_up, CountsOn, Rose};
+ghost use Rattle.hx_handler.specs.Makings.{tried_of};
 
 use hx_ids::{PartId, StateId};
 

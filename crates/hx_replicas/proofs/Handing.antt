@@ -12,7 +12,7 @@ use Rattle.hx_replicas.specs.declared.slots.Work.{Work}
 use Rattle.hx_replicas.specs.declared.slots.Work.TheVariants.{Idle, Accepted, Out}
 use Rattle.hx_replicas.specs.declared.slots.Slot.{Slot}
 use Rattle.hx_replicas.specs.Participants.{Participant, has_accepted, slot_in, slot_of, put_slot, made_ready, makes, emptied_for, readied, given, hand_out}
-use Rattle.hx_handler.specs.Counts.{tried_up}
+use Rattle.hx_handler.specs.Makings.{tried_up}
 use Rattle.hx_replicas.specs.Ledger.{lent, in_place}
 use Rattle.hx_replicas.specs.Jobs.{StandsEmpty, runs_of, seen, seen_in}
 use Rattle.hx_replicas.specs.Layout.{plain_slot, IsSlot, Stands, OfSlot, IsLaidOut, AreDistinct, has_number, has_part, sent_out}

@@ -3,12 +3,12 @@ use Rattle.std.proofs.Common.{◌≡◌, ◌≢◌, ℕ, ◌+◌, ◌<◌, ◌�
 use Rattle.std.specs.List.{All, list_any}
 use Rattle.std.specs.Option.{ForSome, option_map}
 use Rattle.std.proofs.lemmas.Grind.{common_steps}
-use Rattle.hx_lists.specs.Answers.{count_up, Rose}
 use Rattle.hx_ids.specs.declared.PartId.{PartId}
 use Rattle.hx_cluster.specs.Ends.{part_eq}
 use Rattle.hx_cluster.specs.declared.state.Message.{Message}
 use Rattle.hx_cluster.specs.declared.description.Failure.{Failure}
-use Rattle.hx_handler.specs.Counts.{CountsOn, tried_of, tried_up}
+use Rattle.hx_lists.specs.Counts.{count_up, CountsOn, Rose}
+use Rattle.hx_handler.specs.Makings.{tried_of, tried_up}
 use Rattle.hx_replicas.specs.declared.slots.Work.TheVariants.{Accepted}
 use Rattle.hx_replicas.specs.Participants.{Participant, Slot, slot_in, slot_of, put_slot, makes, made_ready, emptied_for, readied, readied_all, given, given_all}
 use Rattle.hx_replicas.specs.Jobs.{ParticipantState, IsMaking, AreAnswered, KeepsRest, Held, Job, runs_of, IsHanded}

@@ -10,8 +10,8 @@ use Rattle.hx_cluster.specs.declared.description.Failure.{Failure}
 use Rattle.hx_cluster.specs.declared.happenings.Outcome.{Outcome}
 use Rattle.hx_cluster.specs.declared.happenings.Outcome.TheVariants as outcomes
 use Rattle.hx_handler.specs.declared.Handler as handler
-use Rattle.hx_lists.specs.Answers.{count_up, Rose}
-use Rattle.hx_handler.specs.Counts.{CountsOn, tried_of}
+use Rattle.hx_lists.specs.Counts.{count_up, CountsOn, Rose}
+use Rattle.hx_handler.specs.Makings.{tried_of}
 use Rattle.hx_handler.specs.Told.{IsTold}
 use Rattle.hx_replicas.specs.Participants.{Participant, IsSound, slot_of, makes, made_ready, leaves_error}
 

@@ -13,7 +13,7 @@ use Rattle.hx_cluster.specs.declared.description.Failure.{Failure}
 use Rattle.hx_cluster.specs.declared.happenings.Outcome.{Outcome}
 use Rattle.hx_cluster.specs.Ends.{part_eq}
 use Rattle.hx_cluster.specs.Messages.{state_after}
-use Rattle.hx_handler.specs.Counts.{tried_up}
+use Rattle.hx_handler.specs.Makings.{tried_up}
 use Rattle.hx_replicas.specs.declared.DeliverFault.{DeliverFault}
 use Rattle.hx_replicas.specs.declared.DeliverFault.TheVariants as faults
 use Rattle.hx_replicas.specs.declared.slots.Work.{Work}

@@ -4,7 +4,7 @@ ghost use Rattle.std.specs.List.{All, sum_by, list_all, filter_map};
 ghost use Rattle.hx_lists.specs.Lists.{count, sort_by};
 ghost use Rattle.hx_model.specs.Model.{dropped};
 ghost use Rattle.hx_cluster.specs.declared.description.Failure.{Failure};
-ghost use Rattle.hx_handler.specs.Counts.{tried_up};
+ghost use Rattle.hx_handler.specs.Makings.{tried_up};
 ghost use Rattle.hx_replicas.specs.declared.slots.Work.TheVariants.{Accepted};
 ghost use Rattle.hx_replicas.specs.Ledger.{in_place};
 ghost use Rattle.hx_replicas.specs.Participants.{slot_fault, has_accepted, accepted_of, number_before, is_idle, makes, made_ready, is_out, state_for as state_of_slot};

@@ -1,12 +1,8 @@
--- What handlers and factories count.
-use Rattle.std.specs.Prelude.{ℕ, ◌-◌, ◌^◌, ◌<◌, List, [], ◌∷◌, if◌then◌else◌}
-use Rattle.hx_lists.specs.Answers.{count_up}
+-- The makings of handlers that were tried, part by part.
+use Rattle.std.specs.Prelude.{ℕ, List, [], ◌∷◌, if◌then◌else◌}
+use Rattle.hx_lists.specs.Counts.{count_up}
 use Rattle.hx_ids.specs.declared.PartId.{PartId}
 use Rattle.hx_cluster.specs.Ends.{part_eq}
-
--- a count isn't at the end of its type
-abbrev pub CountsOn : ℕ → Type 0
-CountsOn n = n < 2 ^ 64 - 1
 
 -- how many makings of a part were tried
 abbrev pub tried_of : List (PartId × ℕ) → PartId → ℕ
