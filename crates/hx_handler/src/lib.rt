@@ -1,7 +1,8 @@
 //! Handlers, which run the transitions of one part, and the factories that make them.
 #![tactic(auto)]
 
-ghost use Rattle.std.specs.Prelude.{◌≡◌, ◌≢◌, ℕ, ◌+◌, ◌<◌, ◌≤◌, List, Option, OnOk, OnErr, IfOk, IfErr, IfSome, is_err, true, false};
+ghost use Rattle.std.specs.Prelude.{◌≡◌, ◌≢◌, ℕ, ◌+◌, ◌<◌, ◌≤◌, List, Option, OnOk, OnErr, IfOk};
+ghost use Rattle.std.specs.Prelude.{IfErr, IfSome, is_err, true, false};
 ghost use Rattle.hx_ids.specs.declared.PartId.{PartId};
 ghost use Rattle.hx_ids.specs.declared.StateId.{StateId};
 ghost use Rattle.hx_model.specs.Model.{error, dropped};

@@ -1,14 +1,14 @@
 -- What callers need of jobs that are out: what `finish` and `close` ask follows from what came before.
-use Rattle.std.proofs.Common.{◌≡◌, ◌≢◌, ℕ, ◌∷◌, [], List, map, arith, refl, sym, ap, ◌∙◌, Bool, true, false, not, Option, None, Some, is_some, is_none}
+use Rattle.std.proofs.Common.{◌≡◌, ℕ, ◌∷◌, [], List, map, arith, refl, sym, ap, ◌∙◌, Bool, true, false, Option, None, Some, is_some, is_none}
 use Rattle.std.specs.List.{list_any, list_all}
-use Rattle.std.specs.Option.{option_map, ForSome}
+use Rattle.std.specs.Option.{ForSome}
 use Rattle.std.proofs.lemmas.Grind.{common_steps}
 use Rattle.hx_cluster.specs.declared.state.Message.{Message}
 use Rattle.hx_cluster.specs.declared.description.Failure.{Failure}
 use Rattle.hx_replicas.specs.declared.slots.Work.{Work}
 use Rattle.hx_replicas.specs.declared.slots.Work.TheVariants.{Idle, Accepted, Out}
-use Rattle.hx_replicas.specs.Participants.{Participant, Slot, slot_in, slot_of, put_slot, made_ready, emptied_for, hand_out, hand_out_all, is_out, is_idle, all_idle, any_out, leaves_error}
-use Rattle.hx_replicas.specs.Jobs.{ParticipantState, Held, Job, IsHanded, RunsWith, IsRun, IsReset, runs_of}
+use Rattle.hx_replicas.specs.Participants.{Participant, Slot, slot_in, slot_of, made_ready, emptied_for, hand_out, hand_out_all, is_out, is_idle, all_idle, any_out, leaves_error}
+use Rattle.hx_replicas.specs.Jobs.{ParticipantState, Held, Job, IsHanded, RunsWith, runs_of}
 use Rattle.hx_replicas.proofs.Putting.{part-slot_in, slot_in-put, slots-hand_out}
 
 some-runs : (h : Option Held) → is_some (runs_of h) ≡ is_some h

@@ -1,5 +1,5 @@
 -- The accepted messages, put in order from the last slot on.
-use Rattle.std.proofs.Common.{◌≡◌, ℕ, ◌+◌, ◌<◌, List, [], ◌∷◌, suc, map, drop, length, get_or, arith, refl, sym, ap, subst, ◌∙◌, drop-cons, Option, None, Bool, true, false}
+use Rattle.std.proofs.Common.{◌≡◌, ℕ, ◌<◌, List, [], ◌∷◌, suc, map, drop, length, get_or, arith, refl, sym, ap, subst, ◌∙◌, drop-cons, Option, None, Bool, true, false}
 use Rattle.std.specs.List.{filter_map, list_any, All}
 use Rattle.std.proofs.lemmas.Grind.{common_steps}
 use Rattle.hx_lists.specs.Lists.{sort_by, insert_by}

@@ -1,20 +1,17 @@
 -- Messages that are handed out together: what becomes of each part's slot, and of the makings that were tried.
-use Rattle.std.proofs.Common.{◌≡◌, ◌≢◌, ℕ, ◌+◌, ◌<◌, ◌≤◌, ◌++◌, ◌∷◌, [], List, zero, suc, map, take, length, get_or, arith, refl, sym, ap, subst, ◌∙◌, Bool, true, false, Option, None, Some, is_none, is_some, if◌then◌else◌}
-use Rattle.std.specs.List.{All, list_any}
-use Rattle.std.specs.Option.{ForSome, option_map}
-use Rattle.std.proofs.lemmas.Grind.{common_steps}
+use Rattle.std.proofs.Common.{◌≡◌, ℕ, ◌<◌, ◌≤◌, ◌++◌, ◌∷◌, [], List, zero, suc, map, take, length, get_or, arith, refl, sym, ap, subst, ◌∙◌, Bool, true, false, Option, None, Some, is_none, if◌then◌else◌}
+use Rattle.std.specs.List.{All}
+use Rattle.std.specs.Option.{ForSome}
 use Rattle.hx_ids.specs.declared.PartId.{PartId}
 use Rattle.hx_cluster.specs.Ends.{part_eq}
 use Rattle.hx_cluster.specs.declared.state.Message.{Message}
 use Rattle.hx_cluster.specs.declared.description.Failure.{Failure}
-use Rattle.hx_lists.specs.Counts.{count_up, CountsOn, Rose}
+use Rattle.hx_lists.specs.Counts.{Rose}
 use Rattle.hx_handler.specs.Makings.{tried_of, tried_up}
 use Rattle.hx_replicas.specs.declared.slots.Work.TheVariants.{Accepted}
 use Rattle.hx_replicas.specs.Participants.{Participant, Slot, slot_in, slot_of, put_slot, makes, made_ready, emptied_for, readied, readied_all, given, given_all}
 use Rattle.hx_replicas.specs.Jobs.{ParticipantState, IsMaking, AreAnswered, KeepsRest, Held, Job, runs_of, IsHanded}
-use Rattle.hx_replicas.specs.Layout.{AreDistinct}
 use Rattle.hx_replicas.specs.Batches.{AreApart, AreSpread, AreAccepted, AreShown, IsReadied, AreGiven}
-use Rattle.hx_replicas.specs.declared.slots.Work.{Work}
 use Rattle.hx_replicas.proofs.Parts.{part_same, part_eq-same}
 use Rattle.hx_replicas.proofs.Putting.{part-slot_in, slot_in-put, put-step, find-step}
 

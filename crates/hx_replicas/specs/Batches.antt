@@ -1,5 +1,5 @@
 -- Messages that are handed out together. No public clause cites this module.
-use Rattle.std.specs.Prelude.{◌≡◌, ℕ, ◌≤◌, Bool, false, List, [], ◌∷◌, Option, None, Some, is_none, length}
+use Rattle.std.specs.Prelude.{◌≡◌, ◌≤◌, Bool, false, List, [], ◌∷◌, Option, None, Some, is_none}
 use Rattle.std.specs.Option.{ForSome}
 use Rattle.hx_lists.specs.Lists.{insert_by}
 use Rattle.hx_ids.specs.declared.PartId.{PartId}

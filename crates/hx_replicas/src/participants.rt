@@ -1,12 +1,20 @@
 //! Participants.
-ghost use Rattle.std.specs.Prelude.{◌≡◌, ◌+◌, ◌<◌, ◌≤◌, ◌==◌, Bool, true, false, List, [], length, map, vec_len, vec_capacity, None, Some, OnOk, OnErr, IfOk, IfSome, IfNone, is_none, is_some, if◌then◌else◌, MatchResult};
+ghost use Rattle.std.specs.Prelude.{◌≡◌, ◌+◌, ◌<◌, ◌≤◌, ◌==◌, Bool, true, false, List, [], length};
+ghost use Rattle.std.specs.Prelude.{map, vec_len, vec_capacity, None, Some, OnOk, OnErr, IfOk};
+ghost use Rattle.std.specs.Prelude.{IfSome, IfNone, is_none, is_some, if◌then◌else◌, MatchResult};
 ghost use Rattle.std.specs.Option.{option_map, ForSome};
 ghost use Rattle.std.specs.List.{All};
 ghost use Rattle.hx_model.specs.Model.{dropped};
 ghost use Rattle.hx_replicas.specs.declared.slots.Work.TheVariants.{Accepted, Out};
 ghost use Rattle.hx_replicas.specs.Ledger.{IsBalanced, in_place};
-ghost use Rattle.hx_replicas.specs.Participants.{new_participant, slot_of, counts_as, used_of, all_idle, any_out, is_session, Fits, deliver_fault, accept, accepted_by, accepted_all, makes, readied, readied_all, given, given_all, hand_out, hand_out_all, end_of, finish as finish_of, adopt as adopt_of};
-ghost use Rattle.hx_replicas.specs.Jobs.{ParticipantState, IsHanded, IsMaking, AreAnswered, KeepsRest, runs_of};
+ghost use Rattle.hx_replicas.specs.Participants.{new_participant, slot_of, counts_as, used_of};
+ghost use Rattle.hx_replicas.specs.Participants.{all_idle, any_out, is_session, Fits};
+ghost use Rattle.hx_replicas.specs.Participants.{deliver_fault, accept, accepted_by, accepted_all};
+ghost use Rattle.hx_replicas.specs.Participants.{makes, readied, readied_all, given, given_all};
+ghost use Rattle.hx_replicas.specs.Participants.{hand_out, hand_out_all, end_of};
+ghost use Rattle.hx_replicas.specs.Participants.{finish as finish_of, adopt as adopt_of};
+ghost use Rattle.hx_replicas.specs.Jobs.{ParticipantState, IsHanded, IsMaking, AreAnswered};
+ghost use Rattle.hx_replicas.specs.Jobs.{KeepsRest, runs_of};
 ghost use Rattle.hx_replicas.specs.Layout.{IsUnused};
 ghost use Rattle.hx_replicas.specs.Batches.{AreSpread, AreAccepted, IsReadied, AreGiven};
 
@@ -241,7 +249,7 @@ impl<F: Factory> Participant<F> {
             ≡ finish_of self.old.plain done.message done.outcome (runs_of done.handler) }
         ensures retired { self.new.retired ≡ self.old.retired
             + (if (end_of done.message done.outcome).0 == dropped.0
-                then in_place done.handler else 0) }
+            then in_place done.handler else 0) }
         ensures instance { self.new.instance ≡ self.old.instance }
         ensures spare { self.new.spare ≡ self.old.spare }
         ensures made { self.new.made ≡ self.old.made }

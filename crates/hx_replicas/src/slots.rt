@@ -1,5 +1,7 @@
 //! The slots of a participant, and what is done with one of them.
-ghost use Rattle.std.specs.Prelude.{◌≡◌, ℕ, ◌+◌, ◌≤◌, ◌==◌, Bool, true, false, List, Option, map, None, Some, position, OnOk, OnErr, IfOk, IfSome, is_none, nat_lt, if◌then◌else◌, vec_len, vec_capacity};
+ghost use Rattle.std.specs.Prelude.{◌≡◌, ℕ, ◌+◌, ◌≤◌, ◌==◌, Bool, true, false, List, Option, map};
+ghost use Rattle.std.specs.Prelude.{None, Some, position, OnOk, OnErr, IfOk, IfSome, is_none};
+ghost use Rattle.std.specs.Prelude.{nat_lt, if◌then◌else◌, vec_len, vec_capacity};
 ghost use Rattle.std.specs.List.{All, sum_by, list_all, filter_map};
 ghost use Rattle.hx_lists.specs.Lists.{count, sort_by};
 ghost use Rattle.hx_model.specs.Model.{dropped};
@@ -7,9 +9,12 @@ ghost use Rattle.hx_cluster.specs.declared.description.Failure.{Failure};
 ghost use Rattle.hx_handler.specs.Makings.{tried_up};
 ghost use Rattle.hx_replicas.specs.declared.slots.Work.TheVariants.{Accepted};
 ghost use Rattle.hx_replicas.specs.Ledger.{in_place};
-ghost use Rattle.hx_replicas.specs.Participants.{slot_fault, has_accepted, accepted_of, number_before, is_idle, makes, made_ready, is_out, state_for as state_of_slot};
+ghost use Rattle.hx_replicas.specs.Participants.{slot_fault, has_accepted, accepted_of};
+ghost use Rattle.hx_replicas.specs.Participants.{number_before, is_idle, makes, made_ready, is_out};
+ghost use Rattle.hx_replicas.specs.Participants.{state_for as state_of_slot};
 ghost use Rattle.hx_replicas.specs.Jobs.{seen_in, Job as SeenJob, IsMaking};
-ghost use Rattle.hx_replicas.specs.Layout.{IsSlot, IsQuiet, IsBare, has_part, has_number, plain_slot, count_of, filled, wiped, restored, sent_out};
+ghost use Rattle.hx_replicas.specs.Layout.{IsSlot, IsQuiet, IsBare, has_part, has_number};
+ghost use Rattle.hx_replicas.specs.Layout.{plain_slot, count_of, filled, wiped, restored, sent_out};
 ghost use Rattle.hx_replicas.specs.Batches.{with_accepted};
 
 use crate::DeliverFault;

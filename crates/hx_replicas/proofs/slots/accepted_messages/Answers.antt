@@ -1,4 +1,4 @@
-use Rattle.std.proofs.Common.{◌≡◌, ◌<◌, ◌-◌, suc, length, get_or, arith, sym, ap, ◌∙◌}
+use Rattle.std.proofs.Common.{◌<◌, ◌-◌, length, arith, sym, ap, ◌∙◌}
 use Rattle.hx_replicas.specs.Participants.{accepted_of}
 use Rattle.hx_replicas.specs.Batches.{with_accepted}
 use Rattle.hx_replicas.proofs.Sorting.{sort-next}

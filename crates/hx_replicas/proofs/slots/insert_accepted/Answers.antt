@@ -1,4 +1,4 @@
-use Rattle.std.proofs.Common.{rules, of_calls, sym, ap, ◌∙◌}
+use Rattle.std.proofs.Common.{rules}
 use Rattle.std.proofs.lemmas.Fn.{always_returns_same}
 use Rattle.hx_replicas.specs.Participants.{number_before}
 use Rattle.hx_replicas.proofs.slots.insert_accepted.Goals as goal

@@ -1,4 +1,4 @@
-use Rattle.std.proofs.Common.{◌≡◌, ℕ, ◌+◌, ◌<◌, ◌≤◌, length, take, map, get_or, arith, rules, refl, sym, ap, ◌∙◌, Bool, true, false, List, [], ◌∷◌, ◌++◌, length-append, add-one, vec_len}
+use Rattle.std.proofs.Common.{◌≡◌, ◌<◌, ◌≤◌, length, take, get_or, arith, rules, refl, sym, ap, ◌∙◌, false, [], ◌∷◌, length-append, add-one}
 use Rattle.std.specs.Option.{ForSome}
 use Rattle.std.proofs.lemmas.Grind.{common_steps}
 use Rattle.hx_cluster.specs.declared.state.Message.{Message}

@@ -1,4 +1,4 @@
-use Rattle.std.proofs.Common.{◌≡◌, ◌+◌, ◌-◌, ◌≤◌, List, length, take, vec_len, vec_capacity}
+use Rattle.std.proofs.Common.{◌≡◌, ◌+◌, ◌-◌, ◌≤◌, length, take, vec_len, vec_capacity}
 use Rattle.hx_replicas.specs.Ledger.{IsBalanced}
 use Rattle.hx_replicas.specs.Participants.{given_all}
 use Rattle.hx_replicas.specs.Batches.{AreGiven}

@@ -1,9 +1,9 @@
-use Rattle.std.proofs.Common.{◌≡◌, ℕ, ◌+◌, ◌<◌, ◌≤◌, length, map, arith, rules, refl, sym, ap, ◌∙◌, Bool, List, [], ◌∷◌, is_none, get_or}
-use Rattle.std.specs.List.{filter_map, All}
+use Rattle.std.proofs.Common.{◌≡◌, length, arith, refl, sym, ap, ◌∙◌, []}
+use Rattle.std.specs.List.{filter_map}
 use Rattle.std.proofs.lemmas.Result.{err_from_is_err_and}
 use Rattle.hx_lists.specs.Lists.{sort_by}
-use Rattle.hx_replicas.specs.Participants.{accepted_of, accepted_all, number_before, readied_all, given_all}
-use Rattle.hx_replicas.specs.Jobs.{ParticipantState, AreAnswered, KeepsRest, IsHanded}
+use Rattle.hx_replicas.specs.Participants.{accepted_of, accepted_all, number_before, given_all}
+use Rattle.hx_replicas.specs.Jobs.{ParticipantState, AreAnswered}
 use Rattle.hx_replicas.specs.Batches.{AreSpread, AreAccepted, IsReadied}
 use Rattle.hx_replicas.proofs.Ledgers.{ledger}
 use Rattle.hx_replicas.proofs.Sorting.{accepted-plain, spread-all, accepted-sorted}

@@ -1,8 +1,7 @@
-use Rattle.std.proofs.Common.{◌≡◌, ℕ, ◌+◌, ◌<◌, ◌≤◌, length, map, get_or, arith, rules, refl, sym, ap, ◌∙◌, Bool, true, false, List, [], ◌∷◌, ◌++◌, is_none, length-append}
+use Rattle.std.proofs.Common.{◌≡◌, ℕ, ◌<◌, ◌≤◌, length, get_or, arith, rules, refl, ap, ◌∙◌, false, List, [], ◌∷◌, ◌++◌, is_none, length-append}
 use Rattle.std.proofs.lemmas.List.{get_or_default}
 use Rattle.std.proofs.lemmas.Result.{err_from_is_err_and}
 use Rattle.hx_cluster.specs.declared.state.Message.{Message}
-use Rattle.hx_replicas.specs.declared.slots.Work.TheVariants.{Accepted}
 use Rattle.hx_replicas.specs.Participants.{slot_of}
 use Rattle.hx_replicas.specs.Batches.{IsReadied}
 use Rattle.hx_replicas.proofs.Together.{IsReadied-none, IsReadied-still, IsReadied-more, accepted-at, slot-left}

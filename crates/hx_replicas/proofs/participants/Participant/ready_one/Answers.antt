@@ -1,15 +1,14 @@
-use Rattle.std.proofs.Common.{◌≡◌, ◌+◌, ◌<◌, ◌≤◌, length, map, set, get_or, arith, rules, refl, sym, ap, ◌∙◌, true, false, None, Some, Bool, is_none, List, if◌then◌else◌, ◌++◌, ◌∷◌, []}
+use Rattle.std.proofs.Common.{◌≡◌, ◌<◌, length, map, set, get_or, arith, refl, sym, ap, ◌∙◌, None, Some, is_none}
 use Rattle.std.specs.List.{position}
 use Rattle.std.proofs.lemmas.Grind.{common_steps}
 use Rattle.std.proofs.lemmas.Result.{err_from_is_err_and}
 use Rattle.hx_replicas.specs.declared.slots.Work.TheVariants.{Accepted}
-use Rattle.hx_replicas.specs.Participants.{slot_in, makes, made_ready}
-use Rattle.hx_replicas.specs.Jobs.{seen_in}
-use Rattle.hx_replicas.specs.Layout.{has_part, plain_slot, IsSlot, IsLaidOut, sent_out, OfSlot}
+use Rattle.hx_replicas.specs.Participants.{slot_in, made_ready}
+use Rattle.hx_replicas.specs.Layout.{has_part, plain_slot, IsSlot, IsLaidOut}
 use Rattle.hx_replicas.proofs.Searching.{found-in}
 use Rattle.hx_replicas.proofs.Ledgers.{ledger}
 use Rattle.hx_replicas.proofs.Placing.{slot-at, part-found}
-use Rattle.hx_replicas.proofs.Handing.{accepted-found, accepted-work, of-slot, is_none-map, runs-seen, listed-seen, IsLaidOut-sent, IsLaidOut-ready, slot-set, readied-plain, given-plain}
+use Rattle.hx_replicas.proofs.Handing.{accepted-found, accepted-work, is_none-map, IsLaidOut-ready, slot-set, readied-plain}
 use Rattle.hx_replicas.proofs.participants.Participant.ready_one.Goals as goal
 
 pub unreachable-requires : goal.unreachable-requires
