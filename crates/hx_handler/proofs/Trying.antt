@@ -2,7 +2,8 @@
 use Rattle.std.proofs.Common.{◌≡◌, ℕ, ◌<◌, ◌++◌, ◌∷◌, [], List, zero, suc, take, drop, length, get_or, set, arith, refl, drop-cons}
 use Rattle.std.proofs.lemmas.Grind.{common_steps}
 use Rattle.hx_ids.specs.declared.PartId.{PartId}
-use Rattle.hx_handler.specs.Counts.{tried_up, count_up}
+use Rattle.hx_lists.specs.Counts.{count_up}
+use Rattle.hx_handler.specs.Makings.{tried_up}
 
 set-between : {X : Type 0} (xs : List X) (i : ℕ) (y : X) → i < length xs → set xs i y ≡ take i xs ++ y ∷ drop (suc i) xs
 set-between [] i y lt = absurd (omega arith)

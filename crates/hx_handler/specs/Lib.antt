@@ -1,4 +1,4 @@
-pub mod Counts
+pub mod Makings
 pub mod Failures
 pub mod Told
 pub mod Scripted

@@ -4,7 +4,7 @@ use Rattle.hx_ids.specs.declared.PartId.{PartId}
 use Rattle.hx_cluster.specs.declared.description.Failure.{Failure}
 use Rattle.hx_handler.specs.declared.MakeFault.{MakeFault}
 use Rattle.hx_handler.specs.declared.MakeFault.TheVariants.{Faulted, OutOfMemory}
-use Rattle.hx_handler.specs.Counts.{tried_up}
+use Rattle.hx_handler.specs.Makings.{tried_up}
 use Rattle.hx_handler.specs.Failures.{has_failure}
 
 -- the k-th making, or the k-th run, fails exactly where the list has that failure. Nothing is said where no list is told

@@ -1,12 +1,14 @@
 //! Handlers, which run the transitions of one part, and the factories that make them.
 #![tactic(auto)]
 
-ghost use Rattle.std.specs.Prelude.{◌≡◌, ◌≢◌, ℕ, ◌+◌, ◌<◌, ◌≤◌, List, Option, OnOk, OnErr, IfOk, IfErr, IfSome, is_err, true, false};
+ghost use Rattle.std.specs.Prelude.{◌≡◌, ◌≢◌, ℕ, ◌+◌, ◌<◌, ◌≤◌, List, Option, OnOk, OnErr, IfOk};
+ghost use Rattle.std.specs.Prelude.{IfErr, IfSome, is_err, true, false};
 ghost use Rattle.hx_ids.specs.declared.PartId.{PartId};
 ghost use Rattle.hx_ids.specs.declared.StateId.{StateId};
 ghost use Rattle.hx_model.specs.Model.{error, dropped};
 ghost use Rattle.hx_cluster.specs.declared.description.Failure.{Failure};
-ghost use Rattle.hx_handler.specs.Counts.{count_up, CountsOn, Rose, tried_of};
+ghost use Rattle.hx_lists.specs.Counts.{count_up, CountsOn, Rose};
+ghost use Rattle.hx_handler.specs.Makings.{tried_of};
 
 use hx_ids::{PartId, StateId};
 

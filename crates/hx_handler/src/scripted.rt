@@ -1,6 +1,7 @@
 //! Handlers and factories that fail as a list says.
 ghost use Rattle.std.specs.Prelude.{◌≡◌, ℕ, ◌+◌, ◌<◌, [], vec_len, vec_capacity};
-ghost use Rattle.hx_handler.specs.Counts.{count_up, tried_of, tried_up};
+ghost use Rattle.hx_lists.specs.Counts.{count_up};
+ghost use Rattle.hx_handler.specs.Makings.{tried_of, tried_up};
 ghost use Rattle.hx_handler.specs.Failures.{is_failure, has_failure};
 
 use crate::{Factory, Handler, HandlerFault, MakeFault, Retired};

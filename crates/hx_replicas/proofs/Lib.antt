@@ -1,0 +1,13 @@
+pub mod Parts
+pub mod Searching
+pub mod Placing
+pub mod Laying
+pub mod Ledgers
+pub mod Putting
+pub mod Delivering
+pub mod Handing
+pub mod Finishing
+pub mod Wiping
+pub mod Together
+pub mod Sorting
+pub mod Outs

@@ -1,2 +1,5 @@
 pub mod Participants
+pub mod Jobs
 pub mod Ledger
+pub mod Layout
+pub mod Batches

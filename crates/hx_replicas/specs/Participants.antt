@@ -1,6 +1,6 @@
 -- A plain participant: its session, for each part what its replica is and does, and the makings of handlers that were tried.
-use Rattle.std.specs.Prelude.{◌≡◌, ◌≢◌, ℕ, ◌+◌, Bool, true, false, not, ◌==◌, ◌&&◌, List, [], ◌∷◌, map, find, Option, None, Some, if◌then◌else◌, is_none, is_some, unwrap_or, nat_le, nat_lt}
-use Rattle.std.specs.List.{list_any, filter_map}
+use Rattle.std.specs.Prelude.{◌≡◌, ◌≢◌, ℕ, Bool, true, false, not, ◌==◌, ◌&&◌, List, [], ◌∷◌, map, find, filter, Option, None, Some, if◌then◌else◌, is_none, is_some, unwrap_or, nat_le, nat_lt}
+use Rattle.std.specs.List.{list_any, list_all, filter_map}
 use Rattle.hx_lists.specs.Lists.{sort_by, count}
 use Rattle.hx_ids.specs.declared.StateId.{StateId}
 use Rattle.hx_ids.specs.declared.SessionId.{SessionId}
@@ -13,8 +13,7 @@ use Rattle.hx_cluster.specs.declared.description.Failure.{Failure}
 use Rattle.hx_cluster.specs.declared.happenings.Outcome.{Outcome}
 use Rattle.hx_cluster.specs.Ends.{part_eq}
 use Rattle.hx_cluster.specs.Messages.{state_after}
-use Rattle.hx_handler.specs.Counts.{tried_up}
-use Rattle.hx_handler.specs.Failures.{has_failure}
+use Rattle.hx_handler.specs.Makings.{tried_up}
 use Rattle.hx_replicas.specs.declared.DeliverFault.{DeliverFault}
 use Rattle.hx_replicas.specs.declared.DeliverFault.TheVariants as faults
 use Rattle.hx_replicas.specs.declared.slots.Work.{Work}
@@ -81,7 +80,7 @@ abbrev pub any_out : Participant → Bool
 any_out w = list_any (λ x. is_out x.work) w.slots
 
 abbrev pub all_idle : Participant → Bool
-all_idle w = not (list_any (λ x. not (is_idle x.work)) w.slots)
+all_idle w = list_all (λ x. is_idle x.work) w.slots
 
 -- how many parts have accepted a message in this session
 abbrev pub used_of : Participant → ℕ
@@ -164,14 +163,22 @@ makes x m = is_none x.handler && not (leaves_error m)
 -- a making that is answered counts. Its handler stands in the slot, unless the making failed
 abbrev pub made_ready : Slot → Message → Bool → Slot
 made_ready x m is_failed =
-    record { part = x.part; state = x.state; last = x.last; initial = x.initial; work = x.work;
-      handler = if makes x m then (if is_failed then None else Some 0) else x.handler }
+    record {
+      part = x.part;
+      state = x.state;
+      last = x.last;
+      initial = x.initial;
+      work = x.work;
+      handler = if makes x m then (if is_failed then None else Some 0) else x.handler;
+    }
 
 abbrev pub readied : Participant → Message → Bool → Participant
 readied w m is_failed =
-    record { session = w.session;
+    record {
+      session = w.session;
       slots = put_slot w.slots (made_ready (slot_of w m.part) m is_failed);
-      tried = if makes (slot_of w m.part) m then tried_up w.tried m.part else w.tried }
+      tried = if makes (slot_of w m.part) m then tried_up w.tried m.part else w.tried;
+    }
 
 -- a message goes out, with the slot's handler
 abbrev pub emptied_for : Slot → Message → Slot
@@ -206,8 +213,14 @@ end_of m (Some o) = state_after m o
 -- a slot comes to a state, and gets back the handler, if any, with its runs. A handler at DROPPED is retired
 abbrev pub brought : Slot → StateId → Option ℕ → Slot
 brought x t runs =
-    record { part = x.part; state = t; last = x.last; initial = x.initial; work = Idle;
-      handler = if t.0 == dropped.0 then None else runs }
+    record {
+      part = x.part;
+      state = t;
+      last = x.last;
+      initial = x.initial;
+      work = Idle;
+      handler = if t.0 == dropped.0 then None else runs;
+    }
 
 -- a job ends
 abbrev pub finish : Participant → Message → Option Outcome → Option ℕ → Participant
@@ -220,9 +233,9 @@ emptied x = new_slot x.part
 abbrev pub adopt : Participant → Option SessionId → Participant
 adopt w session = record { session = session; slots = map emptied w.slots; tried = w.tried }
 
--- whether a description has the k-th making, or the k-th run of a handler, of a part on an instance fail
+-- the failures of an instance, which its factory tells
 abbrev pub is_on : InstanceId → Failure → Bool
 is_on i f = f.instance.0 == i.0
 
 abbrev pub failures_on : InstanceId → List Failure → List Failure
-failures_on i failures = filter_map (λ f. if is_on i f then Some f else None) failures
+failures_on i failures = filter (is_on i) failures

@@ -1,10 +1,15 @@
-//! Participants: what a session's replicas are, and the messages that move them.
+//! Participants: what a session's replicas are, the messages that move them, and the handlers that
+//! run.
 #![tactic(auto)]
 
 use hx_ids::{MsgId, SessionId, StateId};
 
+mod jobs;
+mod participants;
 mod slots;
 
+pub use jobs::{Done, Job, Ran};
+pub use participants::Participant;
 pub use slots::Work;
 
 /// Why a message is not accepted.

@@ -15,7 +15,8 @@ use Rattle.hx_cluster.specs.Events.{can_take, can_write, can_ack}
 use Rattle.hx_print.specs.declared.Note.{Note}
 use Rattle.hx_print.specs.declared.Note.TheVariants as notes
 use Rattle.hx_print.specs.Texts.{accept_text}
-use Rattle.hx_handler.specs.Counts.{count_up, tried_of}
+use Rattle.hx_lists.specs.Counts.{count_up}
+use Rattle.hx_handler.specs.Makings.{tried_of}
 use Rattle.hx_replicas.specs.declared.DeliverFault.{DeliverFault}
 use Rattle.hx_replicas.specs.declared.DeliverFault.TheVariants as faults
 use Rattle.hx_replicas.specs.Participants.{slot_of, deliver_fault, accept, accepted_by, accepted_all, makes, leaves_error, made_ready, hand_out, finish, adopt}

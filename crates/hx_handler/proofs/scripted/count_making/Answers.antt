@@ -1,6 +1,6 @@
 use Rattle.std.proofs.Common.{◌≡◌, ◌<◌, length, get_or, arith}
 use Rattle.std.proofs.lemmas.Grind.{common_steps}
-use Rattle.hx_handler.specs.Counts.{count_up}
+use Rattle.hx_lists.specs.Counts.{count_up}
 use Rattle.hx_handler.proofs.Trying.{set-tried}
 use Rattle.hx_handler.proofs.scripted.count_making.Goals as goal
 

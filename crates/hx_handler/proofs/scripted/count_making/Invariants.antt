@@ -1,5 +1,5 @@
 use Rattle.std.proofs.Common.{◌≡◌, ◌++◌, drop, take}
-use Rattle.hx_handler.specs.Counts.{tried_of, tried_up}
+use Rattle.hx_handler.specs.Makings.{tried_of, tried_up}
 use Rattle.hx_handler.proofs.scripted.count_making.Given as goal
 
 abbrev pub invariant-loop-i : goal.invariant-loop-i

@@ -1,0 +1,5 @@
+//! Tests of participants, which stand above them so that participants are proved once.
+#![tactic(auto)]
+
+#[cfg(test)]
+mod tests;
