@@ -8,3 +8,6 @@ pub mod Leads
 pub mod Covering
 pub mod Owning
 pub mod Covered
+pub mod Counts
+pub mod Showing
+mod Examples

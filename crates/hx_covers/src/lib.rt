@@ -12,7 +12,8 @@ ghost use Rattle.hx_cluster.specs.Valid.{IsValid};
 ghost use Rattle.hx_cluster.specs.Views.{is_well_formed};
 ghost use Rattle.hx_pass.specs.Turns.{turn_of, view_of};
 ghost use Rattle.hx_pass.specs.Lawful.{IsLawful};
-ghost use Rattle.hx_covers.specs.Covers.{Covers};
+ghost use Rattle.hx_covers.specs.Covers.{stands, Covers};
+ghost use Rattle.hx_covers.specs.Gate.{Shows};
 ghost use Rattle.hx_covers.specs.Reading.{is_read, view_with, IsTurn};
 
 /// A controller's turn keeps its shape along every legal history.
@@ -43,4 +44,12 @@ pub fn what_was_shown_is_well_formed()
 pub fn lawful_reads_cover_the_board()
     ensures { (spec : Spec) (h more : List Event) (k : ControllerId) → IsValid spec
         → IsLawful spec (h ++ more) → Covers spec h k }
+{}
+
+/// So once only the send and the post are left, and the numbers stand, what was shown shows what the
+/// board has, but for messages that moved replicas since.
+pub fn lawful_views_show_the_board()
+    ensures { (spec : Spec) (h : List Event) (k : ControllerId) → IsValid spec → IsLawful spec h
+        → is_read (turn_of spec k h) ≡ true → stands (replay (opening spec) h) k (turn_of spec k h) ≡ true
+        → Shows (replay (opening spec) h) (view_of spec k h) }
 {}
