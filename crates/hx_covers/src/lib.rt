@@ -46,10 +46,11 @@ pub fn lawful_reads_cover_the_board()
         → IsLawful spec (h ++ more) → Covers spec h k }
 {}
 
-/// So once only the send and the post are left, and the numbers stand, what was shown shows what the
-/// board has, but for messages that moved replicas since.
+/// So once only the send and the post are left, and the numbers stand, the view shows what the board
+/// has, but for messages that moved replicas since.
 pub fn lawful_views_show_the_board()
     ensures { (spec : Spec) (h : List Event) (k : ControllerId) → IsValid spec → IsLawful spec h
-        → is_read (turn_of spec k h) ≡ true → stands (replay (opening spec) h) k (turn_of spec k h) ≡ true
+        → is_read (turn_of spec k h) ≡ true
+        → stands (replay (opening spec) h) k (turn_of spec k h) ≡ true
         → Shows (replay (opening spec) h) (view_of spec k h) }
 {}
