@@ -184,7 +184,7 @@ same_replica m x s p at same =
     let part : part_eq m.part x.part ≡ true = grind (arith, same) in
     grind (arith, nat_tests, at, session, part)
 
-shown_message : (mail : List Message) (m : Message) (s : SessionId) (p : PartId) → is_message s p m ≡ true → is_among mail m ≡ true → count (is_message s p) mail ≤ 1
+pub shown_message : (mail : List Message) (m : Message) (s : SessionId) (p : PartId) → is_message s p m ≡ true → is_among mail m ≡ true → count (is_message s p) mail ≤ 1
     → (y : Message) × (message_of mail s p ≡ Some y) × (is_same m y ≡ true)
 shown_message mail m s p at among single = one (message_of mail s p) refl
   where
@@ -211,7 +211,7 @@ written_alike : (m y : Message) (now : Option StateId) → is_same m y ≡ true 
 written_alike m y None same e = let to : (m.to.0 == y.to.0) ≡ true = grind (arith, same) in grind (arith, nat_tests, to, e)
 written_alike m y (Some t) same e = let to : (m.to.0 == y.to.0) ≡ true = grind (arith, same) in grind (arith, nat_tests, to, e)
 
-state_alike : (a b : Option StateId) → is_same_state a b ≡ true → a ≡ b
+pub state_alike : (a b : Option StateId) → is_same_state a b ≡ true → a ≡ b
 state_alike None None e = refl
 state_alike (Some s) (Some t) e = ap (λ (x : StateId). Some x) (state_same s t e)
 state_alike None (Some t) e = cc

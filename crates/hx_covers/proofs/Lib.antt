@@ -10,4 +10,6 @@ pub mod Owning
 pub mod Covered
 pub mod Counts
 pub mod Showing
+pub mod Gating
+pub mod Filling
 mod Examples

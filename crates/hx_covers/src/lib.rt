@@ -2,18 +2,30 @@
 //! over the definitions alone.
 #![tactic(auto)]
 
-ghost use Rattle.std.specs.Prelude.{◌≡◌, ◌++◌, true, List, length};
+ghost use Rattle.std.specs.Prelude.{◌≡◌, ◌≤◌, ◌++◌, ℕ, true, false, List, Some, length};
+ghost use Rattle.std.specs.List.{list_any};
 ghost use Rattle.hx_ids.specs.declared.ControllerId.{ControllerId};
+ghost use Rattle.hx_ids.specs.declared.PartId.{PartId};
+ghost use Rattle.hx_ids.specs.declared.StateId.{StateId};
+ghost use Rattle.hx_cluster.specs.declared.state.Cluster.{Cluster};
+ghost use Rattle.hx_cluster.specs.declared.planning.View.{View};
+ghost use Rattle.hx_cluster.specs.declared.planning.Candidate.{Candidate};
+ghost use Rattle.hx_cluster.specs.Ends.{is_live, count_over, count_of, limit_at};
+ghost use Rattle.hx_cluster.specs.Messages.{bounded, placed_of};
+ghost use Rattle.hx_cluster.specs.Safe.{IsSafe};
+ghost use Rattle.hx_cluster.specs.Ranged.{IsRanged};
+ghost use Rattle.hx_select.specs.Selection.{shown_sessions};
+ghost use Rattle.hx_pass.specs.Plans.{proposal};
 ghost use Rattle.hx_cluster.specs.declared.description.Spec.{Spec};
 ghost use Rattle.hx_cluster.specs.declared.happenings.Event.{Event};
-ghost use Rattle.hx_cluster.specs.Steps.{opening};
+ghost use Rattle.hx_cluster.specs.Steps.{opening, is_dropped};
 ghost use Rattle.hx_cluster.specs.Events.{replay, IsLegal};
 ghost use Rattle.hx_cluster.specs.Valid.{IsValid};
 ghost use Rattle.hx_cluster.specs.Views.{is_well_formed};
 ghost use Rattle.hx_pass.specs.Turns.{turn_of, view_of};
 ghost use Rattle.hx_pass.specs.Lawful.{IsLawful};
 ghost use Rattle.hx_covers.specs.Covers.{stands, Covers};
-ghost use Rattle.hx_covers.specs.Gate.{Shows};
+ghost use Rattle.hx_covers.specs.Gate.{Shows, IsWithin, IsFit, is_for};
 ghost use Rattle.hx_covers.specs.Reading.{is_read, view_with, IsTurn};
 
 /// A controller's turn keeps its shape along every legal history.
@@ -53,4 +65,21 @@ pub fn lawful_views_show_the_board()
         → is_read (turn_of spec k h) ≡ true
         → stands (replay (opening spec) h) k (turn_of spec k h) ≡ true
         → Shows (replay (opening spec) h) (view_of spec k h) }
+{}
+
+/// Where a view shows the board, nothing but a bound or a throttle refuses a candidate that fits the
+/// view: its replica has no message, stands where it was shown, and the transition is legal.
+pub fn fit_candidates_pass_the_first_tests()
+    ensures { (view : View) (b d : Cluster) (before : List Candidate) (x : Candidate) → Shows b view
+        → IsWithin view b d before → IsFit d.models view x
+        → list_any (is_for x.session x.part) before ≡ false → is_live d.live x.session ≡ true
+        → is_dropped d.resources x.part.resource ≡ false
+        → placed_of d (proposal x) ≡ bounded d (proposal x) (limit_at d x.part x.to) }
+{}
+
+/// And no part has more ends in a limited state on the board than in the view.
+pub fn views_count_what_the_board_counts()
+    ensures { (b : Cluster) (view : View) (p : PartId) (t : StateId) (limit : ℕ) → IsSafe b
+        → IsRanged b → Shows b view → limit_at b p t ≡ Some limit
+        → count_of b p t ≤ count_over (shown_sessions view) view.rows view.mail p t }
 {}
