@@ -12,4 +12,5 @@ pub mod Counts
 pub mod Showing
 pub mod Gating
 pub mod Filling
+pub mod Loading
 mod Examples

@@ -57,7 +57,7 @@ nothing_left t call (inl is) one two = ap (list_any (same_call call)) is ∙ one
 nothing_left t call (inr is) one two = ap (list_any (same_call call)) is ∙ two
 
 -- what holds of each item of a list, by what holds of all
-all_each : {X : Type 0} (xs : List X) (q : X → Bool) → ((x : X) → ((p : X → Bool) → list_all p xs ≡ true → p x ≡ true) → q x ≡ true) → list_all q xs ≡ true
+pub all_each : {X : Type 0} (xs : List X) (q : X → Bool) → ((x : X) → ((p : X → Bool) → list_all p xs ≡ true → p x ≡ true) → q x ≡ true) → list_all q xs ≡ true
 all_each [] q h = refl
 all_each (x ∷ xs) q h =
     and-both (q x) (list_all q xs) (h x (λ p all. and-first (p x) (list_all p xs) all))

@@ -10,13 +10,14 @@ ghost use Rattle.hx_ids.specs.declared.StateId.{StateId};
 ghost use Rattle.hx_cluster.specs.declared.state.Cluster.{Cluster};
 ghost use Rattle.hx_cluster.specs.declared.planning.View.{View};
 ghost use Rattle.hx_cluster.specs.declared.planning.Candidate.{Candidate};
-ghost use Rattle.hx_cluster.specs.Ends.{is_live, count_over, count_of, limit_at};
+ghost use Rattle.hx_cluster.specs.Ends.{is_live, count_over, count_of, limit_at, load_over, load_of};
 ghost use Rattle.hx_cluster.specs.Messages.{bounded, placed_of};
 ghost use Rattle.hx_cluster.specs.Safe.{IsSafe};
 ghost use Rattle.hx_cluster.specs.Ranged.{IsRanged};
 ghost use Rattle.hx_select.specs.Selection.{shown_sessions};
 ghost use Rattle.hx_pass.specs.Plans.{proposal};
 ghost use Rattle.hx_cluster.specs.declared.description.Spec.{Spec};
+ghost use Rattle.hx_cluster.specs.declared.description.Rule.{Rule};
 ghost use Rattle.hx_cluster.specs.declared.happenings.Event.{Event};
 ghost use Rattle.hx_cluster.specs.Steps.{opening, is_dropped};
 ghost use Rattle.hx_cluster.specs.Events.{replay, IsLegal};
@@ -78,8 +79,14 @@ pub fn fit_candidates_pass_the_first_tests()
 {}
 
 /// And no part has more ends in a limited state on the board than in the view.
-pub fn views_count_what_the_board_counts()
+pub fn views_count_no_less_than_the_board()
     ensures { (b : Cluster) (view : View) (p : PartId) (t : StateId) (limit : ℕ) → IsSafe b
         → IsRanged b → Shows b view → limit_at b p t ≡ Some limit
         → count_of b p t ≤ count_over (shown_sessions view) view.rows view.mail p t }
+{}
+
+/// Nor does a rule count more messages on the board than in the view.
+pub fn views_load_no_less_than_the_board()
+    ensures { (b : Cluster) (view : View) (r : Rule) (key : ℕ) → IsSafe b → Shows b view
+        → load_of b r key ≤ load_over view.live view.mail r key }
 {}
