@@ -55,8 +55,8 @@ pub record IsWithin (view : View) (b d : Cluster) (before : List Candidate) : Ty
   pub messages : (s : SessionId) (p : PartId) → list_any (is_for s p) before ≡ false
       → message_of d.mail s p ≡ message_of b.mail s p
 
--- a candidate as a plan makes it: of a shown session and a part that is there, without a shown message,
--- from where the replica was shown, by a transition of the model
+-- a candidate as a plan makes it: of a shown session and a part that is there, without a shown
+-- message, from where the replica was shown, by a transition of the model
 pub record IsFit (models : List ModelParts) (view : View) (x : Candidate) : Type 0 where
   pub shown : is_shown view.live x.session ≡ true
   pub part : nat_lt x.part.index (parts_of view.ideals.resources x.part.resource) ≡ true

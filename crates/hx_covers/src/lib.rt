@@ -59,8 +59,8 @@ pub fn lawful_reads_cover_the_board()
         → IsLawful spec (h ++ more) → Covers spec h k }
 {}
 
-/// So once only the send and the post are left, and the numbers stand, the view shows what the board
-/// has, but for messages that moved replicas since.
+/// So once only the send and the post are left, and the numbers stand, the view shows what the
+/// board has, but for messages that moved replicas since.
 pub fn lawful_views_show_the_board()
     ensures { (spec : Spec) (h : List Event) (k : ControllerId) → IsValid spec → IsLawful spec h
         → is_read (turn_of spec k h) ≡ true
@@ -68,8 +68,8 @@ pub fn lawful_views_show_the_board()
         → Shows (replay (opening spec) h) (view_of spec k h) }
 {}
 
-/// Where a view shows the board, nothing but a bound or a throttle refuses a candidate that fits the
-/// view: its replica has no message, stands where it was shown, and the transition is legal.
+/// Where a view shows the board, nothing but a bound or a throttle refuses a candidate that fits
+/// the view: its replica has no message, stands where it was shown, and the transition is legal.
 pub fn fit_candidates_pass_the_first_tests()
     ensures { (view : View) (b d : Cluster) (before : List Candidate) (x : Candidate) → Shows b view
         → IsWithin view b d before → IsFit d.models view x
