@@ -20,6 +20,7 @@ use Rattle.hx_cluster.specs.Steps.{opening, is_leader, has_controller}
 use Rattle.hx_cluster.specs.Messages.{next_pass, after_proposals}
 use Rattle.hx_cluster.specs.Reads.{pass_of}
 use Rattle.hx_cluster.specs.Events.{begun_of, next, replay, is_epoch, is_pass, IsStep, IsLegal}
+use Rattle.hx_cluster.specs.Safe.{HasMail}
 use Rattle.hx_cluster.specs.Valid.{IsValid}
 use Rattle.hx_cluster.specs.Ranged.{IsRanged}
 use Rattle.hx_pass.specs.Turns.{Call, Live, Mail, States, Ideals, Send, Post, Turn, is_first, is_due, is_of_epoch, idle_turn, begun_turn, with_live, gone_on, if_due, when_own, turn_after, turn_from, turn_of}
@@ -519,3 +520,15 @@ proper_front spec before (e ∷ es) more proper = (proper.0, proper_front spec (
 -- so at each place of a lawful history
 pub covers_at : (spec : Spec) (h more : List Event) (k : ControllerId) → IsValid spec → IsLawful spec (h ++ more) → Covers spec h k
 covers_at spec h more k valid lawful = lawful_covers spec valid h (legal_front (opening spec) h more lawful.0, proper_front spec [] h more lawful.1) k
+
+-- and what is known there of the board's messages and of the turn
+pub record IsHere (spec : Spec) (h : List Event) (k : ControllerId) : Type 0 where
+  pub begun : List Message
+  pub mail : HasMail (replay (opening spec) h)
+  pub turn : IsTurn (replay (opening spec) h) (turn_of spec k h)
+  pub covered : stands (replay (opening spec) h) k (turn_of spec k h) ≡ true → IsCovered (replay (opening spec) h) k (turn_of spec k h) begun h
+
+pub covers_here : (spec : Spec) → IsValid spec → (h : List Event) → IsLawful spec h → (k : ControllerId) → IsHere spec h k
+covers_here spec valid h lawful k =
+    let all = covers_along spec [] h (coverage_opening spec valid) lawful.0 lawful.1 in
+    record { begun = mail_begun spec k h; mail = all.whole.kept.mail; turn = all.turn k; covered = all.covered k }

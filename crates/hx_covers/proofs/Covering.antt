@@ -152,7 +152,7 @@ bare_new s c k new =
     other u live = let low = number-below c.next_session u c.live k.below live in grind (arith, nat_tests, low, new)
 
 -- at most one shown message is of a session's part
-shown_once : (c : Cluster) (t : Turn) → IsTurn c t → (s : SessionId) (p : PartId) → count (is_message s p) t.view.mail ≤ 1
+pub shown_once : (c : Cluster) (t : Turn) → IsTurn c t → (s : SessionId) (p : PartId) → count (is_message s p) t.view.mail ≤ 1
 shown_once c t h s p = one (list_any (is_message s p) t.view.mail) refl
   where
     view_mail : (d : Bool) → (if d then t.view else record t.view { ideals = ideals_shown c }).mail ≡ t.view.mail
@@ -184,7 +184,7 @@ same_replica m x s p at same =
     let part : part_eq m.part x.part ≡ true = grind (arith, same) in
     grind (arith, nat_tests, at, session, part)
 
-shown_message : (mail : List Message) (m : Message) (s : SessionId) (p : PartId) → is_message s p m ≡ true → is_among mail m ≡ true → count (is_message s p) mail ≤ 1
+pub shown_message : (mail : List Message) (m : Message) (s : SessionId) (p : PartId) → is_message s p m ≡ true → is_among mail m ≡ true → count (is_message s p) mail ≤ 1
     → (y : Message) × (message_of mail s p ≡ Some y) × (is_same m y ≡ true)
 shown_message mail m s p at among single = one (message_of mail s p) refl
   where
@@ -211,7 +211,7 @@ written_alike : (m y : Message) (now : Option StateId) → is_same m y ≡ true 
 written_alike m y None same e = let to : (m.to.0 == y.to.0) ≡ true = grind (arith, same) in grind (arith, nat_tests, to, e)
 written_alike m y (Some t) same e = let to : (m.to.0 == y.to.0) ≡ true = grind (arith, same) in grind (arith, nat_tests, to, e)
 
-state_alike : (a b : Option StateId) → is_same_state a b ≡ true → a ≡ b
+pub state_alike : (a b : Option StateId) → is_same_state a b ≡ true → a ≡ b
 state_alike None None e = refl
 state_alike (Some s) (Some t) e = ap (λ (x : StateId). Some x) (state_same s t e)
 state_alike None (Some t) e = cc
@@ -245,7 +245,7 @@ stayed_again now mid old o v shown one two = split (is_same_state now mid) refl
     split false is = moved o refl (rest (is_same_state now mid) (option_map_or (λ x. is_row_written x now) o false) one is)
 
 -- a read that shows nothing new of a session
-live_of_all : (f : SessionId → Bool) (live : List LiveSession) (s : SessionId) → list_all (λ l. f l.session) live ≡ true → is_live live s ≡ true → f s ≡ true
+pub live_of_all : (f : SessionId → Bool) (live : List LiveSession) (s : SessionId) → list_all (λ l. f l.session) live ≡ true → is_live live s ≡ true → f s ≡ true
 live_of_all f [] s all e = cc
 live_of_all f (l ∷ live) s all e = one (is_session s l) refl e (λ w. live_of_all f live s (and-second (f l.session) (list_all (λ x. f x.session) live) all) w)
   where

@@ -8,3 +8,9 @@ pub mod Leads
 pub mod Covering
 pub mod Owning
 pub mod Covered
+pub mod Counts
+pub mod Showing
+pub mod Gating
+pub mod Filling
+pub mod Loading
+mod Examples

@@ -1,5 +1,5 @@
 -- When a plan's proposals pass the board's tests.
-use Rattle.std.specs.Prelude.{◌≡◌, ℕ, ◌+◌, ◌≤◌, Bool, true, false, ◌==◌, ◌&&◌, ◌||◌, List, Some}
+use Rattle.std.specs.Prelude.{◌≡◌, ℕ, ◌+◌, ◌≤◌, Bool, true, false, ◌==◌, ◌&&◌, ◌||◌, List, None, Some, nat_lt, unwrap_or}
 use Rattle.std.specs.List.{list_any, list_all}
 use Rattle.hx_lists.specs.Lists.{count}
 use Rattle.hx_ids.specs.declared.StateId.{StateId}
@@ -9,7 +9,9 @@ use Rattle.hx_cluster.specs.declared.description.Rule.{Rule}
 use Rattle.hx_cluster.specs.declared.planning.View.{View}
 use Rattle.hx_cluster.specs.declared.planning.Candidate.{Candidate}
 use Rattle.hx_cluster.specs.declared.state.Cluster.{Cluster}
-use Rattle.hx_cluster.specs.Ends.{part_eq, is_message, is_live, is_shown, shown_of, instance_in, state_of, message_of, count_of, limit_at, load_of}
+use Rattle.hx_model.specs.declared.ModelParts.{ModelParts}
+use Rattle.hx_model.specs.Model.{is_legal}
+use Rattle.hx_cluster.specs.Ends.{model_of, parts_of, part_eq, is_message, is_live, is_shown, shown_of, instance_in, state_of, message_of, count_of, limit_at, load_of}
 use Rattle.hx_select.specs.Selection.{goes_to}
 use Rattle.hx_throttle.specs.Throttle.{counts_too}
 use Rattle.hx_runs.specs.Onward.{is_front, is_same_kind, has_same_replicas}
@@ -29,6 +31,11 @@ pub record Shows (c : Cluster) (view : View) : Type 0 where
   pub resources : is_front is_same_kind view.ideals.resources c.resources ≡ true
   pub replicas : is_front has_same_replicas view.ideals.resources c.resources ≡ true
 
+-- where a view has a replica: an absent one counts as at the initial state of its model
+abbrev pub stands_in : List ModelParts → View → SessionId → PartId → StateId
+stands_in models view s p =
+    unwrap_or (state_of view.rows s p) (model_of models view.ideals.resources p.resource).initial
+
 -- whether a candidate is of a session's part
 abbrev pub is_for : SessionId → PartId → Candidate → Bool
 is_for s p x = (x.session.0 == s.0) && part_eq x.part p
@@ -47,3 +54,12 @@ pub record IsWithin (view : View) (b d : Cluster) (before : List Candidate) : Ty
       → load_of d r key ≤ load_of b r key + count (counts_too view r key) before
   pub messages : (s : SessionId) (p : PartId) → list_any (is_for s p) before ≡ false
       → message_of d.mail s p ≡ message_of b.mail s p
+
+-- a candidate as a plan makes it: of a shown session and a part that is there, without a shown
+-- message, from where the replica was shown, by a transition of the model
+pub record IsFit (models : List ModelParts) (view : View) (x : Candidate) : Type 0 where
+  pub shown : is_shown view.live x.session ≡ true
+  pub part : nat_lt x.part.index (parts_of view.ideals.resources x.part.resource) ≡ true
+  pub idle : message_of view.mail x.session x.part ≡ None
+  pub from : (stands_in models view x.session x.part).0 ≡ x.from.0
+  pub legal : is_legal (model_of models view.ideals.resources x.part.resource) x.from x.to ≡ true

@@ -6,3 +6,4 @@ pub mod Past
 pub mod Sent
 pub mod Waiting
 pub mod OneRun
+mod Examples

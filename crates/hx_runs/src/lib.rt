@@ -1,5 +1,5 @@
-//! What events change, and the runs of handlers along a legal history. The contract of each function
-//! is a law over the definitions alone.
+//! What events change, and the runs of handlers along a legal history. The contract of each
+//! function is a law over the definitions alone.
 #![tactic(auto)]
 
 ghost use Rattle.std.specs.Prelude.{◌≡◌, false, List};
@@ -27,7 +27,8 @@ pub fn all_but_dispatches_are_calm()
 {}
 
 /// Along a legal history no message is taken twice, each was sent to the session that takes it, its
-/// replica stands at its place from the send to the write, and each run is legal, alone and in order.
+/// replica stands at its place from the send to the write, and each run is legal, alone and in
+/// order.
 pub fn legal_has_one_run_each()
     ensures { (spec : Spec) → IsValid spec → (h : List Event) → IsLegal (opening spec) h
         → IsOneRunEach (opening spec) h }
