@@ -54,12 +54,7 @@ pub(crate) fn demo(alloc: Global) -> Result<Spec, AllocError>
     let mut resource_names = Names::new(alloc);
     resource_names.intern("db")?;
     let mut resources = Seq::new(alloc);
-    resources.push(Resource {
-        name: 0,
-        model: ModelId(1),
-        ideal: ideal(alloc)?,
-        dropped: false,
-    })?;
+    resources.push(Resource::new(0, ModelId(1), ideal(alloc)?))?;
     Ok(Spec {
         instances: instances(alloc)?,
         states: models.states,

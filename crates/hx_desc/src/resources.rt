@@ -126,14 +126,9 @@ impl ItemForm for ResourceForm<'_> {
             names: &self.models.states,
             model: &self.models.models.as_slice()[model.0 as usize],
         };
-        let resource = Resource {
-            name: names.len(),
-            model,
-            ideal: ideal(alloc, &object, over)?,
-            dropped: false,
-        };
+        let ideal = ideal(alloc, &object, over)?;
+        resources.push(Resource::new(names.len(), model, ideal))?;
         names.intern(name.as_str())?;
-        resources.push(resource)?;
         Ok(ResourceTable { names, resources })
     }
 }
