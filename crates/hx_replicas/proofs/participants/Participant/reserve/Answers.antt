@@ -1,4 +1,3 @@
-use Rattle.std.proofs.Common.{◌≡◌, refl}
 use Rattle.hx_replicas.proofs.Ledgers.{ledger}
 use Rattle.hx_replicas.proofs.participants.Participant.reserve.Goals as goal
 
