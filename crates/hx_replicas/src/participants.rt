@@ -150,6 +150,7 @@ impl<F: Factory> Participant<F> {
         ensures room { OnOk result (n ≤ self.new.spare) }
         ensures spare { self.old.spare ≤ self.new.spare }
         ensures rest { self.new ≡ record self.old { spare = self.new.spare } }
+        ensures ledger { IsBalanced self.new.made self.new.retired self.new.plain }
     {
         if n <= self.spare {
             return Ok(());
@@ -173,6 +174,7 @@ impl<F: Factory> Participant<F> {
         }) }
         ensures spare { OnOk result (self.new.spare + 1 ≡ self.old.spare) }
         ensures err { OnErr result (self.new ≡ self.old) }
+        ensures ledger { IsBalanced self.new.made self.new.retired self.new.plain }
     {
         if !is_mine(self.session, message.session) {
             return Err(DeliverFault::OtherSession { mine: self.session });
@@ -386,6 +388,7 @@ impl<F: Factory> Participant<F> {
         requires session { is_session self.old.plain.session message.now.session ≡ true }
         requires fits { Fits self.old.plain message.now }
         requires unused { IsUnused message.now.part self.old.plain }
+        requires ledger { IsBalanced self.old.made self.old.retired self.old.plain }
         ensures decides { MatchResult result
             (λ _. deliver_fault self.old.plain message.now ≡ None)
             (λ e. deliver_fault self.old.plain message.now ≡ Some e) }
@@ -395,6 +398,7 @@ impl<F: Factory> Participant<F> {
         }) }
         ensures spare { OnOk result (self.new.spare + 1 ≡ self.old.spare) }
         ensures err { OnErr result (self.new ≡ self.old) }
+        ensures ledger { IsBalanced self.new.made self.new.retired self.new.plain }
     {
         if let Some(fault) = refusal(Work::Idle, DROPPED, MsgId(0), None, message) {
             return Err(fault);
