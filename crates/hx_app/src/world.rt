@@ -35,11 +35,17 @@ fn check_room(cluster: &Cluster) -> Result<(), AllocError>
     }
 }
 
+fn name_of(resource: &Resource) -> u32
+    ensures { result ≡ resource.now.name }
+{
+    resource.name
+}
+
 /// The names of all resources.
 fn names_of(alloc: Global, resources: &[Resource]) -> Result<Vec<u32>, AllocError>
     ensures { IfOk result (λ names. names.items ≡ names_of resources.now) }
 {
-    resources.iter().map(|r| r.name).collect(alloc)
+    resources.iter().map(name_of).collect(alloc)
 }
 
 /// The live sessions with their instances.
@@ -407,11 +413,12 @@ fn ack(
     ensures { OnOk result (Brings spec.now (ack_items cluster.old message.now) cluster.old cluster.new page.old page.new) }
 {
     let Message { session, id, .. } = *message;
-    if cluster.can_ack(session, id) {
-        check_room(cluster)?;
-        print(alloc, spec, cluster, &Event::Ack(session, id), page)?;
-        hx_calls::ack(cluster, session, id).unwrap();
+    if !cluster.can_ack(session, id) {
+        return Ok(());
     }
+    check_room(cluster)?;
+    print(alloc, spec, cluster, &Event::Ack(session, id), page)?;
+    hx_calls::ack(cluster, session, id).unwrap();
     Ok(())
 }
 
