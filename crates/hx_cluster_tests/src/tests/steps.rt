@@ -127,19 +127,23 @@ fn steps_of_sessions_and_controllers_are_refused(rt: HostRuntime) -> Result<(), 
     Ok(())
 }
 
-/// Why a resource of a name can't be added.
-fn add_refusal(cluster: &Cluster, name: u32) -> Result<Option<StepFault>, Fail> {
-    let step = add(name, ideal(Mode::Full, 1)?);
-    Ok(refusal(cluster, &step))
-}
-
 #[test]
 fn names_in_use_are_refused(rt: HostRuntime) -> Result<(), Fail> {
+    let first = add(0, ideal(Mode::Full, 1)?);
+    let second = add(1, ideal(Mode::Full, 1)?);
     let cluster = busy(rt.alloc())?;
-    let here = StepFault::NameInUse { resource: FIRST };
-    assert_eq!(rt; add_refusal(&cluster, 0)?, Some(here));
-    let held = StepFault::NameInUse { resource: SECOND };
-    assert_eq!(rt; add_refusal(&cluster, 1)?, Some(held));
+    expect_fault(
+        &rt,
+        &cluster,
+        first,
+        StepFault::NameInUse { resource: FIRST },
+    );
+    expect_fault(
+        &rt,
+        &cluster,
+        second,
+        StepFault::NameInUse { resource: SECOND },
+    );
     let drop = Admin::Drop { resource: SECOND };
     expect_fault(&rt, &cluster, drop, StepFault::AlreadyDropped);
     Ok(())
@@ -171,8 +175,8 @@ fn lists_are_refused(rt: HostRuntime) -> Result<(), Fail> {
 
 #[test]
 fn a_map_is_refused_where_there_are_lists(rt: HostRuntime) -> Result<(), Fail> {
-    let cluster = busy(rt.alloc())?;
     let map = set_map(rt.alloc(), part(FIRST, 0), &[])?;
+    let cluster = busy(rt.alloc())?;
     expect_fault(&rt, &cluster, map, StepFault::WrongMode);
     Ok(())
 }
@@ -202,18 +206,15 @@ fn resets_are_refused(rt: HostRuntime) -> Result<(), Fail> {
 
 #[test]
 fn a_cluster_has_at_most_256_resources(rt: HostRuntime) -> Result<(), Fail> {
+    let step = add(2, ideal(Mode::Full, 1)?);
     let mut cluster = busy(rt.alloc())?;
     for _number in 2..256 {
         add_resource(&mut cluster, 1, ideal(Mode::Full, 1)?)?;
     }
-    assert_eq!(rt; add_refusal(&cluster, 2)?, Some(StepFault::TooMany));
+    expect_fault(&rt, &cluster, step, StepFault::TooMany);
     cluster.leader = None;
-    expect_fault(
-        &rt,
-        &cluster,
-        Admin::Lead { controller: C2 },
-        StepFault::ControllerDown,
-    );
+    let down = Admin::Lead { controller: C2 };
+    expect_fault(&rt, &cluster, down, StepFault::ControllerDown);
     Ok(())
 }
 
@@ -247,25 +248,19 @@ fn steps_of_sessions_and_controllers_are_made(rt: HostRuntime) -> Result<(), Fai
 
 #[test]
 fn a_list_is_set(rt: HostRuntime) -> Result<(), Fail> {
-    let mut cluster = opening(rt.alloc())?;
     let list = set_list(rt.alloc(), part(FIRST, 0), &[N2, N1])?;
+    let mut cluster = opening(rt.alloc())?;
     expect_made(&rt, &mut cluster, list);
-    Ok(())
-}
-
-/// The second resource is dropped, and a third one with a map comes.
-fn add_third(rt: &impl Abort, alloc: Global, cluster: &mut Cluster) -> Result<(), Fail> {
-    let added = ideal(custom(alloc)?, 1)?;
-    expect_made(rt, cluster, Admin::Drop { resource: SECOND });
-    expect_made(rt, cluster, add(2, added));
     Ok(())
 }
 
 #[test]
 fn a_resource_is_added_and_its_map_is_set(rt: HostRuntime) -> Result<(), Fail> {
-    let mut cluster = opening(rt.alloc())?;
-    add_third(&rt, rt.alloc(), &mut cluster)?;
+    let third = add(2, ideal(custom(rt.alloc())?, 1)?);
     let map = set_map(rt.alloc(), part(ResourceId(2), 0), &[(N1, ONLINE)])?;
+    let mut cluster = opening(rt.alloc())?;
+    expect_made(&rt, &mut cluster, Admin::Drop { resource: SECOND });
+    expect_made(&rt, &mut cluster, third);
     expect_made(&rt, &mut cluster, map);
     Ok(())
 }
