@@ -110,13 +110,7 @@ in_pass c last k d = one (slice_get c.controllers k.0)
 
 -- proposals, of which each leads to a state that has a name
 in_placed : (c : Cluster) (last : Option ℕ) (q : Proposal) (a : Placed) → has_demo_state q.to ≡ true → IsInDemo c last → IsInDemo (after_placed c q a) last
-in_placed c last q placings.Ended to d = d
-in_placed c last q placings.ResourceDropped to d = d
-in_placed c last q (placings.Busy id) to d = d
-in_placed c last q (placings.WrongFrom has) to d = d
-in_placed c last q placings.Illegal to d = d
-in_placed c last q (placings.OverBound count bound) to d = d
-in_placed c last q (placings.OverThrottle rule load limit) to d = d
+in_placed c last q _ to d = d
 in_placed c last q (placings.Sent id) to d = record {
   instances = d.instances;
   controllers = d.controllers;

@@ -50,13 +50,7 @@ passed c k = raised c k (slice_get c.controllers k.0)
 
 placed : (c : Cluster) (q : Proposal) (p : Placed) → (after_placed c q p).resources ≡ c.resources
 placed c q (placings.Sent id) = refl
-placed c q placings.Ended = refl
-placed c q placings.ResourceDropped = refl
-placed c q (placings.Busy id) = refl
-placed c q (placings.WrongFrom has) = refl
-placed c q placings.Illegal = refl
-placed c q (placings.OverBound n bound) = refl
-placed c q (placings.OverThrottle rule load limit) = refl
+placed c q _ = refl
 
 proposed : (c : Cluster) (qs : List Proposal) → (after_proposals c qs).resources ≡ c.resources
 proposed c [] = refl

@@ -87,13 +87,7 @@ seen_now c = seen_of_part c (part_at 0) ++ seen_of_part c (part_at 1)
 -- how its dispatch ended
 abbrev pub is_sent : Placed → Bool
 is_sent (placings.Sent id) = true
-is_sent placings.Ended = false
-is_sent placings.ResourceDropped = false
-is_sent (placings.Busy id) = false
-is_sent (placings.WrongFrom has) = false
-is_sent placings.Illegal = false
-is_sent (placings.OverBound n bound) = false
-is_sent (placings.OverThrottle rule load limit) = false
+is_sent _ = false
 
 abbrev pub outcome_text : ControllerId → ℕ → ℕ → ℕ → List ℕ
 outcome_text k proposals sent pending =

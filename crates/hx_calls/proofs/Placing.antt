@@ -39,13 +39,7 @@ kept : (n : ℕ) (old new : Cluster) → IsGrown n old new → IsGrown (n + 1) o
 kept n old new g = record { same = g.same; mail = g.mail; longer = g.longer; next = omega (arith, g.next); change = omega (arith, g.change) }
 
 grown_placed : (n : ℕ) (old new : Cluster) (q : Proposal) (a : Placed) → IsGrown n old new → IsGrown (n + 1) old (after_placed new q a)
-grown_placed n old new q placings.Ended g = kept n old new g
-grown_placed n old new q placings.ResourceDropped g = kept n old new g
-grown_placed n old new q (placings.Busy id) g = kept n old new g
-grown_placed n old new q (placings.WrongFrom has) g = kept n old new g
-grown_placed n old new q placings.Illegal g = kept n old new g
-grown_placed n old new q (placings.OverBound count bound) g = kept n old new g
-grown_placed n old new q (placings.OverThrottle rule load limit) g = kept n old new g
+grown_placed n old new q _ g = kept n old new g
 grown_placed n old new q (placings.Sent id) g = record {
   same = (λ i. let c = g.same i in record c { mail = (after_placed new q (placings.Sent id)).mail; next_msg = new.next_msg + 1; change = new.change + 1 });
   mail = let fits = g.longer in rw take-append-le g.mail;
@@ -90,13 +84,7 @@ placed-passes c ds q =
     else next) (idle-passes c ds q (message_of c.mail q.session q.part))
 
 answer-passes : (c : Cluster) (ds : List (Bool × PassNo)) (q : Proposal) (a : Placed) → after_placed (with_controllers c ds) q a ≡ with_controllers (after_placed c q a) ds
-answer-passes c ds q placings.Ended = refl
-answer-passes c ds q placings.ResourceDropped = refl
-answer-passes c ds q (placings.Busy id) = refl
-answer-passes c ds q (placings.WrongFrom has) = refl
-answer-passes c ds q placings.Illegal = refl
-answer-passes c ds q (placings.OverBound count bound) = refl
-answer-passes c ds q (placings.OverThrottle rule load limit) = refl
+answer-passes c ds q _ = refl
 answer-passes c ds q (placings.Sent id) = refl
 
 proposal-passes : (c : Cluster) (ds : List (Bool × PassNo)) (q : Proposal) → after_proposal (with_controllers c ds) q ≡ with_controllers (after_proposal c q) ds

@@ -67,13 +67,7 @@ keeps_asked c p (Some l) = record { leader = refl; epoch = refl; controllers = r
 
 keeps_placed : (c : Cluster) (q : Proposal) (a : Placed) → KeepsLead c (after_placed c q a)
 keeps_placed c q (placings.Sent id) = record { leader = refl; epoch = refl; controllers = refl }
-keeps_placed c q placings.Ended = keeps_self c
-keeps_placed c q placings.ResourceDropped = keeps_self c
-keeps_placed c q (placings.Busy id) = keeps_self c
-keeps_placed c q (placings.WrongFrom has) = keeps_self c
-keeps_placed c q placings.Illegal = keeps_self c
-keeps_placed c q (placings.OverBound count bound) = keeps_self c
-keeps_placed c q (placings.OverThrottle rule load limit) = keeps_self c
+keeps_placed c q _ = keeps_self c
 
 keeps_proposals : (c : Cluster) (qs : List Proposal) → KeepsLead c (after_proposals c qs)
 keeps_proposals c [] = keeps_self c

@@ -116,13 +116,7 @@ raised_roll c k (Some d) = refl
 
 placed_roll : (c : Cluster) (q : Proposal) (answer : Placed) → roll_of (after_placed c q answer) ≡ roll_of c
 placed_roll c q (placings.Sent id) = refl
-placed_roll c q placings.Ended = refl
-placed_roll c q placings.ResourceDropped = refl
-placed_roll c q (placings.Busy id) = refl
-placed_roll c q (placings.WrongFrom has) = refl
-placed_roll c q placings.Illegal = refl
-placed_roll c q (placings.OverBound count bound) = refl
-placed_roll c q (placings.OverThrottle rule load limit) = refl
+placed_roll c q _ = refl
 
 sent_roll : (c : Cluster) (qs : List Proposal) → roll_of (after_proposals c qs) ≡ roll_of c
 sent_roll c [] = refl

@@ -120,13 +120,7 @@ unwritten_write c s id outcome can = one (is_live c.live s) (pending_of c s id) 
 -- what is sent isn't written
 unwritten_placed : (c : Cluster) (q : Proposal) (p : Placed) → unwritten_in (after_placed c q p).mail ≤ unwritten_in c.mail + 1
 unwritten_placed c q (placings.Sent id) = omega (arith, unwritten-append c.mail (message_from c id q))
-unwritten_placed c q placings.Ended = omega arith
-unwritten_placed c q placings.ResourceDropped = omega arith
-unwritten_placed c q (placings.Busy id) = omega arith
-unwritten_placed c q (placings.WrongFrom has) = omega arith
-unwritten_placed c q placings.Illegal = omega arith
-unwritten_placed c q (placings.OverBound n bound) = omega arith
-unwritten_placed c q (placings.OverThrottle rule load limit) = omega arith
+unwritten_placed c q _ = omega arith
 
 unwritten_proposals : (c : Cluster) (qs : List Proposal) → unwritten_in (after_proposals c qs).mail ≤ unwritten_in c.mail + length qs
 unwritten_proposals c [] = omega arith

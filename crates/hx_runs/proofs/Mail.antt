@@ -54,13 +54,7 @@ next_msg_step c step = (beside_step c step refl).next_msg
 
 next_msg_placed : (c : Cluster) (q : Proposal) (a : Placed) → c.next_msg ≤ (after_placed c q a).next_msg
 next_msg_placed c q (placings.Sent id) = omega arith
-next_msg_placed c q placings.Ended = omega arith
-next_msg_placed c q placings.ResourceDropped = omega arith
-next_msg_placed c q (placings.Busy id) = omega arith
-next_msg_placed c q (placings.WrongFrom has) = omega arith
-next_msg_placed c q placings.Illegal = omega arith
-next_msg_placed c q (placings.OverBound count bound) = omega arith
-next_msg_placed c q (placings.OverThrottle rule load limit) = omega arith
+next_msg_placed c q _ = omega arith
 
 next_msg_proposals : (c : Cluster) (qs : List Proposal) → c.next_msg ≤ (after_proposals c qs).next_msg
 next_msg_proposals c [] = omega arith
@@ -143,13 +137,7 @@ all_placed q c p new all = one (placed_of c p) refl
 
     one : (a : Placed) → placed_of c p ≡ a → list_all q (after_placed c p a).mail ≡ true
     one (placings.Sent id) is = sent id (sent_next c p 0 c.rules id (room_from c p id is).throttles)
-    one placings.Ended is = all
-    one placings.ResourceDropped is = all
-    one (placings.Busy id) is = all
-    one (placings.WrongFrom has) is = all
-    one placings.Illegal is = all
-    one (placings.OverBound count bound) is = all
-    one (placings.OverThrottle rule load limit) is = all
+    one _ is = all
 
 all_proposals : (q : Message → Bool) (c : Cluster) (ps : List Proposal) → ((m : Message) → nat_le c.next_msg m.id.0 ≡ true → q m ≡ true) → list_all q c.mail ≡ true
     → list_all q (after_proposals c ps).mail ≡ true

@@ -190,13 +190,7 @@ on_raised c k (Some d) = on_same c (raised_pass c k (Some d)) refl refl refl (om
 
 pub on_placed : (c : Cluster) (q : Proposal) (a : Placed) → IsOn c (after_placed c q a)
 on_placed c q (placings.Sent id) = on_same c (after_placed c q (placings.Sent id)) refl refl refl (omega arith) (omega arith) (λ s low e. refl)
-on_placed c q placings.Ended = on_self c
-on_placed c q placings.ResourceDropped = on_self c
-on_placed c q (placings.Busy id) = on_self c
-on_placed c q (placings.WrongFrom has) = on_self c
-on_placed c q placings.Illegal = on_self c
-on_placed c q (placings.OverBound count bound) = on_self c
-on_placed c q (placings.OverThrottle rule load limit) = on_self c
+on_placed c q _ = on_self c
 
 on_proposals : (c : Cluster) (qs : List Proposal) → IsOn c (after_proposals c qs)
 on_proposals c [] = on_self c

@@ -37,13 +37,7 @@ sent_placed c q (placings.Sent id) sent all =
     let last = among_last sent m in
     all-append (is_among (sent ++ m ∷ [])) c.mail (m ∷ [])
     ∙ and-both (list_all (is_among (sent ++ m ∷ [])) c.mail) (list_all (is_among (sent ++ m ∷ [])) (m ∷ [])) (among_more sent (m ∷ []) c.mail all) (and-both (is_among (sent ++ m ∷ []) m) true last refl)
-sent_placed c q placings.Ended sent all = among_more sent [] c.mail all
-sent_placed c q placings.ResourceDropped sent all = among_more sent [] c.mail all
-sent_placed c q (placings.Busy id) sent all = among_more sent [] c.mail all
-sent_placed c q (placings.WrongFrom has) sent all = among_more sent [] c.mail all
-sent_placed c q placings.Illegal sent all = among_more sent [] c.mail all
-sent_placed c q (placings.OverBound count bound) sent all = among_more sent [] c.mail all
-sent_placed c q (placings.OverThrottle rule load limit) sent all = among_more sent [] c.mail all
+sent_placed c q _ sent all = among_more sent [] c.mail all
 
 sent_proposals : (c : Cluster) (qs : List Proposal) (sent : List Message) → list_all (is_among sent) c.mail ≡ true → list_all (is_among (sent ++ sent_all c qs)) (after_proposals c qs).mail ≡ true
 sent_proposals c [] sent all = among_more sent [] c.mail all

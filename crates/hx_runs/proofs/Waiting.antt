@@ -164,13 +164,7 @@ any_placed m taken c q (placings.Sent id) e = any-append (waits m taken) c.mail 
     first : (a b : Bool) → a ≡ true → (a || b) ≡ true
     first true b w = refl
     first false b w = cc
-any_placed m taken c q placings.Ended e = e
-any_placed m taken c q placings.ResourceDropped e = e
-any_placed m taken c q (placings.Busy id) e = e
-any_placed m taken c q (placings.WrongFrom has) e = e
-any_placed m taken c q placings.Illegal e = e
-any_placed m taken c q (placings.OverBound count bound) e = e
-any_placed m taken c q (placings.OverThrottle rule load limit) e = e
+any_placed m taken c q _ e = e
 
 any_proposals : (m : Message) (taken : Bool) (c : Cluster) (qs : List Proposal) → list_any (waits m taken) c.mail ≡ true → list_any (waits m taken) (after_proposals c qs).mail ≡ true
 any_proposals m taken c [] e = e
@@ -292,13 +286,7 @@ stands_until c (e ∷ es) m w legal wait = (
 -- a message that is sent waits
 next_session_placed : (c : Cluster) (q : Proposal) (a : Placed) → (after_placed c q a).next_session ≡ c.next_session
 next_session_placed c q (placings.Sent id) = refl
-next_session_placed c q placings.Ended = refl
-next_session_placed c q placings.ResourceDropped = refl
-next_session_placed c q (placings.Busy id) = refl
-next_session_placed c q (placings.WrongFrom has) = refl
-next_session_placed c q placings.Illegal = refl
-next_session_placed c q (placings.OverBound count bound) = refl
-next_session_placed c q (placings.OverThrottle rule load limit) = refl
+next_session_placed c q _ = refl
 
 next_session_proposals : (c : Cluster) (qs : List Proposal) → (after_proposals c qs).next_session ≡ c.next_session
 next_session_proposals c [] = refl
@@ -309,13 +297,7 @@ are_below c = list_all (λ l. nat_lt l.session.0 c.next_session) c.live
 
 below_placed : (c : Cluster) (q : Proposal) (a : Placed) → are_below c ≡ true → are_below (after_placed c q a) ≡ true
 below_placed c q (placings.Sent id) e = e
-below_placed c q placings.Ended e = e
-below_placed c q placings.ResourceDropped e = e
-below_placed c q (placings.Busy id) e = e
-below_placed c q (placings.WrongFrom has) e = e
-below_placed c q placings.Illegal e = e
-below_placed c q (placings.OverBound count bound) e = e
-below_placed c q (placings.OverThrottle rule load limit) e = e
+below_placed c q _ e = e
 
 waits_last : (mail : List Message) (m : Message) → m.written ≡ false → list_any (waits m false) (mail ++ m ∷ []) ≡ true
 waits_last mail m none = any-append (waits m false) mail (m ∷ []) ∙ last (list_any (waits m false) mail) (waits m false m) (waits_from m m false (same_self m) refl (ap not none))
@@ -340,13 +322,7 @@ sent_waits c (q ∷ qs) below =
           old = ap (nat_lt q.session.0) (next_session_proposals d qs) ∙ low;
           there = λ live. any_proposals m false d qs (waits_last c.mail m refl);
         }) (All-nil (λ m. IsWaiting (after_proposals d qs) m false))
-    one placings.Ended is = All-nil (λ m. IsWaiting (after_proposals c qs) m false)
-    one placings.ResourceDropped is = All-nil (λ m. IsWaiting (after_proposals c qs) m false)
-    one (placings.Busy id) is = All-nil (λ m. IsWaiting (after_proposals c qs) m false)
-    one (placings.WrongFrom has) is = All-nil (λ m. IsWaiting (after_proposals c qs) m false)
-    one placings.Illegal is = All-nil (λ m. IsWaiting (after_proposals c qs) m false)
-    one (placings.OverBound count bound) is = All-nil (λ m. IsWaiting (after_proposals c qs) m false)
-    one (placings.OverThrottle rule load limit) is = All-nil (λ m. IsWaiting (after_proposals c qs) m false)
+    one _ is = All-nil (λ m. IsWaiting (after_proposals c qs) m false)
 
 each_by : (P Q : Message → Type 0) → ((m : Message) → P m → Q m) → (ms : List Message) → All P ms → All Q ms
 each_by P Q h ms all = λ k d low. h (get_or ms k d) (all k d low)

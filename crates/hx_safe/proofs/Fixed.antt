@@ -123,13 +123,7 @@ fixed_pass c k = fixed_raised c k (slice_get c.controllers k.0)
 
 pub fixed_placed : (c : Cluster) (q : Proposal) (a : Placed) → IsFixed c (after_placed c q a)
 fixed_placed c q (placings.Sent id) = record { instances = refl; controllers = refl; states = refl; models = refl; rules = refl; resource_names = refl }
-fixed_placed c q placings.Ended = fixed_self c
-fixed_placed c q placings.ResourceDropped = fixed_self c
-fixed_placed c q (placings.Busy id) = fixed_self c
-fixed_placed c q (placings.WrongFrom has) = fixed_self c
-fixed_placed c q placings.Illegal = fixed_self c
-fixed_placed c q (placings.OverBound count bound) = fixed_self c
-fixed_placed c q (placings.OverThrottle rule load limit) = fixed_self c
+fixed_placed c q _ = fixed_self c
 
 pub fixed_proposals : (c : Cluster) (qs : List Proposal) → IsFixed c (after_proposals c qs)
 fixed_proposals c [] = fixed_self c

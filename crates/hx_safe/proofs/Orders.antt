@@ -165,13 +165,7 @@ ordered_proposal c q k o = one (placed_of c q) refl
   where
     one : (a : Placed) → placed_of c q ≡ a → IsOrdered (after_placed c q a)
     one (placings.Sent id) is = ordered_sent c q id k (sent_next c q 0 c.rules id (room_from c q id is).throttles) o
-    one placings.Ended is = o
-    one placings.ResourceDropped is = o
-    one (placings.Busy id) is = o
-    one (placings.WrongFrom has) is = o
-    one placings.Illegal is = o
-    one (placings.OverBound count bound) is = o
-    one (placings.OverThrottle rule load limit) is = o
+    one _ is = o
 
 ordered_dispatch : (c : Cluster) (n : ControllerId) (qs : List Proposal) → IsKept c → list_all (is_proposable c) qs ≡ true → IsOrdered c → IsOrdered (after_dispatch c n qs)
 ordered_dispatch c n qs k e o =

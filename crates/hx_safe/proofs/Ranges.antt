@@ -287,13 +287,7 @@ in_raised c k (Some d) w = record { resources = w.resources; few_resources = w.f
 
 in_placed : (c d : Cluster) (q : Proposal) (a : Placed) → IsInRange c d → IsInRange c (after_placed d q a)
 in_placed c d q (placings.Sent id) w = record { resources = w.resources; few_resources = w.few_resources; live = w.live; leader = w.leader; parts = w.parts; posted = w.posted }
-in_placed c d q placings.Ended w = w
-in_placed c d q placings.ResourceDropped w = w
-in_placed c d q (placings.Busy id) w = w
-in_placed c d q (placings.WrongFrom has) w = w
-in_placed c d q placings.Illegal w = w
-in_placed c d q (placings.OverBound count bound) w = w
-in_placed c d q (placings.OverThrottle rule load limit) w = w
+in_placed c d q _ w = w
 
 in_proposals : (c d : Cluster) (qs : List Proposal) → IsInRange c d → IsInRange c (after_proposals d qs)
 in_proposals c d [] w = w

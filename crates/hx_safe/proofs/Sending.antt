@@ -212,13 +212,7 @@ pub kept_proposal : (c : Cluster) (q : Proposal) → IsKept c → has_part c q.p
 kept_proposal c q k part = one (placed_of c q) refl
   where
     one : (a : Placed) → placed_of c q ≡ a → IsKept (after_placed c q a)
-    one placings.Ended is = k
-    one placings.ResourceDropped is = k
-    one (placings.Busy id) is = k
-    one (placings.WrongFrom has) is = k
-    one placings.Illegal is = k
-    one (placings.OverBound count bound) is = k
-    one (placings.OverThrottle rule load limit) is = k
+    one _ is = k
     one (placings.Sent id) is = let room = room_from c q id is in kept_sent c q id k part (sent_next c q 0 c.rules id room.throttles) room
 
 -- the law of counts for a proposal
@@ -228,33 +222,15 @@ count_proposal c q p t limit k e = one (placed_of c q) refl
   where
     one : (a : Placed) → placed_of c q ≡ a → (count_of (after_placed c q a) p t ≤ count_of c p t) ⊎ (count_of (after_placed c q a) p t ≤ limit)
     one (placings.Sent id) is = count_sent c q id p t limit k (room_from c q id is) e
-    one placings.Ended is = inl (omega arith)
-    one placings.ResourceDropped is = inl (omega arith)
-    one (placings.Busy id) is = inl (omega arith)
-    one (placings.WrongFrom has) is = inl (omega arith)
-    one placings.Illegal is = inl (omega arith)
-    one (placings.OverBound count bound) is = inl (omega arith)
-    one (placings.OverThrottle rule load most) is = inl (omega arith)
+    one _ is = inl (omega arith)
 
 -- which proposals may be made stays as it was, and so do the limits
 limit-placed : (c : Cluster) (q : Proposal) (p : PartId) (t : StateId) (a : Placed) → limit_at (after_placed c q a) p t ≡ limit_at c p t
 limit-placed c q p t (placings.Sent id) = refl
-limit-placed c q p t placings.Ended = refl
-limit-placed c q p t placings.ResourceDropped = refl
-limit-placed c q p t (placings.Busy id) = refl
-limit-placed c q p t (placings.WrongFrom has) = refl
-limit-placed c q p t placings.Illegal = refl
-limit-placed c q p t (placings.OverBound count bound) = refl
-limit-placed c q p t (placings.OverThrottle rule load most) = refl
+limit-placed c q p t _ = refl
 
 proposable-placed : (c : Cluster) (q x : Proposal) (a : Placed) → is_proposable (after_placed c q a) x ≡ is_proposable c x
-proposable-placed c q x placings.Ended = refl
-proposable-placed c q x placings.ResourceDropped = refl
-proposable-placed c q x (placings.Busy id) = refl
-proposable-placed c q x (placings.WrongFrom has) = refl
-proposable-placed c q x placings.Illegal = refl
-proposable-placed c q x (placings.OverBound count bound) = refl
-proposable-placed c q x (placings.OverThrottle rule load limit) = refl
+proposable-placed c q x _ = refl
 proposable-placed c q x (placings.Sent id) = refl
 
 proposable-raised : (c : Cluster) (x : Proposal) (k : ControllerId) (o : Option (Bool × PassNo)) → is_proposable (raised_pass c k o) x ≡ is_proposable c x

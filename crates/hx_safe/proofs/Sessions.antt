@@ -191,13 +191,7 @@ seated_stop c k o = one (slice_get c.controllers k.0)
 
 -- proposals
 seated_placed : (c : Cluster) (q : Proposal) (a : Placed) → IsSeated c → IsSeated (after_placed c q a)
-seated_placed c q placings.Ended o = o
-seated_placed c q placings.ResourceDropped o = o
-seated_placed c q (placings.Busy id) o = o
-seated_placed c q (placings.WrongFrom has) o = o
-seated_placed c q placings.Illegal o = o
-seated_placed c q (placings.OverBound count bound) o = o
-seated_placed c q (placings.OverThrottle rule load limit) o = o
+seated_placed c q _ o = o
 seated_placed c q (placings.Sent id) o = record { instances = o.instances; beats = o.beats; leader = one c.leader o.leader }
   where
     one : (l : Option ControllerId) → leader_is_up c l ≡ true → leader_is_up (after_placed c q (placings.Sent id)) l ≡ true

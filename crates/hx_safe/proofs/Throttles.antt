@@ -218,13 +218,7 @@ throttled_proposal : (c : Cluster) (q : Proposal) → IsThrottled c → IsThrott
 throttled_proposal c q old = one (placed_of c q) refl
   where
     one : (a : Placed) → placed_of c q ≡ a → IsThrottled (after_placed c q a)
-    one placings.Ended is = old
-    one placings.ResourceDropped is = old
-    one (placings.Busy id) is = old
-    one (placings.WrongFrom has) is = old
-    one placings.Illegal is = old
-    one (placings.OverBound count bound) is = old
-    one (placings.OverThrottle rule load limit) is = old
+    one _ is = old
     one (placings.Sent id) is = throttled_sent c q id (room_from c q id is).throttles old
 
 throttled_proposals : (c : Cluster) (qs : List Proposal) → IsThrottled c → IsThrottled (after_proposals c qs)

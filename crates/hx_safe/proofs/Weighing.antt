@@ -206,23 +206,11 @@ paid_tick c n single =
 -- a message that is sent was paid for
 paid_placed : (c : Cluster) (q : Proposal) (p : Placed) → (after_placed c q p).change + owed_of (after_placed c q p) ≤ c.change + owed_of c + 4
 paid_placed c q (placings.Sent id) = omega (arith, owed-append c.mail (message_from c id q))
-paid_placed c q placings.Ended = omega arith
-paid_placed c q placings.ResourceDropped = omega arith
-paid_placed c q (placings.Busy id) = omega arith
-paid_placed c q (placings.WrongFrom has) = omega arith
-paid_placed c q placings.Illegal = omega arith
-paid_placed c q (placings.OverBound n bound) = omega arith
-paid_placed c q (placings.OverThrottle rule load limit) = omega arith
+paid_placed c q _ = omega arith
 
 drawn_placed : (c : Cluster) (q : Proposal) (p : Placed) → (after_placed c q p).next_msg ≤ c.next_msg + 1
 drawn_placed c q (placings.Sent id) = omega arith
-drawn_placed c q placings.Ended = omega arith
-drawn_placed c q placings.ResourceDropped = omega arith
-drawn_placed c q (placings.Busy id) = omega arith
-drawn_placed c q (placings.WrongFrom has) = omega arith
-drawn_placed c q placings.Illegal = omega arith
-drawn_placed c q (placings.OverBound n bound) = omega arith
-drawn_placed c q (placings.OverThrottle rule load limit) = omega arith
+drawn_placed c q _ = omega arith
 
 -- what proposals leave as it was
 pub record IsBeside (c d : Cluster) : Type 0 where
@@ -232,23 +220,11 @@ pub record IsBeside (c d : Cluster) : Type 0 where
 
 beside_placed : (c : Cluster) (q : Proposal) (p : Placed) → IsBeside c (after_placed c q p)
 beside_placed c q (placings.Sent id) = record { sessions = refl; epoch = refl; controllers = refl }
-beside_placed c q placings.Ended = record { sessions = refl; epoch = refl; controllers = refl }
-beside_placed c q placings.ResourceDropped = record { sessions = refl; epoch = refl; controllers = refl }
-beside_placed c q (placings.Busy id) = record { sessions = refl; epoch = refl; controllers = refl }
-beside_placed c q (placings.WrongFrom has) = record { sessions = refl; epoch = refl; controllers = refl }
-beside_placed c q placings.Illegal = record { sessions = refl; epoch = refl; controllers = refl }
-beside_placed c q (placings.OverBound n bound) = record { sessions = refl; epoch = refl; controllers = refl }
-beside_placed c q (placings.OverThrottle rule load limit) = record { sessions = refl; epoch = refl; controllers = refl }
+beside_placed c q _ = record { sessions = refl; epoch = refl; controllers = refl }
 
 owed_placed : (c : Cluster) (q : Proposal) (p : Placed) → owed_of (after_placed c q p) ≤ owed_of c + 3
 owed_placed c q (placings.Sent id) = omega (arith, owed-append c.mail (message_from c id q))
-owed_placed c q placings.Ended = omega arith
-owed_placed c q placings.ResourceDropped = omega arith
-owed_placed c q (placings.Busy id) = omega arith
-owed_placed c q (placings.WrongFrom has) = omega arith
-owed_placed c q placings.Illegal = omega arith
-owed_placed c q (placings.OverBound n bound) = omega arith
-owed_placed c q (placings.OverThrottle rule load limit) = omega arith
+owed_placed c q _ = omega arith
 
 pub owed_proposals : (c : Cluster) (qs : List Proposal) → owed_of (after_proposals c qs) ≤ owed_of c + 3 * length qs
 owed_proposals c [] = omega arith
