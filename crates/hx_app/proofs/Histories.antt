@@ -131,30 +131,14 @@ is_due_read c (events.Live k pass) = is_pass c k pass
 is_due_read c (events.Mail k pass s) = is_pass c k pass
 is_due_read c (events.States k pass s) = is_pass c k pass
 is_due_read c (events.Ideals k pass) = is_pass c k pass
-is_due_read c (events.Admin step did) = false
-is_due_read c (events.Line n) = false
-is_due_read c (events.Begin k begun) = false
-is_due_read c (events.Dispatch k epoch pass proposals answer) = false
-is_due_read c (events.Post k epoch rows) = false
-is_due_read c (events.Fetch i s n) = false
-is_due_read c (events.Take s id) = false
-is_due_read c (events.Write s id outcome) = false
-is_due_read c (events.Ack s id) = false
+is_due_read c _ = false
 
 read_goes : (c : Cluster) (last : Option ℕ) (e : Event) (is : List Item) → is_due_read c e ≡ true → Goes c last is → Goes c last (Happens e ∷ is)
 read_goes c last (events.Live k pass) is due g = goes_on c last (events.Live k pass) is due g
 read_goes c last (events.Mail k pass s) is due g = goes_on c last (events.Mail k pass s) is due g
 read_goes c last (events.States k pass s) is due g = goes_on c last (events.States k pass s) is due g
 read_goes c last (events.Ideals k pass) is due g = goes_on c last (events.Ideals k pass) is due g
-read_goes c last (events.Admin step did) is due g = cc
-read_goes c last (events.Line n) is due g = cc
-read_goes c last (events.Begin k begun) is due g = cc
-read_goes c last (events.Dispatch k epoch pass proposals answer) is due g = cc
-read_goes c last (events.Post k epoch rows) is due g = cc
-read_goes c last (events.Fetch i s n) is due g = cc
-read_goes c last (events.Take s id) is due g = cc
-read_goes c last (events.Write s id outcome) is due g = cc
-read_goes c last (events.Ack s id) is due g = cc
+read_goes c last _ is due g = cc
 
 reads_go : (c : Cluster) (last : Option ℕ) (es : List Event) (is : List Item) → list_all (is_due_read c) es ≡ true → Goes c last is → Goes c last (map Happens es ++ is)
 reads_go c last [] is due g = g

@@ -60,30 +60,15 @@ is_read (events.Live k pass) = true
 is_read (events.Mail k pass s) = true
 is_read (events.States k pass s) = true
 is_read (events.Ideals k pass) = true
-is_read (events.Admin step did) = false
-is_read (events.Line n) = false
-is_read (events.Begin k begun) = false
-is_read (events.Dispatch k epoch pass proposals answer) = false
-is_read (events.Post k epoch rows) = false
-is_read (events.Fetch i s n) = false
-is_read (events.Take s id) = false
-is_read (events.Write s id outcome) = false
-is_read (events.Ack s id) = false
+is_read _ = false
 
 read_same : (c : Cluster) (e : Event) → is_read e ≡ true → next c e ≡ c
 read_same c (events.Live k pass) y = refl
 read_same c (events.Mail k pass s) y = refl
 read_same c (events.States k pass s) y = refl
 read_same c (events.Ideals k pass) y = refl
-read_same c (events.Admin step did) y = cc
-read_same c (events.Line n) y = cc
-read_same c (events.Begin k begun) y = cc
-read_same c (events.Dispatch k epoch pass proposals answer) y = cc
-read_same c (events.Post k epoch rows) y = cc
 read_same c (events.Fetch i s n) y = refl
-read_same c (events.Take s id) y = cc
-read_same c (events.Write s id outcome) y = cc
-read_same c (events.Ack s id) y = cc
+read_same c _ y = cc
 
 both_true : (a b : Bool) → (a && b) ≡ true → (a ≡ true) × (b ≡ true)
 both_true true b h = (refl, h)

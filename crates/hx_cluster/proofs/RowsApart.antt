@@ -46,21 +46,17 @@ stopped_rows c rows k false = refl
 
 -- a step that leaves the rows does the same where they stand apart
 pub after_rows : (c : Cluster) (rows : List Row) (step : Admin) → leaves_rows step ≡ true → with_rows (after c step) rows ≡ after (with_rows c rows) step
-after_rows c rows (steps.Join i) e = refl
 after_rows c rows (steps.End i) e = cc
 after_rows c rows (steps.Beat i) e = beaten_rows c rows (live_of c.live i)
 after_rows c rows (steps.Tick n) e = cc
-after_rows c rows (steps.Drain i) e = refl
-after_rows c rows (steps.Undrain i) e = refl
-after_rows c rows (steps.Add name model ideal) e = refl
 after_rows c rows (steps.Drop r) e = changed_rows c rows r (λ x. record x { dropped = true }) (resource_at c.resources r)
 after_rows c rows (steps.SetList p list) e = changed_rows c rows p.resource (λ x. with_mode x (put_list x.ideal.mode p.index list)) (resource_at c.resources p.resource)
 after_rows c rows (steps.SetMap p map) e = changed_rows c rows p.resource (λ x. with_mode x (put_map x.ideal.mode p.index map)) (resource_at c.resources p.resource)
 after_rows c rows (steps.Reset i p) e = asked_rows c rows p (live_of c.live i)
-after_rows c rows (steps.Lead k) e = refl
 after_rows c rows (steps.Stop k) e = stopped_at (slice_get c.controllers k.0)
   where
     stopped_at : (o : Option (Bool × PassNo)) → with_rows (without_leader k (marked_down c k true o)) rows ≡ without_leader k (marked_down (with_rows c rows) k true o)
     stopped_at None = stopped_rows c rows k (is_leader k c.leader)
     stopped_at (Some d) = stopped_rows (marked_down c k true (Some d)) rows k (is_leader k c.leader)
 after_rows c rows (steps.Start k) e = marked_rows c rows k false (slice_get c.controllers k.0)
+after_rows c rows _ e = refl

@@ -137,12 +137,7 @@ same_turn c k t (events.States j pass s) other = not_own (j.0 == k.0) _ t other
 same_turn c k t (events.Ideals j pass) other = not_own (j.0 == k.0) _ t other
 same_turn c k t (events.Dispatch j epoch pass proposals answer) other = not_own (j.0 == k.0) _ t other
 same_turn c k t (events.Post j epoch rows) other = not_own (j.0 == k.0) _ t other
-same_turn c k t (events.Admin step did) other = refl
-same_turn c k t (events.Line n) other = refl
-same_turn c k t (events.Fetch i s n) other = refl
-same_turn c k t (events.Take s id) other = refl
-same_turn c k t (events.Write s id outcome) other = refl
-same_turn c k t (events.Ack s id) other = refl
+same_turn c k t _ other = refl
 
 still_told : (spec : Spec) (k : ControllerId) (t : Turn) (h : List Event) (e : Event) → is_own k e ≡ false
     → (t ≡ idle_turn) ⊎ (t ≡ turn_of spec k h) → (t ≡ idle_turn) ⊎ (t ≡ turn_of spec k (h ++ e ∷ []))

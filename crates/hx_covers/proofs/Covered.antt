@@ -66,18 +66,7 @@ begins_led c k (events.Begin j begun) step leads epoch = last (begun.epoch.0 == 
     last : (a b : Bool) → b ≡ true → (not a || b) ≡ true
     last true b e = e
     last false b e = refl
-begins_led c k (events.Admin step did) legal leads epoch = refl
-begins_led c k (events.Line n) legal leads epoch = refl
-begins_led c k (events.Live j pass) legal leads epoch = refl
-begins_led c k (events.Mail j pass s) legal leads epoch = refl
-begins_led c k (events.States j pass s) legal leads epoch = refl
-begins_led c k (events.Ideals j pass) legal leads epoch = refl
-begins_led c k (events.Dispatch j e pass proposals answer) legal leads epoch = refl
-begins_led c k (events.Post j e rows) legal leads epoch = refl
-begins_led c k (events.Fetch i s n) legal leads epoch = refl
-begins_led c k (events.Take s id) legal leads epoch = refl
-begins_led c k (events.Write s id outcome) legal leads epoch = refl
-begins_led c k (events.Ack s id) legal leads epoch = refl
+begins_led c k _ legal leads epoch = refl
 
 begins_next : (c d : Cluster) (k : ControllerId) (h : List Event) (e : Event) → list_all (begins_by k c.epoch) h ≡ true → d.epoch.0 ≡ c.epoch.0 → begins_by k d.epoch e ≡ true
     → list_all (begins_by k d.epoch) (h ++ e ∷ []) ≡ true
@@ -127,18 +116,7 @@ led_here c (events.Begin j begun) step =
     last false true true e w = refl
     last false true false e w = cc
     last false false l e w = cc
-led_here c (events.Admin step did) legal = refl
-led_here c (events.Line n) legal = refl
-led_here c (events.Live j pass) legal = refl
-led_here c (events.Mail j pass s) legal = refl
-led_here c (events.States j pass s) legal = refl
-led_here c (events.Ideals j pass) legal = refl
-led_here c (events.Dispatch j e pass proposals answer) legal = refl
-led_here c (events.Post j e rows) legal = refl
-led_here c (events.Fetch i s n) legal = refl
-led_here c (events.Take s id) legal = refl
-led_here c (events.Write s id outcome) legal = refl
-led_here c (events.Ack s id) legal = refl
+led_here c _ legal = refl
 
 led_next : (c d : Cluster) (h : List Event) (e : Event) → LeadCase c d → IsStep c e → list_all (is_led c) h ≡ true → list_all (is_led d) (h ++ e ∷ []) ≡ true
 led_next c d h e cases step all =
@@ -178,12 +156,7 @@ case_turn c k t (events.Ideals j pass) step =
 case_turn c k t (events.Dispatch j epoch pass proposals answer) step =
     case_own c k j t (if_due (is_due t Send pass && is_of_epoch t epoch) (gone_on t t.view)) (λ is. case_due c k (is_due t Send pass && is_of_epoch t epoch) t (gone_on t t.view) (inl refl))
 case_turn c k t (events.Post j epoch rows) step = case_own c k j t idle_turn (λ is. inr (inl refl))
-case_turn c k t (events.Admin x did) step = inl refl
-case_turn c k t (events.Line n) step = inl refl
-case_turn c k t (events.Fetch i s n) step = inl refl
-case_turn c k t (events.Take s id) step = inl refl
-case_turn c k t (events.Write s id outcome) step = inl refl
-case_turn c k t (events.Ack s id) step = inl refl
+case_turn c k t _ step = inl refl
 
 leads_next : (c d : Cluster) (k : ControllerId) (t after : Turn) → LeadCase c d → c.epoch.0 ≤ d.epoch.0 → 1 ≤ c.epoch.0 → t.begun.epoch.0 ≤ c.epoch.0
     → ((t.begun.epoch.0 == c.epoch.0) ≡ true → is_leader k c.leader ≡ true) → BegunCase c k t after → (after.begun.epoch.0 == d.epoch.0) ≡ true → is_leader k d.leader ≡ true
@@ -313,18 +286,7 @@ own_begin c turns begun h k j answer true is s step at =
         one false is true there true lead w = last (b.epoch.0 == c.epoch.0) (i.0 == k.0) (one_leader i k c.leader lead mine)
         one false is true there false lead w = cc
         one false is false there l lead w = cc
-    by_leader c k (events.Admin step did) mine w = refl
-    by_leader c k (events.Line n) mine w = refl
-    by_leader c k (events.Live j pass) mine w = refl
-    by_leader c k (events.Mail j pass s) mine w = refl
-    by_leader c k (events.States j pass s) mine w = refl
-    by_leader c k (events.Ideals j pass) mine w = refl
-    by_leader c k (events.Dispatch j e pass proposals answer) mine w = refl
-    by_leader c k (events.Post j e rows) mine w = refl
-    by_leader c k (events.Fetch i s n) mine w = refl
-    by_leader c k (events.Take s id) mine w = refl
-    by_leader c k (events.Write s id outcome) mine w = refl
-    by_leader c k (events.Ack s id) mine w = refl
+    by_leader c k _ mine w = refl
 own_begin c turns begun h k j answer false is s step at = other_event c turns begun h k (events.Begin j answer) s step refl (turned is) at
   where
     turned : (j.0 == k.0) ≡ false → (k.0 == j.0) ≡ false
@@ -471,18 +433,7 @@ CoversAll spec h = IsCoverage (replay (opening spec) h) (λ k. turn_of spec k h)
 
 in_epoch : (spec : Spec) (before : List Event) (e : Event) → IsProper spec before e → IsInEpoch (λ k. turn_of spec k before) e
 in_epoch spec before (events.Dispatch j epoch pass proposals answer) proper = proper.1
-in_epoch spec before (events.Begin j answer) proper = tt
-in_epoch spec before (events.Live j pass) proper = tt
-in_epoch spec before (events.Mail j pass u) proper = tt
-in_epoch spec before (events.States j pass u) proper = tt
-in_epoch spec before (events.Ideals j pass) proper = tt
-in_epoch spec before (events.Post j epoch rows) proper = tt
-in_epoch spec before (events.Admin x did) proper = tt
-in_epoch spec before (events.Line n) proper = tt
-in_epoch spec before (events.Fetch i u n) proper = tt
-in_epoch spec before (events.Take u id) proper = tt
-in_epoch spec before (events.Write u id outcome) proper = tt
-in_epoch spec before (events.Ack u id) proper = tt
+in_epoch spec before _ proper = tt
 
 covers_more : (spec : Spec) (before : List Event) (e : Event) → CoversAll spec before → IsStep (replay (opening spec) before) e → IsProper spec before e → CoversAll spec (before ++ e ∷ [])
 covers_more spec before e all step proper =

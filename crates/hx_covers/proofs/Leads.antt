@@ -100,15 +100,11 @@ case_lead c k free = one c.leader refl free
     one None is e = inr (inr (is, refl))
 
 case_step : (c : Cluster) (step : Admin) → refusal_of c step ≡ None → LeadCase c (after c step)
-case_step c (steps.Join i) free = inl (refl, refl)
 case_step c (steps.End i) free = case_keeps c (after c (steps.End i)) (keeps_end c (live_of c.live i))
 case_step c (steps.Beat i) free = case_keeps c (after c (steps.Beat i)) (keeps_beat c (live_of c.live i))
 case_step c (steps.Tick n) free =
     let later : KeepsLead c (record c { clock = c.clock + n }) = record { leader = refl; epoch = refl; controllers = refl } in
     case_keeps c (after c (steps.Tick n)) (keeps_both later (keeps_all (record c { clock = c.clock + n }) (ended_by c n)))
-case_step c (steps.Drain i) free = inl (refl, refl)
-case_step c (steps.Undrain i) free = inl (refl, refl)
-case_step c (steps.Add name model ideal) free = inl (refl, refl)
 case_step c (steps.Drop r) free = case_keeps c (after c (steps.Drop r)) (keeps_edit c r (λ x. record x { dropped = true }) (resource_at c.resources r))
 case_step c (steps.SetList p list) free =
     case_keeps c (after c (steps.SetList p list)) (keeps_edit c p.resource (λ x. with_mode x (put_list x.ideal.mode p.index list)) (resource_at c.resources p.resource))
@@ -118,6 +114,7 @@ case_step c (steps.Reset i p) free = case_keeps c (after c (steps.Reset i p)) (k
 case_step c (steps.Lead k) free = case_lead c k free
 case_step c (steps.Stop k) free = case_left c (with_down c k true) (is_leader k (with_down c k true).leader) (case_mark c k true (slice_get c.controllers k.0))
 case_step c (steps.Start k) free = inl (case_mark c k false (slice_get c.controllers k.0))
+case_step c _ free = inl (refl, refl)
 
 case_raised : (c : Cluster) (k : ControllerId) (o : Option (Bool × PassNo)) → ((raised_pass c k o).leader ≡ c.leader) × ((raised_pass c k o).epoch ≡ c.epoch)
 case_raised c k None = (refl, refl)
@@ -131,15 +128,7 @@ case_next c (events.Dispatch k epoch pass proposals answer) legal =
     let two = keeps_proposals (next_pass c k) proposals in
     inl (two.leader ∙ one.0, two.epoch ∙ one.1)
 case_next c (events.Write s id outcome) legal = case_keeps c (next c (events.Write s id outcome)) (keeps_written c s id outcome (pending_of c s id))
-case_next c (events.Line n) legal = inl (refl, refl)
-case_next c (events.Live k pass) legal = inl (refl, refl)
-case_next c (events.Mail k pass s) legal = inl (refl, refl)
-case_next c (events.States k pass s) legal = inl (refl, refl)
-case_next c (events.Ideals k pass) legal = inl (refl, refl)
-case_next c (events.Post k epoch rows) legal = inl (refl, refl)
-case_next c (events.Fetch i s n) legal = inl (refl, refl)
-case_next c (events.Take s id) legal = inl (refl, refl)
-case_next c (events.Ack s id) legal = inl (refl, refl)
+case_next c _ legal = inl (refl, refl)
 
 -- the pass of a controller
 pass_keeps : (c d : Cluster) (k : ControllerId) → KeepsLead c d → pass_of d k ≡ pass_of c k

@@ -153,18 +153,10 @@ step_next c (steps.Start k) = marked_roll c k false (slice_get c.controllers k.0
 
 pub roll_next : (c : Cluster) (e : Event) → IsStep c e → roll_of (next c e) ≡ roll_after (roll_of c) e
 roll_next c (events.Admin step did) legal = step_next c step ∙ ap (roll_after_step (roll_of c) step) (sym legal.2)
-roll_next c (events.Line n) legal = refl
 roll_next c (events.Begin k begun) legal = raised_roll c k (slice_get c.controllers k.0)
-roll_next c (events.Live k pass) legal = refl
-roll_next c (events.Mail k pass s) legal = refl
-roll_next c (events.States k pass s) legal = refl
-roll_next c (events.Ideals k pass) legal = refl
 roll_next c (events.Dispatch k epoch pass proposals answer) legal = sent_roll (next_pass c k) proposals ∙ raised_roll c k (slice_get c.controllers k.0)
-roll_next c (events.Post k epoch rows) legal = refl
-roll_next c (events.Fetch i s n) legal = refl
-roll_next c (events.Take s id) legal = refl
 roll_next c (events.Write s id outcome) legal = written_roll c s id outcome (pending_of c s id)
-roll_next c (events.Ack s id) legal = refl
+roll_next c _ legal = refl
 
 -- the log of legal events
 pub log_rolled : (spec : Spec) (c : Cluster) (es : List Event) → IsLegal c es → rolled_text spec (roll_of c) es ≡ log_text spec c es

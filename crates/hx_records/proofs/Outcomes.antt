@@ -158,7 +158,6 @@ marked c k down = one (slice_get c.controllers k.0)
     one (Some d) = omega arith
 
 pub unwritten_step : (c : Cluster) (step : Admin) → unwritten_in (after c step).mail ≤ unwritten_in c.mail
-unwritten_step c (steps.Join i) = omega arith
 unwritten_step c (steps.End i) = one (live_of c.live i)
   where
     one : (o : Option Live) → unwritten_in (ended_of c o).mail ≤ unwritten_in c.mail
@@ -170,9 +169,6 @@ unwritten_step c (steps.Beat i) = one (live_of c.live i)
     one None = omega arith
     one (Some l) = omega arith
 unwritten_step c (steps.Tick n) = unwritten_all (record c { clock = c.clock + n }) (ended_by c n)
-unwritten_step c (steps.Drain i) = omega arith
-unwritten_step c (steps.Undrain i) = omega arith
-unwritten_step c (steps.Add name model ideal) = omega arith
 unwritten_step c (steps.Drop r) = edited c r (λ x. record x { dropped = true })
 unwritten_step c (steps.SetList p list) = edited c p.resource _
 unwritten_step c (steps.SetMap p map) = edited c p.resource _
@@ -181,7 +177,6 @@ unwritten_step c (steps.Reset i p) = one (live_of c.live i)
     one : (o : Option Live) → unwritten_in (asked_of c p o).mail ≤ unwritten_in c.mail
     one None = omega arith
     one (Some l) = omega arith
-unwritten_step c (steps.Lead k) = omega arith
 unwritten_step c (steps.Stop k) = left (with_down c k true) (is_leader k (with_down c k true).leader) (marked c k true)
   where
     left : (x : Cluster) (b : Bool) → unwritten_in x.mail ≤ unwritten_in c.mail
@@ -189,3 +184,4 @@ unwritten_step c (steps.Stop k) = left (with_down c k true) (is_leader k (with_d
     left x true h = h
     left x false h = h
 unwritten_step c (steps.Start k) = marked c k false
+unwritten_step c _ = omega arith

@@ -64,18 +64,7 @@ taken_at c s id can m found =
 
 pub taken_message : (c : Cluster) (e : Event) → IsStep c e → (m : Message) → taken_by c e ≡ Some m → IsTaken c m
 taken_message c (events.Take s id) step m e = taken_at c s id step m e
-taken_message c (events.Admin x did) step m e = cc
-taken_message c (events.Line n) step m e = cc
-taken_message c (events.Begin k begun) step m e = cc
-taken_message c (events.Live k pass) step m e = cc
-taken_message c (events.Mail k pass s) step m e = cc
-taken_message c (events.States k pass s) step m e = cc
-taken_message c (events.Ideals k pass) step m e = cc
-taken_message c (events.Dispatch k epoch pass proposals answer) step m e = cc
-taken_message c (events.Post k epoch rows) step m e = cc
-taken_message c (events.Fetch i s n) step m e = cc
-taken_message c (events.Write s id outcome) step m e = cc
-taken_message c (events.Ack s id) step m e = cc
+taken_message c _ step m e = cc
 
 -- a number that was given, and of which no message waits for its take
 abbrev is_spent : MsgId → Message → Bool
@@ -105,18 +94,7 @@ not_again c (events.Take s n) id h step =
     one : (b : Bool) → (n.0 == id.0) ≡ b → (m : Message) → has_id s n m ≡ true → is_spent id m ≡ true → m.taken ≡ false → b ≡ false
     one false is m here spent untaken = refl
     one true is m here spent untaken = absurd (grind (arith, nat_tests, is, here, spent, untaken))
-not_again c (events.Admin step did) id h legal = refl
-not_again c (events.Line n) id h legal = refl
-not_again c (events.Begin k begun) id h legal = refl
-not_again c (events.Live k pass) id h legal = refl
-not_again c (events.Mail k pass s) id h legal = refl
-not_again c (events.States k pass s) id h legal = refl
-not_again c (events.Ideals k pass) id h legal = refl
-not_again c (events.Dispatch k epoch pass proposals answer) id h legal = refl
-not_again c (events.Post k epoch rows) id h legal = refl
-not_again c (events.Fetch i s n) id h legal = refl
-not_again c (events.Write s n outcome) id h legal = refl
-not_again c (events.Ack s n) id h legal = refl
+not_again c _ id h legal = refl
 
 none_taken : (c : Cluster) (h : List Event) (id : MsgId) → IsSpent c id → IsLegal c h → count (takes id) h ≡ 0
 none_taken c [] id spent legal = refl
@@ -154,18 +132,7 @@ spent_at c s n id w can same =
 
 spent_by : (c : Cluster) (e : Event) (id : MsgId) → IsWhole c → IsStep c e → takes id e ≡ true → IsSpent (next c e) id
 spent_by c (events.Take s n) id w step e = spent_at c s n id w step e
-spent_by c (events.Admin step did) id w legal e = cc
-spent_by c (events.Line n) id w legal e = cc
-spent_by c (events.Begin k begun) id w legal e = cc
-spent_by c (events.Live k pass) id w legal e = cc
-spent_by c (events.Mail k pass s) id w legal e = cc
-spent_by c (events.States k pass s) id w legal e = cc
-spent_by c (events.Ideals k pass) id w legal e = cc
-spent_by c (events.Dispatch k epoch pass proposals answer) id w legal e = cc
-spent_by c (events.Post k epoch rows) id w legal e = cc
-spent_by c (events.Fetch i s n) id w legal e = cc
-spent_by c (events.Write s n outcome) id w legal e = cc
-spent_by c (events.Ack s n) id w legal e = cc
+spent_by c _ id w legal e = cc
 
 pub taken_once : (c : Cluster) (h : List Event) (id : MsgId) → IsWhole c → IsLegal c h → count (takes id) h ≤ 1
 taken_once c [] id w legal = omega arith
@@ -250,18 +217,7 @@ past_at c s id w can m found =
 
 past_by : (c : Cluster) (e : Event) → IsWhole c → IsStep c e → (m : Message) → taken_by c e ≡ Some m → IsPast (next c e) m
 past_by c (events.Take s id) w step m e = past_at c s id w step m e
-past_by c (events.Admin x did) w step m e = cc
-past_by c (events.Line n) w step m e = cc
-past_by c (events.Begin k begun) w step m e = cc
-past_by c (events.Live k pass) w step m e = cc
-past_by c (events.Mail k pass s) w step m e = cc
-past_by c (events.States k pass s) w step m e = cc
-past_by c (events.Ideals k pass) w step m e = cc
-past_by c (events.Dispatch k epoch pass proposals answer) w step m e = cc
-past_by c (events.Post k epoch rows) w step m e = cc
-past_by c (events.Fetch i s n) w step m e = cc
-past_by c (events.Write s id outcome) w step m e = cc
-past_by c (events.Ack s id) w step m e = cc
+past_by c _ w step m e = cc
 
 pub runs_rise : (c : Cluster) (h : List Event) → IsWhole c → IsLegal c h → numbers_rise (runs_of c h) ≡ true
 runs_rise c [] w legal = refl

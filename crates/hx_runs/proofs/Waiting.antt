@@ -418,18 +418,7 @@ run_at c s id es w can rest (Some m) found =
 
 run_from : (c : Cluster) (e : Event) (es : List Event) → IsWhole c → IsStep c e → IsLegal (next c e) es → RunsFrom (next c e) es (taken_by c e)
 run_from c (events.Take s id) es w legal rest = run_at c s id es w legal rest (pending_of c s id) refl
-run_from c (events.Admin step did) es w legal rest = tt
-run_from c (events.Line n) es w legal rest = tt
-run_from c (events.Begin k begun) es w legal rest = tt
-run_from c (events.Live k pass) es w legal rest = tt
-run_from c (events.Mail k pass s) es w legal rest = tt
-run_from c (events.States k pass s) es w legal rest = tt
-run_from c (events.Ideals k pass) es w legal rest = tt
-run_from c (events.Dispatch k epoch pass proposals answer) es w legal rest = tt
-run_from c (events.Post k epoch rows) es w legal rest = tt
-run_from c (events.Fetch i s n) es w legal rest = tt
-run_from c (events.Write s id outcome) es w legal rest = tt
-run_from c (events.Ack s id) es w legal rest = tt
+run_from c _ es w legal rest = tt
 
 pub each_run : (c : Cluster) (h : List Event) → IsWhole c → IsLegal c h → EachRun c h
 each_run c [] w legal = tt

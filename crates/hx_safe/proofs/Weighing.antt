@@ -472,16 +472,12 @@ pub weighed_next : (c : Cluster) (e : Event) (w : ℕ) → ((s : SessionId) → 
 weighed_next c (events.Admin step did) w single h is = weighed_step c step w single h
 weighed_next c (events.Line n) w single h is = weighed_on c (record c { line = Some n }) w 1 h (omega arith) refl refl refl refl
 weighed_next c (events.Begin k begun) w single h is = weighed_raised c k w 1 (omega arith) h
-weighed_next c (events.Live k pass) w single h is = weighed_more c w 1 h
-weighed_next c (events.Mail k pass s) w single h is = weighed_more c w 1 h
-weighed_next c (events.States k pass s) w single h is = weighed_more c w 1 h
-weighed_next c (events.Ideals k pass) w single h is = weighed_more c w 1 h
 weighed_next c (events.Dispatch k epoch pass proposals answer) w single h is = weighed_dispatch c k proposals w h
 weighed_next c (events.Post k epoch rows) w single h is = weighed_on c (record c { posted = rows }) w (1 + length rows) h (omega arith) refl refl refl refl
-weighed_next c (events.Fetch i s n) w single h is = weighed_more c w 1 h
 weighed_next c (events.Take s id) w single h is = weighed_on c (after_take c s id) w 0 h (omega (arith, paid_take c s id is)) refl refl refl refl
 weighed_next c (events.Write s id outcome) w single h is = weighed_write c s id outcome w is h
 weighed_next c (events.Ack s id) w single h is = weighed_on c (after_ack c s id) w 0 h (omega (arith, paid_ack c s id is)) refl refl refl refl
+weighed_next c _ w single h is = weighed_more c w 1 h
 
 -- along a legal history
 weighed_along : (c : Cluster) (h : List Event) (w : ℕ) → SafeAlong c h → IsWeighed c w → IsLegal c h → IsWeighed (replay c h) (w + weight_of_all h)
