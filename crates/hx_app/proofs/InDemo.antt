@@ -110,7 +110,6 @@ in_pass c last k d = one (slice_get c.controllers k.0)
 
 -- proposals, of which each leads to a state that has a name
 in_placed : (c : Cluster) (last : Option ℕ) (q : Proposal) (a : Placed) → has_demo_state q.to ≡ true → IsInDemo c last → IsInDemo (after_placed c q a) last
-in_placed c last q _ to d = d
 in_placed c last q (placings.Sent id) to d = record {
   instances = d.instances;
   controllers = d.controllers;
@@ -122,6 +121,7 @@ in_placed c last q (placings.Sent id) to d = record {
   rows = d.rows;
   mail = rw all-append (grind (arith, to, d.mail));
 }
+in_placed c last q _ to d = d
 
 in_proposals : (c : Cluster) (last : Option ℕ) (qs : List Proposal) → list_all is_demo_proposal qs ≡ true → IsInDemo c last → IsInDemo (after_proposals c qs) last
 in_proposals c last [] all d = d

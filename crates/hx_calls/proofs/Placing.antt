@@ -39,7 +39,6 @@ kept : (n : ℕ) (old new : Cluster) → IsGrown n old new → IsGrown (n + 1) o
 kept n old new g = record { same = g.same; mail = g.mail; longer = g.longer; next = omega (arith, g.next); change = omega (arith, g.change) }
 
 grown_placed : (n : ℕ) (old new : Cluster) (q : Proposal) (a : Placed) → IsGrown n old new → IsGrown (n + 1) old (after_placed new q a)
-grown_placed n old new q _ g = kept n old new g
 grown_placed n old new q (placings.Sent id) g = record {
   same = (λ i. let c = g.same i in record c { mail = (after_placed new q (placings.Sent id)).mail; next_msg = new.next_msg + 1; change = new.change + 1 });
   mail = let fits = g.longer in rw take-append-le g.mail;
@@ -47,6 +46,7 @@ grown_placed n old new q (placings.Sent id) g = record {
   next = omega (arith, g.next);
   change = omega (arith, g.change);
 }
+grown_placed n old new q _ g = kept n old new g
 
 pub grown_more : (n : ℕ) (old new : Cluster) (q : Proposal) → IsGrown n old new → IsGrown (n + 1) old (after_proposal new q)
 grown_more n old new q g = grown_placed n old new q (placed_of new q) g
@@ -84,8 +84,8 @@ placed-passes c ds q =
     else next) (idle-passes c ds q (message_of c.mail q.session q.part))
 
 answer-passes : (c : Cluster) (ds : List (Bool × PassNo)) (q : Proposal) (a : Placed) → after_placed (with_controllers c ds) q a ≡ with_controllers (after_placed c q a) ds
-answer-passes c ds q _ = refl
 answer-passes c ds q (placings.Sent id) = refl
+answer-passes c ds q _ = refl
 
 proposal-passes : (c : Cluster) (ds : List (Bool × PassNo)) (q : Proposal) → after_proposal (with_controllers c ds) q ≡ with_controllers (after_proposal c q) ds
 proposal-passes c ds q = ap (after_placed (with_controllers c ds) q) (placed-passes c ds q) ∙ answer-passes c ds q (placed_of c q)

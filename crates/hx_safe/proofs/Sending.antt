@@ -212,8 +212,8 @@ pub kept_proposal : (c : Cluster) (q : Proposal) → IsKept c → has_part c q.p
 kept_proposal c q k part = one (placed_of c q) refl
   where
     one : (a : Placed) → placed_of c q ≡ a → IsKept (after_placed c q a)
-    one _ is = k
     one (placings.Sent id) is = let room = room_from c q id is in kept_sent c q id k part (sent_next c q 0 c.rules id room.throttles) room
+    one _ is = k
 
 -- the law of counts for a proposal
 pub count_proposal : (c : Cluster) (q : Proposal) (p : PartId) (t : StateId) (limit : ℕ) → IsKept c → limit_at c p t ≡ Some limit
@@ -230,8 +230,8 @@ limit-placed c q p t (placings.Sent id) = refl
 limit-placed c q p t _ = refl
 
 proposable-placed : (c : Cluster) (q x : Proposal) (a : Placed) → is_proposable (after_placed c q a) x ≡ is_proposable c x
-proposable-placed c q x _ = refl
 proposable-placed c q x (placings.Sent id) = refl
+proposable-placed c q x _ = refl
 
 proposable-raised : (c : Cluster) (x : Proposal) (k : ControllerId) (o : Option (Bool × PassNo)) → is_proposable (raised_pass c k o) x ≡ is_proposable c x
 proposable-raised c x k None = refl

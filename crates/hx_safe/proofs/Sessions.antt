@@ -191,12 +191,12 @@ seated_stop c k o = one (slice_get c.controllers k.0)
 
 -- proposals
 seated_placed : (c : Cluster) (q : Proposal) (a : Placed) → IsSeated c → IsSeated (after_placed c q a)
-seated_placed c q _ o = o
 seated_placed c q (placings.Sent id) o = record { instances = o.instances; beats = o.beats; leader = one c.leader o.leader }
   where
     one : (l : Option ControllerId) → leader_is_up c l ≡ true → leader_is_up (after_placed c q (placings.Sent id)) l ≡ true
     one None e = refl
     one (Some l) e = e
+seated_placed c q _ o = o
 
 seated_proposals : (c : Cluster) (qs : List Proposal) → IsSeated c → IsSeated (after_proposals c qs)
 seated_proposals c [] o = o

@@ -218,8 +218,8 @@ throttled_proposal : (c : Cluster) (q : Proposal) → IsThrottled c → IsThrott
 throttled_proposal c q old = one (placed_of c q) refl
   where
     one : (a : Placed) → placed_of c q ≡ a → IsThrottled (after_placed c q a)
-    one _ is = old
     one (placings.Sent id) is = throttled_sent c q id (room_from c q id is).throttles old
+    one _ is = old
 
 throttled_proposals : (c : Cluster) (qs : List Proposal) → IsThrottled c → IsThrottled (after_proposals c qs)
 throttled_proposals c [] old = old

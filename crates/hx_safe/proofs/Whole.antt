@@ -136,11 +136,14 @@ whole_next c (events.Line n) w legal = record {
   seated = record { instances = w.seated.instances; beats = w.seated.beats; leader = w.seated.leader };
 }
 whole_next c (events.Begin k begun) w legal = record { kept = kept_raised c k w.kept; throttled = throttled_raised c k w.throttled; seated = seated_raised c k w.seated }
+whole_next c (events.Live k pass) w legal = w
+whole_next c (events.Mail k pass s) w legal = w
+whole_next c (events.States k pass s) w legal = w
+whole_next c (events.Ideals k pass) w legal = w
 whole_next c (events.Dispatch k epoch pass proposals answer) w legal = record {
   kept = kept_dispatch c k proposals w.kept legal.0;
   throttled = throttled_dispatch c k proposals w.throttled;
   seated = seated_dispatch c k proposals w.seated;
-whole_next c _ w legal = w
 }
 whole_next c (events.Post k epoch rows) w legal = record {
   kept = kept_beside c c.instances c.leader c.epoch c.controllers c.clock c.line c.change rows w.kept;
