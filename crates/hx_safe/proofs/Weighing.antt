@@ -139,7 +139,7 @@ paid_without_all c [] e apart = omega arith
 paid_without_all c (s ∷ ss) e apart =
     let one : (without c s).change + owed_of (without c s) ≤ c.change + owed_of c = paid_without c s (grind (arith, e)) in
     let rest : (without_all (without c s) ss).change + owed_of (without_all (without c s) ss) ≤ (without c s).change + owed_of (without c s) =
-        paid_without_all (without c s) ss (live-rest c.live s ss (grind (arith, apart)) (grind (arith, e))) (grind (arith, apart)) in
+    paid_without_all (without c s) ss (live-rest c.live s ss (grind (arith, apart)) (grind (arith, e))) (grind (arith, apart)) in
     omega (arith, one, rest)
 
 -- the expired sessions are live, and each is another one
@@ -341,7 +341,7 @@ weighed_beat c w i None is h = weighed_more c w 1 h
 weighed_beat c w i (Some l) is h =
     let fewer : length (filter (λ x. not (is_session l.session x)) c.live) + 1 ≤ length c.live = length-removed (is_session l.session) c.live (found-live c.live i l is) in
     let push : length (filter (λ x. not (is_session l.session x)) c.live ++ (record l { beat = c.clock }) ∷ []) ≡ length (filter (λ x. not (is_session l.session x)) c.live) + 1 =
-        length-push (filter (λ x. not (is_session l.session x)) c.live) (record l { beat = c.clock }) in
+    length-push (filter (λ x. not (is_session l.session x)) c.live) (record l { beat = c.clock }) in
     weighed_on c (beaten_of c (Some l)) w 1 h (omega (arith, fewer, push)) refl refl refl refl
 
 -- steps that change a resource or a flag
