@@ -176,28 +176,51 @@ weaker : (a b : Bool) → b ≡ true → (a || b) ≡ true
 weaker true b e = refl
 weaker false b e = e
 
+-- what is shown of one session says nothing of another
+none_of_session : {X : Type 0} (of : X → SessionId) (u v : SessionId) (xs : List X) → (u.0 == v.0) ≡ false
+    → list_any (λ x. (of x).0 == v.0) (filter (λ x. (of x).0 == u.0) xs) ≡ false
+none_of_session of u v [] ne = refl
+none_of_session of u v (x ∷ xs) ne = grind (arith, nat_tests, ne, none_of_session of u v xs ne)
+
+-- mail or rows are read: each other call is as unread as it was
+unread_rest : (old new : View) (call : Call) → ((x : Call) → same_call call x ≡ false → is_unread old x ≡ true → is_unread new x ≡ true) → (rest : List Call)
+    → list_any (same_call call) rest ≡ false → list_all (is_unread old) rest ≡ true → list_all (is_unread new) rest ≡ true
+unread_rest old new call each [] ne e = refl
+unread_rest old new call each (x ∷ rest) ne e =
+    and-both (is_unread new x) (list_all (is_unread new) rest) (each x (grind (arith, ne)) (and-first (is_unread old x) (list_all (is_unread old) rest) e))
+    (unread_rest old new call each rest (grind (arith, ne)) (and-second (is_unread old x) (list_all (is_unread old) rest) e))
+
+turn_read : (c : Cluster) (begun : Begun) (view : View) (mail : List Message) (rows : List Row) (call : Call) (rest : List Call) → (is_first Send rest || is_first Post rest) ≡ false
+    → ((x : Call) → same_call call x ≡ false → is_unread view x ≡ true → is_unread (record view { mail = mail; rows = rows }) x ≡ true)
+    → ((s : SessionId) → list_any (same_call (Mail s)) rest ≡ true → list_any (same_call (States s)) rest ≡ true)
+    → is_well_formed c.models (length c.instances) (beside (record view { mail = mail; rows = rows }) c) ≡ true
+    → IsTurn c (record { left = call ∷ rest; begun = begun; view = view }) → IsTurn c (record { left = rest; begun = begun; view = record view { mail = mail; rows = rows } })
+turn_read c begun view mail rows call rest behind each mail_first formed h =
+    let new : View = record view { mail = mail; rows = rows } in
+    record {
+      epoch = h.epoch;
+      order = order_rest call rest h.order;
+      once = rest_once call rest h.once;
+      unread = unread_rest view new call each rest (call_no_more call rest (h.once call)) (and-second (is_unread view call) (list_all (is_unread view) rest) h.unread);
+      nothing = λ e. let both = sym (live_no_more call rest h.order) ∙ e in cc;
+      mail_first = mail_first;
+      below = h.below;
+      own = h.own;
+      well_formed = ap (λ (b : Bool). is_well_formed c.models (length c.instances) (if b then new else beside new c)) behind ∙ formed;
+      resources = λ e. let both = sym behind ∙ e in cc;
+      replicas = λ e. let both = sym behind ∙ e in cc;
+    }
+
+turned : (b : Bool) → not b ≡ true → b ≡ false
+turned true e = cc
+turned false e = refl
+
 -- a session's mail is read
-none_of_session : (u v : SessionId) (mail : List Message) → (u.0 == v.0) ≡ false → list_any (λ m. m.session.0 == v.0) (filter (λ m. m.session.0 == u.0) mail) ≡ false
-none_of_session u v [] ne = refl
-none_of_session u v (m ∷ mail) ne = grind (arith, nat_tests, ne, none_of_session u v mail ne)
-
 unread_mail : (c : Cluster) (view : View) (u : SessionId) (call : Call) → same_call (Mail u) call ≡ false → is_unread view call ≡ true → is_unread (with_mail c u view) call ≡ true
-unread_mail c view u Live ne e = refl
 unread_mail c view u (Mail v) ne e =
-    let none = none_of_session u v c.mail ne in
+    let none = none_of_session (λ (m : Message). m.session) u v c.mail ne in
     grind (arith, e, none, any-append (λ (m : Message). m.session.0 == v.0) view.mail (mail_shown c u))
-unread_mail c view u (States v) ne e = e
-unread_mail c view u Ideals ne e = refl
-unread_mail c view u Send ne e = refl
-unread_mail c view u Post ne e = refl
-
-unread_mails : (c : Cluster) (view : View) (u : SessionId) (rest : List Call) → list_any (same_call (Mail u)) rest ≡ false → list_all (is_unread view) rest ≡ true
-    → list_all (is_unread (with_mail c u view)) rest ≡ true
-unread_mails c view u [] ne e = refl
-unread_mails c view u (x ∷ rest) ne e =
-    and-both (is_unread (with_mail c u view) x) (list_all (is_unread (with_mail c u view)) rest)
-    (unread_mail c view u x (grind (arith, ne)) (and-first (is_unread view x) (list_all (is_unread view) rest) e))
-    (unread_mails c view u rest (grind (arith, ne)) (and-second (is_unread view x) (list_all (is_unread view) rest) e))
+unread_mail c view u _ ne e = e
 
 pub turn_mail : (c : Cluster) (begun : Begun) (view : View) (u : SessionId) (rest : List Call) → list_all has_no_fault c.models ≡ true → HasMail c
     → IsTurn c (record { left = Mail u ∷ rest; begun = begun; view = view }) → IsTurn c (record { left = rest; begun = begun; view = with_mail c u view })
@@ -205,48 +228,15 @@ turn_mail c begun view u rest sound mail h =
     let first : is_unread view (Mail u) ≡ true = and-first (is_unread view (Mail u)) (list_all (is_unread view) rest) h.unread in
     let shown : is_shown view.live u ≡ true = and-first (is_shown view.live u) (not (list_any (λ m. m.session.0 == u.0) view.mail)) first in
     let none : list_any (λ m. m.session.0 == u.0) view.mail ≡ false = turned (list_any (λ m. m.session.0 == u.0) view.mail) (and-second (is_shown view.live u) (not (list_any (λ m. m.session.0 == u.0) view.mail)) first) in
-    let behind : (is_first Send rest || is_first Post rest) ≡ false = unread_behind (Mail u) rest h.order u (grind (arith, same-self u.0)) in
-    record {
-      epoch = h.epoch;
-      order = order_rest (Mail u) rest h.order;
-      once = rest_once (Mail u) rest h.once;
-      unread = unread_mails c view u rest (call_no_more (Mail u) rest (h.once (Mail u))) (and-second (is_unread view (Mail u)) (list_all (is_unread view) rest) h.unread);
-      nothing = λ e. let both = sym (live_no_more (Mail u) rest h.order) ∙ e in cc;
-      mail_first = λ s e. h.mail_first s (weaker (same_call (Mail s) (Mail u)) (list_any (same_call (Mail s)) rest) e);
-      below = h.below;
-      own = h.own;
-      well_formed = ap (λ (b : Bool). is_well_formed c.models (length c.instances) (if b then with_mail c u view else beside (with_mail c u view) c)) behind
-          ∙ formed_mail c view u sound mail shown none h.well_formed;
-      resources = λ e. let both = sym behind ∙ e in cc;
-      replicas = λ e. let both = sym behind ∙ e in cc;
-    }
-  where
-    turned : (b : Bool) → not b ≡ true → b ≡ false
-    turned true e = cc
-    turned false e = refl
+    turn_read c begun view (view.mail ++ mail_shown c u) view.rows (Mail u) rest (unread_behind (Mail u) rest h.order u (grind (arith, same-self u.0))) (unread_mail c view u)
+    (λ s e. h.mail_first s (weaker (same_call (Mail s) (Mail u)) (list_any (same_call (Mail s)) rest) e)) (formed_mail c view u sound mail shown none h.well_formed) h
 
 -- a session's states are read
-no_row_of_session : (u v : SessionId) (rows : List Row) → (u.0 == v.0) ≡ false → list_any (λ r. r.session.0 == v.0) (filter (λ r. r.session.0 == u.0) rows) ≡ false
-no_row_of_session u v [] ne = refl
-no_row_of_session u v (r ∷ rows) ne = grind (arith, nat_tests, ne, no_row_of_session u v rows ne)
-
-unread_state : (c : Cluster) (view : View) (u : SessionId) (call : Call) → same_call (States u) call ≡ false → is_unread view call ≡ true → is_unread (with_states c u view) call ≡ true
-unread_state c view u Live ne e = refl
-unread_state c view u (Mail v) ne e = e
-unread_state c view u (States v) ne e =
-    let none = no_row_of_session u v c.rows ne in
+unread_states : (c : Cluster) (view : View) (u : SessionId) (call : Call) → same_call (States u) call ≡ false → is_unread view call ≡ true → is_unread (with_states c u view) call ≡ true
+unread_states c view u (States v) ne e =
+    let none = none_of_session (λ (r : Row). r.session) u v c.rows ne in
     grind (arith, e, none, any-append (λ (r : Row). r.session.0 == v.0) view.rows (states_shown c u))
-unread_state c view u Ideals ne e = refl
-unread_state c view u Send ne e = refl
-unread_state c view u Post ne e = refl
-
-unread_states : (c : Cluster) (view : View) (u : SessionId) (rest : List Call) → list_any (same_call (States u)) rest ≡ false → list_all (is_unread view) rest ≡ true
-    → list_all (is_unread (with_states c u view)) rest ≡ true
-unread_states c view u [] ne e = refl
-unread_states c view u (x ∷ rest) ne e =
-    and-both (is_unread (with_states c u view) x) (list_all (is_unread (with_states c u view)) rest)
-    (unread_state c view u x (grind (arith, ne)) (and-first (is_unread view x) (list_all (is_unread view) rest) e))
-    (unread_states c view u rest (grind (arith, ne)) (and-second (is_unread view x) (list_all (is_unread view) rest) e))
+unread_states c view u _ ne e = e
 
 pub turn_states : (c : Cluster) (begun : Begun) (view : View) (u : SessionId) (rest : List Call) → HasRows c
     → IsTurn c (record { left = States u ∷ rest; begun = begun; view = view }) → IsTurn c (record { left = rest; begun = begun; view = with_states c u view })
@@ -254,25 +244,8 @@ turn_states c begun view u rest rows h =
     let first : is_unread view (States u) ≡ true = and-first (is_unread view (States u)) (list_all (is_unread view) rest) h.unread in
     let shown : is_shown view.live u ≡ true = and-first (is_shown view.live u) (not (list_any (λ r. r.session.0 == u.0) view.rows)) first in
     let none : list_any (λ r. r.session.0 == u.0) view.rows ≡ false = turned (list_any (λ r. r.session.0 == u.0) view.rows) (and-second (is_shown view.live u) (not (list_any (λ r. r.session.0 == u.0) view.rows)) first) in
-    let behind : (is_first Send rest || is_first Post rest) ≡ false = unread_behind (States u) rest h.order u (grind (arith, same-self u.0)) in
-    record {
-      epoch = h.epoch;
-      order = order_rest (States u) rest h.order;
-      once = rest_once (States u) rest h.once;
-      unread = unread_states c view u rest (call_no_more (States u) rest (h.once (States u))) (and-second (is_unread view (States u)) (list_all (is_unread view) rest) h.unread);
-      nothing = λ e. let both = sym (live_no_more (States u) rest h.order) ∙ e in cc;
-      mail_first = λ s e. let both = sym (no_mail_behind (States u) rest s h.order refl) ∙ e in cc;
-      below = h.below;
-      own = h.own;
-      well_formed = ap (λ (b : Bool). is_well_formed c.models (length c.instances) (if b then with_states c u view else beside (with_states c u view) c)) behind
-          ∙ formed_states c view u rows shown none h.well_formed;
-      resources = λ e. let both = sym behind ∙ e in cc;
-      replicas = λ e. let both = sym behind ∙ e in cc;
-    }
-  where
-    turned : (b : Bool) → not b ≡ true → b ≡ false
-    turned true e = cc
-    turned false e = refl
+    turn_read c begun view view.mail (view.rows ++ states_shown c u) (States u) rest (unread_behind (States u) rest h.order u (grind (arith, same-self u.0))) (unread_states c view u)
+    (λ s e. let both = sym (no_mail_behind (States u) rest s h.order refl) ∙ e in cc) (formed_states c view u rows shown none h.well_formed) h
 
 -- the ideals are read
 either_way : (c : Cluster) (view : View) (b : Bool) → is_well_formed c.models (length c.instances) (beside view c) ≡ true
