@@ -10,10 +10,11 @@ use Rattle.hx_ids.specs.declared.Live.{Live as LiveSession}
 use Rattle.hx_cluster.specs.declared.state.Message.{Message}
 use Rattle.hx_cluster.specs.declared.state.Row.{Row}
 use Rattle.hx_cluster.specs.declared.state.Cluster.{Cluster}
+use Rattle.hx_cluster.specs.declared.planning.Ideals.{Ideals as IdealsShown}
 use Rattle.hx_cluster.specs.declared.planning.View.{View}
 use Rattle.hx_cluster.specs.declared.happenings.Begun.{Begun}
 use Rattle.hx_cluster.specs.Ends.{is_live, is_shown, shown_of, instance_in}
-use Rattle.hx_cluster.specs.Reads.{instance_before, live_shown, mail_shown, states_shown, nothing_shown}
+use Rattle.hx_cluster.specs.Reads.{instance_before, live_shown, mail_shown, states_shown, ideals_shown, nothing_shown}
 use Rattle.hx_cluster.specs.Safe.{HasMail, HasRows, HasSessions}
 use Rattle.hx_cluster.specs.Valid.{has_no_fault}
 use Rattle.hx_cluster.specs.Ranged.{IsRanged}
@@ -22,8 +23,8 @@ use Rattle.hx_pass.specs.Turns.{Call, Live, Mail, States, Ideals, Send, Post, Tu
 use Rattle.hx_safe.proofs.Counting.{and-first, and-second, and-both, any-append, all-append, all-le, all-map}
 use Rattle.hx_safe.proofs.Ends.{same-self}
 use Rattle.hx_safe.proofs.Fixed.{IsFixed}
-use Rattle.hx_runs.specs.Onward.{is_same_kind, has_same_replicas, IsOn}
-use Rattle.hx_covers.specs.Reading.{may_follow, is_in_order_from, is_in_order, is_unread, is_read, IsTurn}
+use Rattle.hx_runs.specs.Onward.{is_front, is_same_kind, has_same_replicas, IsOn}
+use Rattle.hx_covers.specs.Reading.{may_follow, is_in_order_from, is_in_order, is_unread, is_read, view_with, IsTurn}
 use Rattle.hx_runs.proofs.Fronts.{front-self, front-both, kind-self, kind-both, replicas-self, replicas-both}
 use Rattle.hx_covers.proofs.Calls.{both_left, no_mail_behind, order_rest, live_no_more, calls_in_order, calls_once, call_no_more}
 use Rattle.hx_covers.proofs.Sorting.{all-sort}
@@ -81,19 +82,21 @@ turn_idle c ranged = record {
 }
 
 pub turn_begun : (c : Cluster) (begun : Begun) → begun.epoch.0 ≤ c.epoch.0 → IsRanged c → IsTurn c (begun_turn begun)
-turn_begun c begun epoch ranged = record {
-  epoch = epoch;
-  order = refl;
-  once = once;
-  unread = refl;
-  nothing = λ e. refl;
-  mail_first = λ s e. cc;
-  below = refl;
-  own = λ s live shown. cc;
-  well_formed = formed_nothing c ranged;
-  resources = λ e. refl;
-  replicas = λ e. refl;
-}
+turn_begun c begun epoch ranged =
+    let idle = turn_idle c ranged in
+    record {
+      epoch = epoch;
+      order = refl;
+      once = once;
+      unread = refl;
+      nothing = λ e. refl;
+      mail_first = λ s e. cc;
+      below = idle.below;
+      own = idle.own;
+      well_formed = idle.well_formed;
+      resources = λ e. refl;
+      replicas = λ e. refl;
+    }
   where
     once : (call : Call) → count (same_call call) (Live ∷ []) ≤ 1
     once Live = omega arith
@@ -159,18 +162,12 @@ unread_behind a (b ∷ rest) order s is = one a b (and-first (may_follow a b) (i
     one a (Mail t) e is = refl
     one a (States t) e is = refl
     one a Ideals e is = refl
-    one Live Send e is = cc
-    one (Mail t) Send e is = cc
-    one (States t) Send e is = cc
-    one Ideals Send e is = cc
-    one Send Send e is = cc
-    one Post Send e is = cc
-    one Live Post e is = cc
-    one (Mail t) Post e is = cc
-    one (States t) Post e is = cc
-    one Ideals Post e is = cc
-    one Send Post e is = cc
-    one Post Post e is = cc
+    one Live _ e is = cc
+    one (Mail t) _ e is = cc
+    one (States t) _ e is = cc
+    one Ideals _ e is = cc
+    one Send _ e is = cc
+    one Post _ e is = cc
 
 weaker : (a b : Bool) → b ≡ true → (a || b) ≡ true
 weaker true b e = refl
@@ -182,7 +179,7 @@ none_of_session : {X : Type 0} (of : X → SessionId) (u v : SessionId) (xs : Li
 none_of_session of u v [] ne = refl
 none_of_session of u v (x ∷ xs) ne = grind (arith, nat_tests, ne, none_of_session of u v xs ne)
 
--- mail or rows are read: each other call is as unread as it was
+-- each other call is as unread as it was
 unread_rest : (old new : View) (call : Call) → ((x : Call) → same_call call x ≡ false → is_unread old x ≡ true → is_unread new x ≡ true) → (rest : List Call)
     → list_any (same_call call) rest ≡ false → list_all (is_unread old) rest ≡ true → list_all (is_unread new) rest ≡ true
 unread_rest old new call each [] ne e = refl
@@ -190,6 +187,30 @@ unread_rest old new call each (x ∷ rest) ne e =
     and-both (is_unread new x) (list_all (is_unread new) rest) (each x (grind (arith, ne)) (and-first (is_unread old x) (list_all (is_unread old) rest) e))
     (unread_rest old new call each rest (grind (arith, ne)) (and-second (is_unread old x) (list_all (is_unread old) rest) e))
 
+-- a call is made: what was shown with it is known, and what was behind it is left
+turn_rest : (c : Cluster) (begun : Begun) (view : View) (mail : List Message) (rows : List Row) (ideals : IdealsShown) (call : Call) (rest : List Call)
+    → list_all (is_unread (record view { mail = mail; rows = rows; ideals = ideals })) rest ≡ true
+    → ((s : SessionId) → list_any (same_call (Mail s)) rest ≡ true → list_any (same_call (States s)) rest ≡ true)
+    → is_well_formed c.models (length c.instances) (view_with c (record { left = rest; begun = begun; view = record view { mail = mail; rows = rows; ideals = ideals } })) ≡ true
+    → ((is_first Send rest || is_first Post rest) ≡ true → is_front is_same_kind ideals.resources c.resources ≡ true)
+    → ((is_first Send rest || is_first Post rest) ≡ true → is_front has_same_replicas ideals.resources c.resources ≡ true)
+    → IsTurn c (record { left = call ∷ rest; begun = begun; view = view })
+    → IsTurn c (record { left = rest; begun = begun; view = record view { mail = mail; rows = rows; ideals = ideals } })
+turn_rest c begun view mail rows ideals call rest unread mail_first formed resources replicas h = record {
+  epoch = h.epoch;
+  order = order_rest call rest h.order;
+  once = rest_once call rest h.once;
+  unread = unread;
+  nothing = λ e. let both = sym (live_no_more call rest h.order) ∙ e in cc;
+  mail_first = mail_first;
+  below = h.below;
+  own = h.own;
+  well_formed = formed;
+  resources = resources;
+  replicas = replicas;
+}
+
+-- mail or rows are read
 turn_read : (c : Cluster) (begun : Begun) (view : View) (mail : List Message) (rows : List Row) (call : Call) (rest : List Call) → (is_first Send rest || is_first Post rest) ≡ false
     → ((x : Call) → same_call call x ≡ false → is_unread view x ≡ true → is_unread (record view { mail = mail; rows = rows }) x ≡ true)
     → ((s : SessionId) → list_any (same_call (Mail s)) rest ≡ true → list_any (same_call (States s)) rest ≡ true)
@@ -197,19 +218,10 @@ turn_read : (c : Cluster) (begun : Begun) (view : View) (mail : List Message) (r
     → IsTurn c (record { left = call ∷ rest; begun = begun; view = view }) → IsTurn c (record { left = rest; begun = begun; view = record view { mail = mail; rows = rows } })
 turn_read c begun view mail rows call rest behind each mail_first formed h =
     let new : View = record view { mail = mail; rows = rows } in
-    record {
-      epoch = h.epoch;
-      order = order_rest call rest h.order;
-      once = rest_once call rest h.once;
-      unread = unread_rest view new call each rest (call_no_more call rest (h.once call)) (and-second (is_unread view call) (list_all (is_unread view) rest) h.unread);
-      nothing = λ e. let both = sym (live_no_more call rest h.order) ∙ e in cc;
-      mail_first = mail_first;
-      below = h.below;
-      own = h.own;
-      well_formed = ap (λ (b : Bool). is_well_formed c.models (length c.instances) (if b then new else beside new c)) behind ∙ formed;
-      resources = λ e. let both = sym behind ∙ e in cc;
-      replicas = λ e. let both = sym behind ∙ e in cc;
-    }
+    turn_rest c begun view mail rows view.ideals call rest
+    (unread_rest view new call each rest (call_no_more call rest (h.once call)) (and-second (is_unread view call) (list_all (is_unread view) rest) h.unread)) mail_first
+    (ap (λ (b : Bool). is_well_formed c.models (length c.instances) (if b then new else beside new c)) behind ∙ formed)
+    (λ e. let both = sym behind ∙ e in cc) (λ e. let both = sym behind ∙ e in cc) h
 
 turned : (b : Bool) → not b ≡ true → b ≡ false
 turned true e = cc
@@ -255,42 +267,19 @@ either_way c view false e = e
 
 pub turn_ideals : (c : Cluster) (begun : Begun) (view : View) (rest : List Call) → IsTurn c (record { left = Ideals ∷ rest; begun = begun; view = view })
     → IsTurn c (record { left = rest; begun = begun; view = beside view c })
-turn_ideals c begun view rest h = record {
-  epoch = h.epoch;
-  order = order_rest Ideals rest h.order;
-  once = rest_once Ideals rest h.once;
-  unread = h.unread;
-  nothing = λ e. let both = sym (live_no_more Ideals rest h.order) ∙ e in cc;
-  mail_first = λ s e. let both = sym (no_mail_behind Ideals rest s h.order refl) ∙ e in cc;
-  below = h.below;
-  own = h.own;
-  well_formed = either_way c view (is_first Send rest || is_first Post rest) h.well_formed;
-  resources = λ e. front-self is_same_kind kind-self c.resources;
-  replicas = λ e. front-self has_same_replicas replicas-self c.resources;
-}
+turn_ideals c begun view rest h =
+    turn_rest c begun view view.mail view.rows (ideals_shown c) Ideals rest h.unread (λ s e. let both = sym (no_mail_behind Ideals rest s h.order refl) ∙ e in cc)
+    (either_way c view (is_first Send rest || is_first Post rest) h.well_formed)
+    (λ e. front-self is_same_kind kind-self c.resources) (λ e. front-self has_same_replicas replicas-self c.resources) h
 
 -- the proposals are sent
 post_behind : (rest : List Call) → is_in_order (Send ∷ rest) ≡ true → (is_first Send rest || is_first Post rest) ≡ true
-post_behind [] e = cc
-post_behind (Live ∷ rest) e = cc
-post_behind (Mail s ∷ rest) e = cc
-post_behind (States s ∷ rest) e = cc
-post_behind (Ideals ∷ rest) e = cc
-post_behind (Send ∷ rest) e = cc
 post_behind (Post ∷ rest) e = refl
+post_behind _ e = cc
 
 pub turn_send : (c : Cluster) (begun : Begun) (view : View) (rest : List Call) → IsTurn c (record { left = Send ∷ rest; begun = begun; view = view })
     → IsTurn c (record { left = rest; begun = begun; view = view })
-turn_send c begun view rest h = record {
-  epoch = h.epoch;
-  order = order_rest Send rest h.order;
-  once = rest_once Send rest h.once;
-  unread = h.unread;
-  nothing = λ e. let both = sym (live_no_more Send rest h.order) ∙ e in cc;
-  mail_first = λ s e. let both = sym (no_mail_behind Send rest s h.order refl) ∙ e in cc;
-  below = h.below;
-  own = h.own;
-  well_formed = ap (λ (b : Bool). is_well_formed c.models (length c.instances) (if b then view else beside view c)) (post_behind rest h.order) ∙ h.well_formed;
-  resources = λ e. h.resources refl;
-  replicas = λ e. h.replicas refl;
-}
+turn_send c begun view rest h =
+    turn_rest c begun view view.mail view.rows view.ideals Send rest h.unread (λ s e. let both = sym (no_mail_behind Send rest s h.order refl) ∙ e in cc)
+    (ap (λ (b : Bool). is_well_formed c.models (length c.instances) (if b then view else beside view c)) (post_behind rest h.order) ∙ h.well_formed)
+    (λ e. h.resources refl) (λ e. h.replicas refl) h

@@ -188,8 +188,7 @@ wrong_session_spec = record bare {
       ∷ own_model 2 ((9, bounds.Free) ∷ (4, bounds.Count 1) ∷ (3, bounds.Free) ∷ (2, bounds.Free)
       ∷ []) ((4, 2) ∷ (2, 1) ∷ (9, 4) ∷ (2, 3) ∷ (9, 3) ∷ (9, 2) ∷ (3, 2) ∷ (3, 9) ∷ (4, 3)
       ∷ (2, 9) ∷ (3, 4) ∷ (4, 9) ∷ (2, 4) ∷ []) ∷ [];
-  rules = rule scopes.Cluster None 2
-      ∷ rule scopes.Instance None 3
+  rules = rule scopes.Cluster None 2 ∷ rule scopes.Instance None 3
       ∷ rule scopes.Cluster None 3 ∷ [];
   resources = by_maps 0 4 4 (((1, 4) ∷ (3, 2) ∷ (0, 4) ∷ []) ∷ [])
       ∷ by_maps 1 4 1 (((4, 9) ∷ (2, 2) ∷ []) ∷ ((2, 2) ∷ (4, 9) ∷ (0, 9) ∷ (3, 9) ∷ (1, 2) ∷ [])
@@ -240,10 +239,8 @@ one_instance_spec = record bare {
   models = built_in ++ own_model 5 ((5, bounds.Free) ∷ []) ((5, 1) ∷ [])
       ∷ own_model 3 ((3, bounds.Free) ∷ []) ((3, 1) ∷ []) ∷ [];
   controllers = 3;
-  rules = rule scopes.Cluster None 1
-      ∷ rule scopes.Cluster None 2 ∷ [];
-  resources = by_maps 0 1 1 ([] ∷ [] ∷ [])
-      ∷ by_maps 1 2 2 (((0, 7) ∷ []) ∷ []) ∷ [];
+  rules = rule scopes.Cluster None 1 ∷ rule scopes.Cluster None 2 ∷ [];
+  resources = by_maps 0 1 1 ([] ∷ [] ∷ []) ∷ by_maps 1 2 2 (((0, 7) ∷ []) ∷ []) ∷ [];
 }
 
 pub one_instance : output one_instance_spec (

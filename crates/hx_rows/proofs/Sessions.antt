@@ -101,13 +101,11 @@ ended_before_dispatch_spec = record bare {
       ∷ []) ((9, 3) ∷ (3, 2) ∷ (4, 2) ∷ (9, 2) ∷ (2, 9) ∷ (2, 4) ∷ (3, 1) ∷ (3, 9) ∷ (4, 9)
       ∷ (4, 3) ∷ []) ∷ [];
   controllers = 1;
-  rules = rule scopes.Instance None 1
-      ∷ rule scopes.Instance (Some (7, 6)) 3
+  rules = rule scopes.Instance None 1 ∷ rule scopes.Instance (Some (7, 6)) 3
       ∷ rule scopes.Instance (Some (9, 1)) 2 ∷ [];
   resources = by_maps 0 2 4 (((0, 4) ∷ (2, 4) ∷ (1, 7) ∷ (4, 6) ∷ []) ∷ ((3, 7) ∷ (2, 4) ∷ (4, 4)
       ∷ []) ∷ ((0, 6) ∷ (1, 6) ∷ (2, 6) ∷ (3, 6) ∷ []) ∷ [])
-      ∷ by_maps 1 2 1 ([] ∷ ((0, 6) ∷ (3, 7) ∷ (2, 4) ∷ []) ∷ [])
-      ∷ taken_in_turn 2 3 2 3 ∷ [];
+      ∷ by_maps 1 2 1 ([] ∷ ((0, 6) ∷ (3, 7) ∷ (2, 4) ∷ []) ∷ []) ∷ taken_in_turn 2 3 2 3 ∷ [];
 }
 
 pub ended_before_dispatch : output ended_before_dispatch_spec (
@@ -211,11 +209,8 @@ expiries_and_repeats_spec = record bare {
       ∷ own_model 8 ((8, bounds.Free) ∷ (9, bounds.Free) ∷ []) ((8, 9) ∷ (9, 8) ∷ (8, 1) ∷ []) ∷ [];
   controllers = 1;
   timeout = 13;
-  resources = taken_in_turn 0 2 4 3
-      ∷ taken_in_turn 1 3 4 1 ∷ [];
-  failures = failed_run 0 0 1 3
-      ∷ failed_make 1 0 0 3
-      ∷ failed_make 1 0 1 3 ∷ [];
+  resources = taken_in_turn 0 2 4 3 ∷ taken_in_turn 1 3 4 1 ∷ [];
+  failures = failed_run 0 0 1 3 ∷ failed_make 1 0 0 3 ∷ failed_make 1 0 1 3 ∷ [];
 }
 
 pub expiries_and_repeats : output expiries_and_repeats_spec (

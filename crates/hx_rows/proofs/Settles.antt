@@ -214,8 +214,7 @@ throttled_settle_spec = record bare {
       ∷ (5, bounds.Free) ∷ []) ((8, 3) ∷ (2, 8) ∷ (8, 5) ∷ (5, 3) ∷ (3, 5) ∷ (3, 2) ∷ (2, 3)
       ∷ (5, 1) ∷ []) ∷ [];
   controllers = 3;
-  rules = rule scopes.Cluster None 1
-      ∷ rule scopes.Resource None 3
+  rules = rule scopes.Cluster None 1 ∷ rule scopes.Resource None 3
       ∷ rule scopes.Cluster None 3 ∷ [];
   resources = by_lists 0 0 1 ((2 ∷ 1 ∷ 0 ∷ []) ∷ (1 ∷ 2 ∷ []) ∷ [])
       ∷ by_maps 1 0 4 (((0, 2) ∷ []) ∷ []) ∷ [];
@@ -262,12 +261,9 @@ failed_settle_spec = record bare {
       ∷ (8, 9) ∷ (9, 5) ∷ []) ∷ [];
   timeout = 10;
   rules = rule scopes.Resource (Some (5, 5)) 2 ∷ [];
-  resources = taken_in_turn 0 0 3 2
-      ∷ by_lists 1 1 1 ((2 ∷ 0 ∷ 1 ∷ 4 ∷ 3 ∷ []) ∷ [])
+  resources = taken_in_turn 0 0 3 2 ∷ by_lists 1 1 1 ((2 ∷ 0 ∷ 1 ∷ 4 ∷ 3 ∷ []) ∷ [])
       ∷ by_lists 2 1 3 ((3 ∷ 2 ∷ 1 ∷ 4 ∷ 0 ∷ []) ∷ [] ∷ (0 ∷ []) ∷ []) ∷ [];
-  failures = failed_run 0 1 0 2
-      ∷ failed_make 0 2 1 3
-      ∷ failed_run 1 0 1 1
+  failures = failed_run 0 1 0 2 ∷ failed_make 0 2 1 3 ∷ failed_run 1 0 1 1
       ∷ failed_run 4 1 0 1 ∷ [];
 }
 

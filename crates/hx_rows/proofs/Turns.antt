@@ -74,10 +74,11 @@ pub passes : output two_wanted (
     ++ codes "? c1 sent 2\npost c1 e1 0\n"
     ++ codes "line 5\nfetch n1 s1 1\ntake s1 m1\nwrite s1 m1 ok\nack s1 m1\n"
     ++ codes "line 6\nfetch n2 s2 1\ntake s2 m2\nwrite s2 m2 ok\nack s2 m2\n"
-    ++ codes "line 7\n" ++ pass_of_two (codes "p3")
+    ++ codes "line 7\n"
+    ++ pass_of_two (codes "p3")
     ++ codes "  sent m3 s1 db#0/0 SLAVE>MASTER\n? c1 sent 1\npost c1 e1 2\n"
-    ++ codes "line 8\nfetch n1 s1 1\ntake s1 m3\nwrite s1 m3 ok\nack s1 m3\n"
-    ++ codes "line 9\n" ++ pass_of_two (codes "p5")
+    ++ codes "line 8\nfetch n1 s1 1\ntake s1 m3\nwrite s1 m3 ok\nack s1 m3\nline 9\n"
+    ++ pass_of_two (codes "p5")
     ++ codes "? c1 settled\n? full n2 db#0/0 SLAVE>MASTER 1 of 1 n1\npost c1 e1 2\n"
     ++ codes "= db#0/0 n1:MASTER n2:SLAVE\n"
 unfolding digits
@@ -167,8 +168,7 @@ torn_turns_spec = record bare {
       ∷ (4, bounds.Live) ∷ []) ((2, 8) ∷ (4, 8) ∷ (8, 2) ∷ (3, 4) ∷ (8, 3) ∷ (2, 4) ∷ (3, 2)
       ∷ (8, 1) ∷ (4, 3) ∷ []) ∷ [];
   timeout = 26;
-  resources = taken_in_turn 0 2 4 1
-      ∷ taken_in_turn 1 1 4 2 ∷ [];
+  resources = taken_in_turn 0 2 4 1 ∷ taken_in_turn 1 1 4 2 ∷ [];
 }
 
 pub torn_turns : output torn_turns_spec (
@@ -289,13 +289,10 @@ fenced_and_failed_spec = record bare {
       ∷ own_model 10 ((10, bounds.Free) ∷ (8, bounds.Count 1) ∷ []) ((8, 10) ∷ (10, 1) ∷ (10, 8)
       ∷ []) ∷ [];
   controllers = 1;
-  rules = rule scopes.Instance None 2
-      ∷ rule scopes.Instance (Some (4, 4)) 3
+  rules = rule scopes.Instance None 2 ∷ rule scopes.Instance (Some (4, 4)) 3
       ∷ rule scopes.Resource None 1 ∷ [];
   resources = taken_in_turn 0 2 3 2 ∷ [];
-  failures = failed_make 1 0 1 4
-      ∷ failed_make 1 0 1 3
-      ∷ failed_run 1 0 1 3
+  failures = failed_make 1 0 1 4 ∷ failed_make 1 0 1 3 ∷ failed_run 1 0 1 3
       ∷ failed_make 0 0 0 1 ∷ [];
 }
 
@@ -395,12 +392,9 @@ pub written_not_acknowledged : output one_list (
     ++ codes "  sent m5 s1 db#0/0 MASTER>SLAVE\n? c1 sent 1\npost c1 e1 3\n"
     ++ codes "line 8\nfetch n1 s1 1\n"
     ++ codes "line 9\n? n1 accept m5\n"
-    ++ codes "line 10\ntake s1 m5\n"
-    ++ codes "line 11\nwrite s1 m5 ok\n"
+    ++ codes "line 10\ntake s1 m5\nline 11\nwrite s1 m5 ok\n"
     ++ codes "line 12\n" ++ pass_of_three (codes "p9")
-    ++ codes "? c1 waiting 1\npost c1 e1 3\n"
-    ++ codes "line 13\nack s1 m5\n"
-    ++ codes "line 14\n" ++ pass_of_three (codes "p11")
+    ++ codes "? c1 waiting 1\npost c1 e1 3\nline 13\nack s1 m5\nline 14\n" ++ pass_of_three (codes "p11")
     ++ codes "  sent m6 s2 db#0/0 SLAVE>MASTER\n? c1 sent 1\npost c1 e1 3\n"
     ++ codes "= db#0/0 n1:SLAVE n2:SLAVE n3:SLAVE\n"
 unfolding digits

@@ -279,13 +279,13 @@ stands_until c (e ∷ es) m w legal wait = (
 )
 
 -- a message that is sent waits
-next_session_placed : (c : Cluster) (q : Proposal) (a : Placed) → (after_placed c q a).next_session ≡ c.next_session
-next_session_placed c q (placings.Sent id) = refl
-next_session_placed c q _ = refl
-
 next_session_proposals : (c : Cluster) (qs : List Proposal) → (after_proposals c qs).next_session ≡ c.next_session
 next_session_proposals c [] = refl
-next_session_proposals c (q ∷ qs) = next_session_proposals (after_proposal c q) qs ∙ next_session_placed c q (placed_of c q)
+next_session_proposals c (q ∷ qs) = next_session_proposals (after_proposal c q) qs ∙ one (placed_of c q)
+  where
+    one : (a : Placed) → (after_placed c q a).next_session ≡ c.next_session
+    one (placings.Sent id) = refl
+    one _ = refl
 
 abbrev are_below : Cluster → Bool
 are_below c = list_all (λ l. nat_lt l.session.0 c.next_session) c.live
