@@ -1,5 +1,5 @@
 -- A controller's turn keeps its shape along every legal history, and what it was shown is well formed.
-use Rattle.std.proofs.Common.{◌≡◌, ℕ, ◌≤◌, ◌||◌, ◌==◌, not, Bool, true, false, List, [], ◌∷◌, ◌++◌, length, filter, map, refl, sym, ap, ◌∙◌, arith}
+use Rattle.std.proofs.Common.{◌≡◌, ℕ, ◌≤◌, ◌||◌, ◌==◌, not, Bool, true, false, List, [], ◌∷◌, ◌++◌, length, filter, map, refl, sym, ap, ◌∙◌, arith, ◌&&◌}
 use Rattle.std.specs.Prelude.{if◌then◌else◌, nat_lt}
 use Rattle.std.specs.List.{list_any, list_all}
 use Rattle.std.proofs.lemmas.Bool.Decides.{nat_tests}
@@ -223,9 +223,10 @@ turn_read c begun view mail rows call rest behind each mail_first formed h =
     (ap (λ (b : Bool). is_well_formed c.models (length c.instances) (if b then new else beside new c)) behind ∙ formed)
     (λ e. let both = sym behind ∙ e in cc) (λ e. let both = sym behind ∙ e in cc) h
 
-turned : (b : Bool) → not b ≡ true → b ≡ false
-turned true e = cc
-turned false e = refl
+both_parts : (a b : Bool) → (a && not b) ≡ true → (a ≡ true) × (b ≡ false)
+both_parts true false e = (refl, refl)
+both_parts true true e = cc
+both_parts false b e = cc
 
 -- a session's mail is read
 unread_mail : (c : Cluster) (view : View) (u : SessionId) (call : Call) → same_call (Mail u) call ≡ false → is_unread view call ≡ true → is_unread (with_mail c u view) call ≡ true
@@ -237,11 +238,9 @@ unread_mail c view u _ ne e = e
 pub turn_mail : (c : Cluster) (begun : Begun) (view : View) (u : SessionId) (rest : List Call) → list_all has_no_fault c.models ≡ true → HasMail c
     → IsTurn c (record { left = Mail u ∷ rest; begun = begun; view = view }) → IsTurn c (record { left = rest; begun = begun; view = with_mail c u view })
 turn_mail c begun view u rest sound mail h =
-    let first : is_unread view (Mail u) ≡ true = and-first (is_unread view (Mail u)) (list_all (is_unread view) rest) h.unread in
-    let shown : is_shown view.live u ≡ true = and-first (is_shown view.live u) (not (list_any (λ m. m.session.0 == u.0) view.mail)) first in
-    let none : list_any (λ m. m.session.0 == u.0) view.mail ≡ false = turned (list_any (λ m. m.session.0 == u.0) view.mail) (and-second (is_shown view.live u) (not (list_any (λ m. m.session.0 == u.0) view.mail)) first) in
+    let new = both_parts (is_shown view.live u) (list_any (λ m. m.session.0 == u.0) view.mail) (and-first (is_unread view (Mail u)) (list_all (is_unread view) rest) h.unread) in
     turn_read c begun view (view.mail ++ mail_shown c u) view.rows (Mail u) rest (unread_behind (Mail u) rest h.order u (grind (arith, same-self u.0))) (unread_mail c view u)
-    (λ s e. h.mail_first s (weaker (same_call (Mail s) (Mail u)) (list_any (same_call (Mail s)) rest) e)) (formed_mail c view u sound mail shown none h.well_formed) h
+    (λ s e. h.mail_first s (weaker (same_call (Mail s) (Mail u)) (list_any (same_call (Mail s)) rest) e)) (formed_mail c view u sound mail new.0 new.1 h.well_formed) h
 
 -- a session's states are read
 unread_states : (c : Cluster) (view : View) (u : SessionId) (call : Call) → same_call (States u) call ≡ false → is_unread view call ≡ true → is_unread (with_states c u view) call ≡ true
@@ -253,11 +252,9 @@ unread_states c view u _ ne e = e
 pub turn_states : (c : Cluster) (begun : Begun) (view : View) (u : SessionId) (rest : List Call) → HasRows c
     → IsTurn c (record { left = States u ∷ rest; begun = begun; view = view }) → IsTurn c (record { left = rest; begun = begun; view = with_states c u view })
 turn_states c begun view u rest rows h =
-    let first : is_unread view (States u) ≡ true = and-first (is_unread view (States u)) (list_all (is_unread view) rest) h.unread in
-    let shown : is_shown view.live u ≡ true = and-first (is_shown view.live u) (not (list_any (λ r. r.session.0 == u.0) view.rows)) first in
-    let none : list_any (λ r. r.session.0 == u.0) view.rows ≡ false = turned (list_any (λ r. r.session.0 == u.0) view.rows) (and-second (is_shown view.live u) (not (list_any (λ r. r.session.0 == u.0) view.rows)) first) in
+    let new = both_parts (is_shown view.live u) (list_any (λ r. r.session.0 == u.0) view.rows) (and-first (is_unread view (States u)) (list_all (is_unread view) rest) h.unread) in
     turn_read c begun view view.mail (view.rows ++ states_shown c u) (States u) rest (unread_behind (States u) rest h.order u (grind (arith, same-self u.0))) (unread_states c view u)
-    (λ s e. let both = sym (no_mail_behind (States u) rest s h.order refl) ∙ e in cc) (formed_states c view u rows shown none h.well_formed) h
+    (λ s e. let both = sym (no_mail_behind (States u) rest s h.order refl) ∙ e in cc) (formed_states c view u rows new.0 new.1 h.well_formed) h
 
 -- the ideals are read
 either_way : (c : Cluster) (view : View) (b : Bool) → is_well_formed c.models (length c.instances) (beside view c) ≡ true
