@@ -143,11 +143,7 @@ pub row_on : (models : List ModelParts) (live : List (SessionId × InstanceId)) 
     → FitsRow models live xs r → FitsRow models live ys r
 row_on models live xs ys r front fits =
     let same = front-part models xs ys front r.part.resource r.part.index fits.part in
-    record {
-      shown = fits.shown;
-      part = ap (nat_lt r.part.index) same.0 ∙ fits.part;
-      state = ap (λ (x : ModelParts). (r.state.0 == error.0) || has_state x r.state) same.1 ∙ fits.state;
-    }
+    record { shown = fits.shown; part = ap (nat_lt r.part.index) same.0 ∙ fits.part; state = ap (λ (x : ModelParts). (r.state.0 == error.0) || has_state x r.state) same.1 ∙ fits.state }
 
 -- a pending message and a row of a shown session fit
 pub pending_fits : (c : Cluster) (live : List (SessionId × InstanceId)) (m : Message) → list_all has_no_fault c.models ≡ true → is_shown live m.session ≡ true

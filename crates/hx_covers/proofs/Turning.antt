@@ -231,8 +231,7 @@ both_parts false b e = cc
 -- a session's mail is read
 unread_mail : (c : Cluster) (view : View) (u : SessionId) (call : Call) → same_call (Mail u) call ≡ false → is_unread view call ≡ true → is_unread (with_mail c u view) call ≡ true
 unread_mail c view u (Mail v) ne e =
-    let none = none_of_session (λ (m : Message). m.session) u v c.mail ne in
-    grind (arith, e, none, any-append (λ (m : Message). m.session.0 == v.0) view.mail (mail_shown c u))
+    grind (arith, e, none_of_session (λ (x : Message). x.session) u v c.mail ne, any-append (λ (m : Message). m.session.0 == v.0) view.mail (mail_shown c u))
 unread_mail c view u _ ne e = e
 
 pub turn_mail : (c : Cluster) (begun : Begun) (view : View) (u : SessionId) (rest : List Call) → list_all has_no_fault c.models ≡ true → HasMail c
@@ -245,8 +244,7 @@ turn_mail c begun view u rest sound mail h =
 -- a session's states are read
 unread_states : (c : Cluster) (view : View) (u : SessionId) (call : Call) → same_call (States u) call ≡ false → is_unread view call ≡ true → is_unread (with_states c u view) call ≡ true
 unread_states c view u (States v) ne e =
-    let none = none_of_session (λ (r : Row). r.session) u v c.rows ne in
-    grind (arith, e, none, any-append (λ (r : Row). r.session.0 == v.0) view.rows (states_shown c u))
+    grind (arith, e, none_of_session (λ (x : Row). x.session) u v c.rows ne, any-append (λ (r : Row). r.session.0 == v.0) view.rows (states_shown c u))
 unread_states c view u _ ne e = e
 
 pub turn_states : (c : Cluster) (begun : Begun) (view : View) (u : SessionId) (rest : List Call) → HasRows c

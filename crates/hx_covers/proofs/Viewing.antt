@@ -135,30 +135,22 @@ new_good {X} Fits it at kept new xs ys apart self single fits make all unread =
         let more = count-append (it x) xs (filter at ys) in
         make x (fits x (and-first (kept x) (at x) both) here) (grind (arith, nat_tests, none, once, more))
 
+all_good : {X : Type 0} (Fits : X → Type 0) (it : X → X → Bool) (at good kept new : X → Bool) (xs ys : List X) → ((x y : X) → not (at x) ≡ true → at y ≡ true → it x y ≡ false)
+    → ((x y : X) → at x ≡ true → not (at y) ≡ true → it x y ≡ false) → ((x : X) → it x x ≡ true) → ((x : X) → good x ≡ true → (count (it x) xs == 1) ≡ true)
+    → ((x : X) → count (it x) ys ≤ 1) → ((x : X) → good x ≡ true → Fits x) → ((x : X) → kept x ≡ true → at x ≡ true → Fits x)
+    → ((x : X) → Fits x → (count (it x) (xs ++ filter at ys) == 1) ≡ true → new x ≡ true)
+    → list_any at xs ≡ false → list_all good xs ≡ true → list_all kept ys ≡ true → list_all new (xs ++ filter at ys) ≡ true
+all_good Fits it at good kept new xs ys before behind self once few fits comes make unread old all =
+    all-append new xs (filter at ys)
+    ∙ and-both (list_all new xs) (list_all new (filter at ys)) (old_good Fits it at good new xs ys before fits once make unread old)
+    (new_good Fits it at kept new xs ys behind self few comes make all unread)
+
 shown_at : (live : List (SessionId × InstanceId)) (u s : SessionId) → is_shown live s ≡ true → (u.0 == s.0) ≡ true → is_shown live u ≡ true
 shown_at live u s shown at = subst (λ (v : SessionId). is_shown live v ≡ true) (sym (session_same u s at)) shown
 
 -- the mail of a shown session
 abbrev pub with_mail : Cluster → SessionId → View → View
 with_mail c s view = record view { mail = view.mail ++ mail_shown c s }
-
-other_session : (s : SessionId) (m : Message) (p : PartId) (x : Message) → not (m.session.0 == s.0) ≡ true → (x.session.0 == s.0) ≡ true → is_message m.session p x ≡ false
-other_session s m p x ne at = grind (arith, nat_tests, ne, at)
-
-mail_old : (c : Cluster) (view : View) (s : SessionId) → list_any (λ m. m.session.0 == s.0) view.mail ≡ false
-    → list_all (is_good_message c.models (beside view c)) view.mail ≡ true → list_all (is_good_message c.models (beside (with_mail c s view) c)) view.mail ≡ true
-mail_old c view s unread good =
-    old_good (FitsMessage c.models view.live c.resources) (λ m. is_message m.session m.part) (λ m. m.session.0 == s.0) (is_good_message c.models (beside view c))
-    (is_good_message c.models (beside (with_mail c s view) c)) view.mail c.mail (λ m x ne at. other_session s m m.part x ne at) (message_fits c.models (beside view c))
-    (message_once c.models (beside view c)) (message_good c.models (beside (with_mail c s view) c)) unread good
-
-mail_new : (c : Cluster) (view : View) (s : SessionId) → list_all has_no_fault c.models ≡ true → HasMail c → is_shown view.live s ≡ true
-    → list_any (λ m. m.session.0 == s.0) view.mail ≡ false → list_all (is_good_message c.models (beside (with_mail c s view) c)) (mail_shown c s) ≡ true
-mail_new c view s sound mail shown unread =
-    new_good (FitsMessage c.models view.live c.resources) (λ m. is_message m.session m.part) (λ m. m.session.0 == s.0) (is_pending c)
-    (is_good_message c.models (beside (with_mail c s view) c)) view.mail c.mail (λ m x at ne. grind (arith, nat_tests, ne, at))
-    (λ m. and-both (m.session.0 == m.session.0) (part_eq m.part m.part) (same-self m.session.0) (part_eq-self m.part)) (λ m. mail.single m.session m.part)
-    (λ m pending at. pending_fits c view.live m sound (shown_at view.live m.session s shown at) pending) (message_good c.models (beside (with_mail c s view) c)) mail.pending unread
 
 pub formed_mail : (c : Cluster) (view : View) (s : SessionId) → list_all has_no_fault c.models ≡ true → HasMail c → is_shown view.live s ≡ true
     → list_any (λ m. m.session.0 == s.0) view.mail ≡ false → is_well_formed c.models (length c.instances) (beside view c) ≡ true
@@ -167,9 +159,11 @@ formed_mail c view s sound mail shown unread e =
     let g = good_view c.models (length c.instances) (beside view c) e in
     well_formed c.models (length c.instances) (beside (with_mail c s view) c) (record {
       sessions = g.sessions;
-      mail = all-append (is_good_message c.models (beside (with_mail c s view) c)) view.mail (mail_shown c s)
-          ∙ and-both (list_all (is_good_message c.models (beside (with_mail c s view) c)) view.mail) (list_all (is_good_message c.models (beside (with_mail c s view) c)) (mail_shown c s))
-          (mail_old c view s unread g.mail) (mail_new c view s sound mail shown unread);
+      mail = all_good (FitsMessage c.models view.live c.resources) (λ m. is_message m.session m.part) (λ m. m.session.0 == s.0) (is_good_message c.models (beside view c)) (is_pending c)
+          (is_good_message c.models (beside (with_mail c s view) c)) view.mail c.mail (λ m x ne at. grind (arith, nat_tests, ne, at)) (λ m x at ne. grind (arith, nat_tests, ne, at))
+          (λ m. and-both (m.session.0 == m.session.0) (part_eq m.part m.part) (same-self m.session.0) (part_eq-self m.part)) (message_once c.models (beside view c))
+          (λ m. mail.single m.session m.part) (message_fits c.models (beside view c)) (λ m pending at. pending_fits c view.live m sound (shown_at view.live m.session s shown at) pending)
+          (message_good c.models (beside (with_mail c s view) c)) unread g.mail mail.pending;
       rows = g.rows;
       few = g.few;
       drained = g.drained;
@@ -180,24 +174,6 @@ formed_mail c view s sound mail shown unread e =
 abbrev pub with_states : Cluster → SessionId → View → View
 with_states c s view = record view { rows = view.rows ++ states_shown c s }
 
-other_row : (s : SessionId) (r : Row) (p : PartId) (x : Row) → not (r.session.0 == s.0) ≡ true → (x.session.0 == s.0) ≡ true → is_row r.session p x ≡ false
-other_row s r p x ne at = grind (arith, nat_tests, ne, at)
-
-rows_old : (c : Cluster) (view : View) (s : SessionId) → list_any (λ r. r.session.0 == s.0) view.rows ≡ false
-    → list_all (is_good_row c.models (beside view c)) view.rows ≡ true → list_all (is_good_row c.models (beside (with_states c s view) c)) view.rows ≡ true
-rows_old c view s unread good =
-    old_good (FitsRow c.models view.live c.resources) (λ r. is_row r.session r.part) (λ r. r.session.0 == s.0) (is_good_row c.models (beside view c))
-    (is_good_row c.models (beside (with_states c s view) c)) view.rows c.rows (λ r x ne at. other_row s r r.part x ne at) (row_fits c.models (beside view c))
-    (row_once c.models (beside view c)) (row_good c.models (beside (with_states c s view) c)) unread good
-
-rows_new : (c : Cluster) (view : View) (s : SessionId) → HasRows c → is_shown view.live s ≡ true
-    → list_any (λ r. r.session.0 == s.0) view.rows ≡ false → list_all (is_good_row c.models (beside (with_states c s view) c)) (states_shown c s) ≡ true
-rows_new c view s rows shown unread =
-    new_good (FitsRow c.models view.live c.resources) (λ r. is_row r.session r.part) (λ r. r.session.0 == s.0) (is_kept c)
-    (is_good_row c.models (beside (with_states c s view) c)) view.rows c.rows (λ r x at ne. grind (arith, nat_tests, ne, at))
-    (λ r. and-both (r.session.0 == r.session.0) (part_eq r.part r.part) (same-self r.session.0) (part_eq-self r.part)) (λ r. rows.single r.session r.part)
-    (λ r kept at. kept_fits c view.live r (shown_at view.live r.session s shown at) kept) (row_good c.models (beside (with_states c s view) c)) rows.kept unread
-
 pub formed_states : (c : Cluster) (view : View) (s : SessionId) → HasRows c → is_shown view.live s ≡ true
     → list_any (λ r. r.session.0 == s.0) view.rows ≡ false → is_well_formed c.models (length c.instances) (beside view c) ≡ true
     → is_well_formed c.models (length c.instances) (beside (with_states c s view) c) ≡ true
@@ -206,9 +182,11 @@ formed_states c view s rows shown unread e =
     well_formed c.models (length c.instances) (beside (with_states c s view) c) (record {
       sessions = g.sessions;
       mail = g.mail;
-      rows = all-append (is_good_row c.models (beside (with_states c s view) c)) view.rows (states_shown c s)
-          ∙ and-both (list_all (is_good_row c.models (beside (with_states c s view) c)) view.rows) (list_all (is_good_row c.models (beside (with_states c s view) c)) (states_shown c s))
-          (rows_old c view s unread g.rows) (rows_new c view s rows shown unread);
+      rows = all_good (FitsRow c.models view.live c.resources) (λ r. is_row r.session r.part) (λ r. r.session.0 == s.0) (is_good_row c.models (beside view c)) (is_kept c)
+          (is_good_row c.models (beside (with_states c s view) c)) view.rows c.rows (λ r x ne at. grind (arith, nat_tests, ne, at)) (λ r x at ne. grind (arith, nat_tests, ne, at))
+          (λ r. and-both (r.session.0 == r.session.0) (part_eq r.part r.part) (same-self r.session.0) (part_eq-self r.part)) (row_once c.models (beside view c))
+          (λ r. rows.single r.session r.part) (row_fits c.models (beside view c)) (λ r kept at. kept_fits c view.live r (shown_at view.live r.session s shown at) kept)
+          (row_good c.models (beside (with_states c s view) c)) unread g.rows rows.kept;
       few = g.few;
       drained = g.drained;
       resources = g.resources;
