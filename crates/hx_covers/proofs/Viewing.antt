@@ -7,11 +7,8 @@ use Rattle.std.proofs.lemmas.Bool.Decides.{nat_tests}
 use Rattle.hx_lists.specs.Lists.{count}
 use Rattle.hx_ids.specs.declared.InstanceId.{InstanceId}
 use Rattle.hx_ids.specs.declared.SessionId.{SessionId}
-use Rattle.hx_ids.specs.declared.PartId.{PartId}
 use Rattle.hx_ids.specs.declared.Live.{Live}
 use Rattle.hx_model.specs.declared.ModelParts.{ModelParts}
-use Rattle.hx_cluster.specs.declared.state.Row.{Row}
-use Rattle.hx_cluster.specs.declared.state.Message.{Message}
 use Rattle.hx_cluster.specs.declared.state.Cluster.{Cluster}
 use Rattle.hx_cluster.specs.declared.planning.View.{View}
 use Rattle.hx_cluster.specs.Ends.{part_eq, is_row, is_message, is_session, is_shown, shown_of, instance_in}

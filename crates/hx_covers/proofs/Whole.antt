@@ -18,7 +18,7 @@ use Rattle.hx_cluster.specs.Safe.{HasMail, HasRows, HasSessions}
 use Rattle.hx_cluster.specs.Valid.{has_no_fault, IsValid}
 use Rattle.hx_cluster.specs.Ranged.{IsRanged}
 use Rattle.hx_cluster.specs.Views.{is_well_formed}
-use Rattle.hx_pass.specs.Turns.{Call, Live, Mail, States, Ideals, Send, Post, Turn, is_first, is_due, is_of_epoch, idle_turn, begun_turn, with_live, gone_on, if_due, when_own, turn_after, turn_from, turn_of, view_of}
+use Rattle.hx_pass.specs.Turns.{Call, Live, Mail, States, Ideals, Send, Turn, is_first, is_due, is_of_epoch, idle_turn, begun_turn, with_live, gone_on, if_due, when_own, turn_after, turn_from, turn_of, view_of}
 use Rattle.hx_safe.proofs.Counting.{and-first}
 use Rattle.hx_safe.proofs.Ends.{session_same}
 use Rattle.hx_safe.proofs.Fixed.{IsFixed, fixed_self, fixed_both, fixed_next}
