@@ -57,6 +57,13 @@ bare = record {
   failures = [];
 }
 
+-- the same with the names of three resources and of two models of one's own
+abbrev pub three_named : Spec
+three_named = record bare {
+  resource_names = codes "db0" ∷ codes "db1" ∷ codes "db2" ∷ [];
+  model_names = built_in_names ++ codes "M0" ∷ codes "M1" ∷ [];
+}
+
 -- resources by the numbers of their names and models: with lists of instances, with maps of instances to states, or taken in turn
 abbrev pub placed : ℕ → ℕ → ℕ → ℕ → Mode → Resource
 placed name kind replicas parts mode =

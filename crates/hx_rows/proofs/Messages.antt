@@ -5,7 +5,7 @@ use Rattle.std.proofs.Common.{refl}
 use Rattle.hx_cluster.specs.declared.description.Spec.{Spec}
 use Rattle.hx_model.specs.declared.Bound.TheVariants as bounds
 use Rattle.hx_cluster.specs.declared.description.Scope.TheVariants as scopes
-use Rattle.hx_rows.proofs.Fixtures.{built_in, built_in_states, built_in_names, bare, own_model, by_lists, by_maps, taken_in_turn, rule, output, one_asked, one_list, pass_of_one}
+use Rattle.hx_rows.proofs.Fixtures.{built_in, built_in_states, built_in_names, bare, own_model, by_lists, by_maps, taken_in_turn, rule, output, one_asked, one_list, pass_of_one, three_named}
 
 -- a message is delivered while it is accepted, and after it was acknowledged
 pub repeat : output one_list (
@@ -177,11 +177,9 @@ repeats_and_death = refl
 
 -- throttles, an expired session, and a message that comes to an instance without a session
 abbrev wrong_session_spec : Spec
-wrong_session_spec = record bare {
+wrong_session_spec = record three_named {
   instances = codes "n0" ∷ codes "n1" ∷ codes "n2" ∷ codes "n3" ∷ codes "n7" ∷ [];
   states = built_in_states ++ codes "Z" ∷ codes "X" ∷ [];
-  resource_names = codes "db0" ∷ codes "db1" ∷ codes "db2" ∷ [];
-  model_names = built_in_names ++ codes "M0" ∷ codes "M1" ∷ [];
   models = built_in ++ own_model 8 ((8, bounds.Free) ∷ (9, bounds.Count 1) ∷ (4, bounds.Live)
       ∷ (3, bounds.Count 1) ∷ []) ((8, 4) ∷ (3, 9) ∷ (8, 9) ∷ (4, 8) ∷ (8, 3) ∷ (9, 4) ∷ (8, 1)
       ∷ (4, 9) ∷ (9, 8) ∷ (4, 3) ∷ (9, 3) ∷ (3, 4) ∷ [])

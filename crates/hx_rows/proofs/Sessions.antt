@@ -5,7 +5,7 @@ use Rattle.std.proofs.Common.{refl}
 use Rattle.hx_cluster.specs.declared.description.Spec.{Spec}
 use Rattle.hx_model.specs.declared.Bound.TheVariants as bounds
 use Rattle.hx_cluster.specs.declared.description.Scope.TheVariants as scopes
-use Rattle.hx_rows.proofs.Fixtures.{built_in, built_in_states, built_in_names, bare, own_model, by_lists, by_maps, taken_in_turn, rule, failed_make, failed_run, output, one_asked, one_list, three_asked, pass_of_three, pass_of_one, pass_of_two}
+use Rattle.hx_rows.proofs.Fixtures.{built_in, built_in_states, built_in_names, bare, own_model, by_lists, by_maps, taken_in_turn, rule, failed_make, failed_run, output, one_asked, one_list, three_asked, pass_of_three, pass_of_one, pass_of_two, three_named}
 
 -- a job is open when its session ends, and its write is refused
 pub session_ended : output one_list (
@@ -91,11 +91,9 @@ storm = refl
 
 -- a tick ends each session between a turn's reads and its dispatch, and the clock comes to its end
 abbrev ended_before_dispatch_spec : Spec
-ended_before_dispatch_spec = record bare {
+ended_before_dispatch_spec = record three_named {
   instances = codes "n2" ∷ codes "n4" ∷ codes "n5" ∷ codes "n6" ∷ codes "n7" ∷ [];
   states = built_in_states ++ codes "X" ∷ codes "Z" ∷ [];
-  resource_names = codes "db0" ∷ codes "db1" ∷ codes "db2" ∷ [];
-  model_names = built_in_names ++ codes "M0" ∷ codes "M1" ∷ [];
   models = built_in ++ own_model 8 ((8, bounds.Free) ∷ []) ((8, 1) ∷ [])
       ∷ own_model 3 ((9, bounds.Live) ∷ (4, bounds.Free) ∷ (3, bounds.Free) ∷ (2, bounds.Count 2)
       ∷ []) ((9, 3) ∷ (3, 2) ∷ (4, 2) ∷ (9, 2) ∷ (2, 9) ∷ (2, 4) ∷ (3, 1) ∷ (3, 9) ∷ (4, 9)
