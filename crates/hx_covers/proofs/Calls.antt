@@ -1,5 +1,5 @@
 -- The calls of a turn: their order, and that each stands once.
-use Rattle.std.proofs.Common.{◌≡◌, ℕ, ◌||◌, ◌∙◌, sym, ◌+◌, ◌≤◌, ◌==◌, Bool, true, false, List, [], ◌∷◌, ◌++◌, map, refl, arith}
+use Rattle.std.proofs.Common.{◌≡◌, ℕ, ◌||◌, ◌∙◌, sym, ap, ◌+◌, ◌≤◌, ◌==◌, Bool, true, false, List, [], ◌∷◌, ◌++◌, map, refl, arith}
 use Rattle.std.specs.List.{list_any}
 use Rattle.std.proofs.lemmas.Bool.Decides.{nat_tests}
 use Rattle.hx_lists.specs.Lists.{count}
@@ -124,29 +124,31 @@ never : {X : Type 0} (p : X → Bool) → ((x : X) → p x ≡ false) → (xs : 
 never p h [] = refl
 never p h (x ∷ xs) = grind (arith, h x, never p h xs)
 
+left_call : (call : Call) (live : List (SessionId × InstanceId)) → list_any (same_call call) (Ideals ∷ Send ∷ Post ∷ []) ≡ false
+    → list_any (same_call call) (calls_after_live live)
+    ≡ (list_any (λ (e : SessionId × InstanceId). same_call call (Mail e.0)) live || list_any (λ (e : SessionId × InstanceId). same_call call (States e.0)) live)
+left_call call live last =
+    any-append (same_call call) (map (λ (e : SessionId × InstanceId). Mail e.0) live ++ map (λ (e : SessionId × InstanceId). States e.0) live) (Ideals ∷ Send ∷ Post ∷ [])
+    ∙ one (list_any (same_call call) (map (λ (e : SessionId × InstanceId). Mail e.0) live ++ map (λ (e : SessionId × InstanceId). States e.0) live))
+    (list_any (same_call call) (Ideals ∷ Send ∷ Post ∷ []))
+    (any-append (same_call call) (map (λ (e : SessionId × InstanceId). Mail e.0) live) (map (λ (e : SessionId × InstanceId). States e.0) live))
+    (map-any (same_call call) (λ (e : SessionId × InstanceId). Mail e.0) live) (map-any (same_call call) (λ (e : SessionId × InstanceId). States e.0) live) last
+  where
+    one : (a t : Bool) → {b f d g : Bool} → a ≡ (b || f) → b ≡ d → f ≡ g → t ≡ false → (a || t) ≡ (d || g)
+    one a t is at there last = grind (arith, is, at, there, last)
+
 left_mail : (live : List (SessionId × InstanceId)) (s : SessionId) → list_any (same_call (Mail s)) (calls_after_live live) ≡ list_any (λ (e : SessionId × InstanceId). s.0 == e.0.0) live
 left_mail live s =
-    let none : list_any (same_call (Mail s)) (map (λ (e : SessionId × InstanceId). States e.0) live) ≡ false
-    = map-any (same_call (Mail s)) (λ (e : SessionId × InstanceId). States e.0) live ∙ never (λ (e : SessionId × InstanceId). same_call (Mail s) (States e.0)) (λ e. refl) live in
-    any-append (same_call (Mail s)) (map (λ (e : SessionId × InstanceId). Mail e.0) live ++ map (λ (e : SessionId × InstanceId). States e.0) live) (Ideals ∷ Send ∷ Post ∷ [])
-    ∙ one (list_any (same_call (Mail s)) (map (λ (e : SessionId × InstanceId). Mail e.0) live ++ map (λ (e : SessionId × InstanceId). States e.0) live)) _
-    (any-append (same_call (Mail s)) (map (λ (e : SessionId × InstanceId). Mail e.0) live) (map (λ (e : SessionId × InstanceId). States e.0) live))
-    (map-any (same_call (Mail s)) (λ (e : SessionId × InstanceId). Mail e.0) live) none
+    left_call (Mail s) live refl
+    ∙ one (list_any (λ (e : SessionId × InstanceId). s.0 == e.0.0) live) (never (λ (e : SessionId × InstanceId). same_call (Mail s) (States e.0)) (λ e. refl) live)
   where
-    one : (a d : Bool) → {b f : Bool} → a ≡ (b || f) → b ≡ d → f ≡ false → (a || false) ≡ d
-    one a d is at none = grind (arith, is, at, none)
+    one : (a : Bool) → {b : Bool} → b ≡ false → (a || b) ≡ a
+    one a none = grind (arith, none)
 
 left_states : (live : List (SessionId × InstanceId)) (s : SessionId) → list_any (same_call (States s)) (calls_after_live live) ≡ list_any (λ (e : SessionId × InstanceId). s.0 == e.0.0) live
 left_states live s =
-    let none : list_any (same_call (States s)) (map (λ (e : SessionId × InstanceId). Mail e.0) live) ≡ false
-    = map-any (same_call (States s)) (λ (e : SessionId × InstanceId). Mail e.0) live ∙ never (λ (e : SessionId × InstanceId). same_call (States s) (Mail e.0)) (λ e. refl) live in
-    any-append (same_call (States s)) (map (λ (e : SessionId × InstanceId). Mail e.0) live ++ map (λ (e : SessionId × InstanceId). States e.0) live) (Ideals ∷ Send ∷ Post ∷ [])
-    ∙ one (list_any (same_call (States s)) (map (λ (e : SessionId × InstanceId). Mail e.0) live ++ map (λ (e : SessionId × InstanceId). States e.0) live)) _
-    (any-append (same_call (States s)) (map (λ (e : SessionId × InstanceId). Mail e.0) live) (map (λ (e : SessionId × InstanceId). States e.0) live)) none
-    (map-any (same_call (States s)) (λ (e : SessionId × InstanceId). States e.0) live)
-  where
-    one : (a d : Bool) → {b f : Bool} → a ≡ (b || f) → b ≡ false → f ≡ d → (a || false) ≡ d
-    one a d is none at = grind (arith, is, at, none)
+    left_call (States s) live refl
+    ∙ ap (λ (b : Bool). b || list_any (λ (e : SessionId × InstanceId). s.0 == e.0.0) live) (never (λ (e : SessionId × InstanceId). same_call (States s) (Mail e.0)) (λ e. refl) live)
 
 pub both_left : (live : List (SessionId × InstanceId)) (s : SessionId) → list_any (same_call (Mail s)) (calls_after_live live) ≡ true → list_any (same_call (States s)) (calls_after_live live) ≡ true
 both_left live s e = left_states live s ∙ sym (left_mail live s) ∙ e

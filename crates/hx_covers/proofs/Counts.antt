@@ -11,6 +11,16 @@ use Rattle.hx_safe.proofs.Counting.{and-first, and-second, and-both}
 abbrev pub answers : {X Y : Type 0} → (X → Y → Bool) → (Y → Bool) → List Y → X → Bool
 answers same q ys x = list_any (λ y. q y && same x y) ys
 
+-- an item of a list passes both tests at its head, or some item does behind it
+pub any_here : (a c d : Bool) → a ≡ true → c ≡ true → ((a && c) || d) ≡ true
+any_here true true d v w = refl
+any_here true false d v w = cc
+any_here false c d v w = cc
+
+pub any_behind : (a d : Bool) → d ≡ true → (a || d) ≡ true
+any_behind true d v = refl
+any_behind false d v = v
+
 -- where each item that passes a test has one in another list that answers to it, and no two of them the same, there are no more of them
 count_without : {Y : Type 0} (q r : Y → Bool) (ys : List Y) → list_any (λ y. q y && r y) ys ≡ true → count (λ y. q y && not (r y)) ys + 1 ≤ count q ys
 count_without q r [] e = cc

@@ -374,12 +374,7 @@ covered_next c turns begun h k (events.Dispatch j epoch pass proposals answer) s
     turned : (j.0 == k.0) ≡ false → (k.0 == j.0) ≡ false
     turned e = grind (arith, nat_tests, e)
 covered_next c turns begun h k (events.Post j epoch rows) s step proper first at = post_case c turns begun h k (events.Post j epoch rows) (j.0 == k.0) s step refl refl first at
-covered_next c turns begun h k (events.Admin x did) s step proper first at = other_event c turns begun h k (events.Admin x did) s step refl refl at
-covered_next c turns begun h k (events.Line n) s step proper first at = other_event c turns begun h k (events.Line n) s step refl refl at
-covered_next c turns begun h k (events.Fetch i u n) s step proper first at = other_event c turns begun h k (events.Fetch i u n) s step refl refl at
-covered_next c turns begun h k (events.Take u id) s step proper first at = other_event c turns begun h k (events.Take u id) s step refl refl at
-covered_next c turns begun h k (events.Write u id outcome) s step proper first at = other_event c turns begun h k (events.Write u id outcome) s step refl refl at
-covered_next c turns begun h k (events.Ack u id) s step proper first at = other_event c turns begun h k (events.Ack u id) s step refl refl at
+covered_next c turns begun h k e s step proper first at = other_event c turns begun h k e s step refl refl at
 
 coverage_next : (c : Cluster) (turns : ControllerId → Turn) (begun : ControllerId → List Message) (h : List Event) (e : Event) → IsCoverage c turns begun h → IsStep c e → IsInEpoch turns e
     → IsCoverage (next c e) (λ k. turn_after c k (turns k) e) (λ k. mail_begun_after c k (begun k) e) (h ++ e ∷ [])

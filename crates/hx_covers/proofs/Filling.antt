@@ -1,5 +1,5 @@
 -- No part has more ends in a limited state on the board than in a view that shows it.
-use Rattle.std.proofs.Common.{◌≡◌, ℕ, ◌≤◌, ◌&&◌, ◌||◌, ◌==◌, not, Bool, true, false, List, [], ◌∷◌, length, filter, map, Option, Some, None, refl, sym, ap, ◌∙◌, subst, arith}
+use Rattle.std.proofs.Common.{◌≡◌, ℕ, ◌≤◌, ◌&&◌, ◌||◌, ◌==◌, not, Bool, true, false, List, [], ◌∷◌, length, filter, find, map, Option, Some, None, refl, sym, ap, ◌∙◌, subst, arith}
 use Rattle.std.specs.Prelude.{if◌then◌else◌}
 use Rattle.std.specs.List.{list_any, list_all}
 use Rattle.std.specs.Option.{option_map, option_map_or}
@@ -27,7 +27,7 @@ use Rattle.hx_safe.proofs.Ends.{session_same, same-self, row_at-state, stands_at
 use Rattle.hx_runs.specs.Calm.{is_among, has_stayed}
 use Rattle.hx_covers.specs.Covers.{has_nothing}
 use Rattle.hx_covers.specs.Gate.{Shows}
-use Rattle.hx_covers.proofs.Counts.{answers, are_apart, count-inject}
+use Rattle.hx_covers.proofs.Counts.{answers, are_apart, count-inject, any_here, any_behind}
 use Rattle.hx_covers.proofs.Covering.{none_if, live_of_all, live_all, shown_message}
 
 -- sessions that stand once stand apart
@@ -54,29 +54,27 @@ shown_with b view shows s live some = one (is_shown view.live s) refl (live_of_a
     one true is e = refl
     one false is e = sym (some e)
 
-no_message : (b : Cluster) (s : SessionId) (p : PartId) (m : Message) → message_of b.mail s p ≡ Some m → has_nothing b s ≡ true → true ≡ false
-no_message b s p m is bare = clash (m.session.0 == s.0) (and-first (m.session.0 == s.0) (part_eq m.part p) (find-passes (is_message s p) b.mail m is))
-    (all-find (λ x. not (x.session.0 == s.0)) (is_message s p) b.mail m (none b.mail (none_if (list_any (λ x. x.session.0 == s.0) b.mail) (and-second (not (list_any (λ r. r.session.0 == s.0) b.rows)) (not (list_any (λ x. x.session.0 == s.0) b.mail)) bare))) is)
+-- what is found in a list passes no test that nothing there passes
+found_nowhere : {X : Type 0} (p q : X → Bool) (xs : List X) (x : X) → ((y : X) → q y ≡ true → p y ≡ true) → find q xs ≡ Some x → list_any p xs ≡ false → true ≡ false
+found_nowhere {X} p q xs x h is bare = clash (p x) (h x (find-passes q xs x is)) (all-find (λ y. not (p y)) q xs x (none xs bare) is)
   where
     clash : (a : Bool) → a ≡ true → not a ≡ true → true ≡ false
     clash true e w = cc
     clash false e w = cc
 
-    none : (xs : List Message) → list_any (λ x. x.session.0 == s.0) xs ≡ false → list_all (λ x. not (x.session.0 == s.0)) xs ≡ true
+    none : (ys : List X) → list_any p ys ≡ false → list_all (λ y. not (p y)) ys ≡ true
     none [] e = refl
-    none (x ∷ xs) e = grind (arith, e, none xs)
+    none (y ∷ ys) e = grind (arith, e, none ys)
+
+no_message : (b : Cluster) (s : SessionId) (p : PartId) (m : Message) → message_of b.mail s p ≡ Some m → has_nothing b s ≡ true → true ≡ false
+no_message b s p m is bare =
+    found_nowhere (λ x. x.session.0 == s.0) (is_message s p) b.mail m (λ x e. and-first (x.session.0 == s.0) (part_eq x.part p) e) is
+    (none_if (list_any (λ x. x.session.0 == s.0) b.mail) (and-second (not (list_any (λ r. r.session.0 == s.0) b.rows)) (not (list_any (λ x. x.session.0 == s.0) b.mail)) bare))
 
 no_row : (b : Cluster) (s : SessionId) (p : PartId) (r : Row) → row_of b.rows s p ≡ Some r → has_nothing b s ≡ true → true ≡ false
-no_row b s p r is bare = clash (r.session.0 == s.0) (and-first (r.session.0 == s.0) (part_eq r.part p) (find-passes (is_row s p) b.rows r is))
-    (all-find (λ x. not (x.session.0 == s.0)) (is_row s p) b.rows r (none b.rows (none_if (list_any (λ x. x.session.0 == s.0) b.rows) (and-first (not (list_any (λ x. x.session.0 == s.0) b.rows)) (not (list_any (λ m. m.session.0 == s.0) b.mail)) bare))) is)
-  where
-    clash : (a : Bool) → a ≡ true → not a ≡ true → true ≡ false
-    clash true e w = cc
-    clash false e w = cc
-
-    none : (xs : List Row) → list_any (λ x. x.session.0 == s.0) xs ≡ false → list_all (λ x. not (x.session.0 == s.0)) xs ≡ true
-    none [] e = refl
-    none (x ∷ xs) e = grind (arith, e, none xs)
+no_row b s p r is bare =
+    found_nowhere (λ x. x.session.0 == s.0) (is_row s p) b.rows r (λ x e. and-first (x.session.0 == s.0) (part_eq x.part p) e) is
+    (none_if (list_any (λ x. x.session.0 == s.0) b.rows) (and-first (not (list_any (λ x. x.session.0 == s.0) b.rows)) (not (list_any (λ m. m.session.0 == s.0) b.mail)) bare))
 
 -- and has the end in the view
 message_end : (b : Cluster) (view : View) → Shows b view → (s : SessionId) (p : PartId) (t : StateId) (m : Message) → message_of b.mail s p ≡ Some m → message_at t (Some m) ≡ true
@@ -119,14 +117,10 @@ ends_shown : (b : Cluster) (view : View) → Shows b view → (p : PartId) (t : 
     → (is_shown view.live s ≡ true) × (has_end view.rows view.mail p t s ≡ true)
 ends_shown b view shows p t plain s live e = one (row_of b.rows s p) refl (message_of b.mail s p) refl e
   where
-    right : (x y : Bool) → y ≡ true → (x || y) ≡ true
-    right true y w = refl
-    right false y w = w
-
     by_message : (m : Message) → message_of b.mail s p ≡ Some m → message_at t (Some m) ≡ true → (is_shown view.live s ≡ true) × (has_end view.rows view.mail p t s ≡ true)
     by_message m is at = (
       shown_with b view shows s live (no_message b s p m is),
-      right (row_at t (row_of view.rows s p)) (message_at t (message_of view.mail s p)) (message_end b view shows s p t m is at),
+      any_behind (row_at t (row_of view.rows s p)) (message_at t (message_of view.mail s p)) (message_end b view shows s p t m is at),
     )
 
     by_row : (r : Row) → row_of b.rows s p ≡ Some r → (r.state.0 == t.0) ≡ true → (is_shown view.live s ≡ true) × (has_end view.rows view.mail p t s ≡ true)
@@ -160,23 +154,14 @@ answer_there view p t s (x ∷ live) shown e = one (x.0.0 == s.0) refl shown (λ
     rest_of : Bool
     rest_of = list_any (λ (y : SessionId). has_end view.rows view.mail p t y && (y.0 == s.0)) (map (λ (z : SessionId × InstanceId). z.0) live)
 
-    first : (a c d : Bool) → a ≡ true → c ≡ true → ((a && c) || d) ≡ true
-    first true true d v w = refl
-    first true false d v w = cc
-    first false c d v w = cc
-
-    last : (a d : Bool) → d ≡ true → (a || d) ≡ true
-    last true d v = refl
-    last false d v = v
-
     one : (a : Bool) → (x.0.0 == s.0) ≡ a → (a || is_shown live s) ≡ true
         → (is_shown live s ≡ true → list_any (λ (y : SessionId). has_end view.rows view.mail p t y && (y.0 == s.0)) (map (λ (z : SessionId × InstanceId). z.0) live) ≡ true)
         → ((has_end view.rows view.mail p t x.0 && (x.0.0 == s.0)) || list_any (λ (y : SessionId). has_end view.rows view.mail p t y && (y.0 == s.0)) (map (λ (z : SessionId × InstanceId). z.0) live)) ≡ true
     one true is w rest =
         let here : has_end view.rows view.mail p t x.0 ≡ true = subst (λ (u : SessionId). has_end view.rows view.mail p t u ≡ true) (sym (session_same x.0 s is)) e in
-        first (has_end view.rows view.mail p t x.0) (x.0.0 == s.0) (list_any (λ (y : SessionId). has_end view.rows view.mail p t y && (y.0 == s.0)) (map (λ (z : SessionId × InstanceId). z.0) live)) here is
+        any_here (has_end view.rows view.mail p t x.0) (x.0.0 == s.0) (list_any (λ (y : SessionId). has_end view.rows view.mail p t y && (y.0 == s.0)) (map (λ (z : SessionId × InstanceId). z.0) live)) here is
     one false is w rest =
-        last (has_end view.rows view.mail p t x.0 && (x.0.0 == s.0)) (list_any (λ (y : SessionId). has_end view.rows view.mail p t y && (y.0 == s.0)) (map (λ (z : SessionId × InstanceId). z.0) live)) (rest w)
+        any_behind (has_end view.rows view.mail p t x.0 && (x.0.0 == s.0)) (list_any (λ (y : SessionId). has_end view.rows view.mail p t y && (y.0 == s.0)) (map (λ (z : SessionId × InstanceId). z.0) live)) (rest w)
 
 -- so the board counts no more than the view
 pub counts_shown : (b : Cluster) (view : View) (p : PartId) (t : StateId) (limit : ℕ) → Shows b view → list_all has_no_fault b.models ≡ true → ((s : SessionId) → count (is_session s) b.live ≤ 1)

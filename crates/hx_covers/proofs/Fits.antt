@@ -59,15 +59,24 @@ row_parts : (models : List ModelParts) (view : View) (r : Row) → is_good_row m
 row_parts models view r e =
     and-three (is_good_part view r.session r.part) (is_good_state models view r.part r.state) (count (is_row r.session r.part) view.rows == 1) e
 
+-- a part is good where its session is shown and it is one of its resource, and it stands with a state of the model
+there_parts : (view : View) (s : SessionId) (p : PartId) → is_good_part view s p ≡ true
+    → (is_shown view.live s ≡ true) × (nat_lt p.index (parts_of view.ideals.resources p.resource) ≡ true)
+there_parts view s p e = (
+  and-first (is_shown view.live s) (nat_lt p.index (parts_of view.ideals.resources p.resource)) e,
+  and-second (is_shown view.live s) (nat_lt p.index (parts_of view.ideals.resources p.resource)) e,
+)
+
+there_good : (models : List ModelParts) (view : View) (s : SessionId) (p : PartId) (t : StateId) → is_shown view.live s ≡ true
+    → nat_lt p.index (parts_of view.ideals.resources p.resource) ≡ true → is_good_state models view p t ≡ true → (is_good_part view s p && is_good_state models view p t) ≡ true
+there_good models view s p t shown part state =
+    and-both (is_good_part view s p) (is_good_state models view p t) (and-both (is_shown view.live s) (nat_lt p.index (parts_of view.ideals.resources p.resource)) shown part) state
+
 pub message_fits : (models : List ModelParts) (view : View) (m : Message) → is_good_message models view m ≡ true → FitsMessage models view.live view.ideals.resources m
 message_fits models view m e =
     let parts = good_parts models view m e in
-    record {
-      shown = and-first (is_shown view.live m.session) (nat_lt m.part.index (parts_of view.ideals.resources m.part.resource)) parts.0;
-      part = and-second (is_shown view.live m.session) (nat_lt m.part.index (parts_of view.ideals.resources m.part.resource)) parts.0;
-      from = parts.1;
-      to = parts.2;
-    }
+    let there = there_parts view m.session m.part parts.0 in
+    record { shown = there.0; part = there.1; from = parts.1; to = parts.2 }
 
 pub message_once : (models : List ModelParts) (view : View) (m : Message) → is_good_message models view m ≡ true → (count (is_message m.session m.part) view.mail == 1) ≡ true
 message_once models view m e = (good_parts models view m e).3
@@ -75,8 +84,7 @@ message_once models view m e = (good_parts models view m e).3
 pub message_good : (models : List ModelParts) (view : View) (m : Message) → FitsMessage models view.live view.ideals.resources m
     → (count (is_message m.session m.part) view.mail == 1) ≡ true → is_good_message models view m ≡ true
 message_good models view m fits once =
-    let part = and-both (is_shown view.live m.session) (nat_lt m.part.index (parts_of view.ideals.resources m.part.resource)) fits.shown fits.part in
-    let from = and-both (is_good_part view m.session m.part) (is_good_state models view m.part m.from) part fits.from in
+    let from = there_good models view m.session m.part m.from fits.shown fits.part fits.from in
     let to = and-both (is_good_part view m.session m.part && is_good_state models view m.part m.from) ((m.to.0 == dropped.0) || is_good_state models view m.part m.to) from fits.to in
     and-both (is_good_part view m.session m.part && is_good_state models view m.part m.from && ((m.to.0 == dropped.0) || is_good_state models view m.part m.to))
     (count (is_message m.session m.part) view.mail == 1) to once
@@ -84,11 +92,8 @@ message_good models view m fits once =
 pub row_fits : (models : List ModelParts) (view : View) (r : Row) → is_good_row models view r ≡ true → FitsRow models view.live view.ideals.resources r
 row_fits models view r e =
     let parts = row_parts models view r e in
-    record {
-      shown = and-first (is_shown view.live r.session) (nat_lt r.part.index (parts_of view.ideals.resources r.part.resource)) parts.0;
-      part = and-second (is_shown view.live r.session) (nat_lt r.part.index (parts_of view.ideals.resources r.part.resource)) parts.0;
-      state = parts.1;
-    }
+    let there = there_parts view r.session r.part parts.0 in
+    record { shown = there.0; part = there.1; state = parts.1 }
 
 pub row_once : (models : List ModelParts) (view : View) (r : Row) → is_good_row models view r ≡ true → (count (is_row r.session r.part) view.rows == 1) ≡ true
 row_once models view r e = (row_parts models view r e).2
@@ -96,9 +101,8 @@ row_once models view r e = (row_parts models view r e).2
 pub row_good : (models : List ModelParts) (view : View) (r : Row) → FitsRow models view.live view.ideals.resources r
     → (count (is_row r.session r.part) view.rows == 1) ≡ true → is_good_row models view r ≡ true
 row_good models view r fits once =
-    let part = and-both (is_shown view.live r.session) (nat_lt r.part.index (parts_of view.ideals.resources r.part.resource)) fits.shown fits.part in
-    let state = and-both (is_good_part view r.session r.part) (is_good_state models view r.part r.state) part fits.state in
-    and-both (is_good_part view r.session r.part && is_good_state models view r.part r.state) (count (is_row r.session r.part) view.rows == 1) state once
+    and-both (is_good_part view r.session r.part && is_good_state models view r.part r.state) (count (is_row r.session r.part) view.rows == 1)
+    (there_good models view r.session r.part r.state fits.shown fits.part fits.state) once
 
 -- a part that is there is the same among more resources
 kind-model : (models : List ModelParts) (x y : Resource) → is_same_kind x y ≡ true → model_at models y.model ≡ model_at models x.model
@@ -139,11 +143,7 @@ pub row_on : (models : List ModelParts) (live : List (SessionId × InstanceId)) 
     → FitsRow models live xs r → FitsRow models live ys r
 row_on models live xs ys r front fits =
     let same = front-part models xs ys front r.part.resource r.part.index fits.part in
-    record {
-      shown = fits.shown;
-      part = ap (nat_lt r.part.index) same.0 ∙ fits.part;
-      state = ap (λ (x : ModelParts). (r.state.0 == error.0) || has_state x r.state) same.1 ∙ fits.state;
-    }
+    record { shown = fits.shown; part = ap (nat_lt r.part.index) same.0 ∙ fits.part; state = ap (λ (x : ModelParts). (r.state.0 == error.0) || has_state x r.state) same.1 ∙ fits.state }
 
 -- a pending message and a row of a shown session fit
 pub pending_fits : (c : Cluster) (live : List (SessionId × InstanceId)) (m : Message) → list_all has_no_fault c.models ≡ true → is_shown live m.session ≡ true

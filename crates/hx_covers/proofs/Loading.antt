@@ -24,7 +24,7 @@ use Rattle.hx_safe.proofs.Models.{state_same}
 use Rattle.hx_runs.specs.Calm.{is_among}
 use Rattle.hx_covers.specs.Covers.{has_nothing}
 use Rattle.hx_covers.specs.Gate.{Shows}
-use Rattle.hx_covers.proofs.Counts.{answers, are_apart, count-inject}
+use Rattle.hx_covers.proofs.Counts.{answers, are_apart, count-inject, any_here, any_behind}
 use Rattle.hx_covers.proofs.Covering.{none_if, live_of_all}
 use Rattle.hx_covers.proofs.Showing.{all_each}
 
@@ -114,20 +114,11 @@ loads_shown b view r key shows mail =
     found m lives shown counted [] e = cc
     found m lives shown counted (y ∷ ys) e = one (is_same m y) refl e (λ w. found m lives shown counted ys w)
       where
-        first : (a c d : Bool) → a ≡ true → c ≡ true → ((a && c) || d) ≡ true
-        first true true d v w = refl
-        first true false d v w = cc
-        first false c d v w = cc
-
-        last : (a d : Bool) → d ≡ true → (a || d) ≡ true
-        last true d v = refl
-        last false d v = v
-
         one : (a : Bool) → is_same m y ≡ a → (a || list_any (is_same m) ys) ≡ true → (list_any (is_same m) ys ≡ true → list_any (λ z. is_counted view.live r key z && is_same m z) ys ≡ true)
             → ((is_counted view.live r key y && is_same m y) || list_any (λ z. is_counted view.live r key z && is_same m z) ys) ≡ true
         one true is w rest =
-            first (is_counted view.live r key y) (is_same m y) (list_any (λ z. is_counted view.live r key z && is_same m z) ys) (counted_alike b view shows r key m y lives shown is counted) is
-        one false is w rest = last (is_counted view.live r key y && is_same m y) (list_any (λ z. is_counted view.live r key z && is_same m z) ys) (rest w)
+            any_here (is_counted view.live r key y) (is_same m y) (list_any (λ z. is_counted view.live r key z && is_same m z) ys) (counted_alike b view shows r key m y lives shown is counted) is
+        one false is w rest = any_behind (is_counted view.live r key y && is_same m y) (list_any (λ z. is_counted view.live r key z && is_same m z) ys) (rest w)
 
     each : (m : Message) → ((p : Message → Bool) → list_all p b.mail ≡ true → p m ≡ true) → (a : Bool) → is_counted (shown_of b.live) r key m ≡ a
         → (not a || answers is_same (is_counted view.live r key) view.mail m) ≡ true

@@ -1,5 +1,5 @@
 -- A controller's turn keeps its shape along every legal history, and what it was shown is well formed.
-use Rattle.std.proofs.Common.{◌≡◌, ℕ, ◌≤◌, ◌||◌, ◌==◌, not, Bool, true, false, List, [], ◌∷◌, ◌++◌, length, filter, map, refl, sym, ap, ◌∙◌, arith}
+use Rattle.std.proofs.Common.{◌≡◌, ℕ, ◌≤◌, ◌||◌, ◌==◌, not, Bool, true, false, List, [], ◌∷◌, ◌++◌, length, filter, map, refl, sym, ap, ◌∙◌, arith, ◌&&◌}
 use Rattle.std.specs.Prelude.{if◌then◌else◌, nat_lt}
 use Rattle.std.specs.List.{list_any, list_all}
 use Rattle.std.proofs.lemmas.Bool.Decides.{nat_tests}
@@ -10,10 +10,11 @@ use Rattle.hx_ids.specs.declared.Live.{Live as LiveSession}
 use Rattle.hx_cluster.specs.declared.state.Message.{Message}
 use Rattle.hx_cluster.specs.declared.state.Row.{Row}
 use Rattle.hx_cluster.specs.declared.state.Cluster.{Cluster}
+use Rattle.hx_cluster.specs.declared.planning.Ideals.{Ideals as IdealsShown}
 use Rattle.hx_cluster.specs.declared.planning.View.{View}
 use Rattle.hx_cluster.specs.declared.happenings.Begun.{Begun}
 use Rattle.hx_cluster.specs.Ends.{is_live, is_shown, shown_of, instance_in}
-use Rattle.hx_cluster.specs.Reads.{instance_before, live_shown, mail_shown, states_shown, nothing_shown}
+use Rattle.hx_cluster.specs.Reads.{instance_before, live_shown, mail_shown, states_shown, ideals_shown, nothing_shown}
 use Rattle.hx_cluster.specs.Safe.{HasMail, HasRows, HasSessions}
 use Rattle.hx_cluster.specs.Valid.{has_no_fault}
 use Rattle.hx_cluster.specs.Ranged.{IsRanged}
@@ -22,8 +23,8 @@ use Rattle.hx_pass.specs.Turns.{Call, Live, Mail, States, Ideals, Send, Post, Tu
 use Rattle.hx_safe.proofs.Counting.{and-first, and-second, and-both, any-append, all-append, all-le, all-map}
 use Rattle.hx_safe.proofs.Ends.{same-self}
 use Rattle.hx_safe.proofs.Fixed.{IsFixed}
-use Rattle.hx_runs.specs.Onward.{is_same_kind, has_same_replicas, IsOn}
-use Rattle.hx_covers.specs.Reading.{may_follow, is_in_order_from, is_in_order, is_unread, is_read, IsTurn}
+use Rattle.hx_runs.specs.Onward.{is_front, is_same_kind, has_same_replicas, IsOn}
+use Rattle.hx_covers.specs.Reading.{may_follow, is_in_order_from, is_in_order, is_unread, is_read, view_with, IsTurn}
 use Rattle.hx_runs.proofs.Fronts.{front-self, front-both, kind-self, kind-both, replicas-self, replicas-both}
 use Rattle.hx_covers.proofs.Calls.{both_left, no_mail_behind, order_rest, live_no_more, calls_in_order, calls_once, call_no_more}
 use Rattle.hx_covers.proofs.Sorting.{all-sort}
@@ -81,19 +82,21 @@ turn_idle c ranged = record {
 }
 
 pub turn_begun : (c : Cluster) (begun : Begun) → begun.epoch.0 ≤ c.epoch.0 → IsRanged c → IsTurn c (begun_turn begun)
-turn_begun c begun epoch ranged = record {
-  epoch = epoch;
-  order = refl;
-  once = once;
-  unread = refl;
-  nothing = λ e. refl;
-  mail_first = λ s e. cc;
-  below = refl;
-  own = λ s live shown. cc;
-  well_formed = formed_nothing c ranged;
-  resources = λ e. refl;
-  replicas = λ e. refl;
-}
+turn_begun c begun epoch ranged =
+    let idle = turn_idle c ranged in
+    record {
+      epoch = epoch;
+      order = refl;
+      once = once;
+      unread = refl;
+      nothing = λ e. refl;
+      mail_first = λ s e. cc;
+      below = idle.below;
+      own = idle.own;
+      well_formed = idle.well_formed;
+      resources = λ e. refl;
+      replicas = λ e. refl;
+    }
   where
     once : (call : Call) → count (same_call call) (Live ∷ []) ≤ 1
     once Live = omega arith
@@ -159,120 +162,97 @@ unread_behind a (b ∷ rest) order s is = one a b (and-first (may_follow a b) (i
     one a (Mail t) e is = refl
     one a (States t) e is = refl
     one a Ideals e is = refl
-    one Live Send e is = cc
-    one (Mail t) Send e is = cc
-    one (States t) Send e is = cc
-    one Ideals Send e is = cc
-    one Send Send e is = cc
-    one Post Send e is = cc
-    one Live Post e is = cc
-    one (Mail t) Post e is = cc
-    one (States t) Post e is = cc
-    one Ideals Post e is = cc
-    one Send Post e is = cc
-    one Post Post e is = cc
+    one Live _ e is = cc
+    one (Mail t) _ e is = cc
+    one (States t) _ e is = cc
+    one Ideals _ e is = cc
+    one Send _ e is = cc
+    one Post _ e is = cc
 
 weaker : (a b : Bool) → b ≡ true → (a || b) ≡ true
 weaker true b e = refl
 weaker false b e = e
 
+-- what is shown of one session says nothing of another
+none_of_session : {X : Type 0} (of : X → SessionId) (u v : SessionId) (xs : List X) → (u.0 == v.0) ≡ false
+    → list_any (λ x. (of x).0 == v.0) (filter (λ x. (of x).0 == u.0) xs) ≡ false
+none_of_session of u v [] ne = refl
+none_of_session of u v (x ∷ xs) ne = grind (arith, nat_tests, ne, none_of_session of u v xs ne)
+
+-- each other call is as unread as it was
+unread_rest : (old new : View) (call : Call) → ((x : Call) → same_call call x ≡ false → is_unread old x ≡ true → is_unread new x ≡ true) → (rest : List Call)
+    → list_any (same_call call) rest ≡ false → list_all (is_unread old) rest ≡ true → list_all (is_unread new) rest ≡ true
+unread_rest old new call each [] ne e = refl
+unread_rest old new call each (x ∷ rest) ne e =
+    and-both (is_unread new x) (list_all (is_unread new) rest) (each x (grind (arith, ne)) (and-first (is_unread old x) (list_all (is_unread old) rest) e))
+    (unread_rest old new call each rest (grind (arith, ne)) (and-second (is_unread old x) (list_all (is_unread old) rest) e))
+
+-- a call is made: what was shown with it is known, and what was behind it is left
+turn_rest : (c : Cluster) (begun : Begun) (view : View) (mail : List Message) (rows : List Row) (ideals : IdealsShown) (call : Call) (rest : List Call)
+    → list_all (is_unread (record view { mail = mail; rows = rows; ideals = ideals })) rest ≡ true
+    → ((s : SessionId) → list_any (same_call (Mail s)) rest ≡ true → list_any (same_call (States s)) rest ≡ true)
+    → is_well_formed c.models (length c.instances) (view_with c (record { left = rest; begun = begun; view = record view { mail = mail; rows = rows; ideals = ideals } })) ≡ true
+    → ((is_first Send rest || is_first Post rest) ≡ true → is_front is_same_kind ideals.resources c.resources ≡ true)
+    → ((is_first Send rest || is_first Post rest) ≡ true → is_front has_same_replicas ideals.resources c.resources ≡ true)
+    → IsTurn c (record { left = call ∷ rest; begun = begun; view = view })
+    → IsTurn c (record { left = rest; begun = begun; view = record view { mail = mail; rows = rows; ideals = ideals } })
+turn_rest c begun view mail rows ideals call rest unread mail_first formed resources replicas h = record {
+  epoch = h.epoch;
+  order = order_rest call rest h.order;
+  once = rest_once call rest h.once;
+  unread = unread;
+  nothing = λ e. let both = sym (live_no_more call rest h.order) ∙ e in cc;
+  mail_first = mail_first;
+  below = h.below;
+  own = h.own;
+  well_formed = formed;
+  resources = resources;
+  replicas = replicas;
+}
+
+-- mail or rows are read
+turn_read : (c : Cluster) (begun : Begun) (view : View) (mail : List Message) (rows : List Row) (call : Call) (rest : List Call) → (is_first Send rest || is_first Post rest) ≡ false
+    → ((x : Call) → same_call call x ≡ false → is_unread view x ≡ true → is_unread (record view { mail = mail; rows = rows }) x ≡ true)
+    → ((s : SessionId) → list_any (same_call (Mail s)) rest ≡ true → list_any (same_call (States s)) rest ≡ true)
+    → is_well_formed c.models (length c.instances) (beside (record view { mail = mail; rows = rows }) c) ≡ true
+    → IsTurn c (record { left = call ∷ rest; begun = begun; view = view }) → IsTurn c (record { left = rest; begun = begun; view = record view { mail = mail; rows = rows } })
+turn_read c begun view mail rows call rest behind each mail_first formed h =
+    let new : View = record view { mail = mail; rows = rows } in
+    turn_rest c begun view mail rows view.ideals call rest
+    (unread_rest view new call each rest (call_no_more call rest (h.once call)) (and-second (is_unread view call) (list_all (is_unread view) rest) h.unread)) mail_first
+    (ap (λ (b : Bool). is_well_formed c.models (length c.instances) (if b then new else beside new c)) behind ∙ formed)
+    (λ e. let both = sym behind ∙ e in cc) (λ e. let both = sym behind ∙ e in cc) h
+
+both_parts : (a b : Bool) → (a && not b) ≡ true → (a ≡ true) × (b ≡ false)
+both_parts true false e = (refl, refl)
+both_parts true true e = cc
+both_parts false b e = cc
+
 -- a session's mail is read
-none_of_session : (u v : SessionId) (mail : List Message) → (u.0 == v.0) ≡ false → list_any (λ m. m.session.0 == v.0) (filter (λ m. m.session.0 == u.0) mail) ≡ false
-none_of_session u v [] ne = refl
-none_of_session u v (m ∷ mail) ne = grind (arith, nat_tests, ne, none_of_session u v mail ne)
-
 unread_mail : (c : Cluster) (view : View) (u : SessionId) (call : Call) → same_call (Mail u) call ≡ false → is_unread view call ≡ true → is_unread (with_mail c u view) call ≡ true
-unread_mail c view u Live ne e = refl
 unread_mail c view u (Mail v) ne e =
-    let none = none_of_session u v c.mail ne in
-    grind (arith, e, none, any-append (λ (m : Message). m.session.0 == v.0) view.mail (mail_shown c u))
-unread_mail c view u (States v) ne e = e
-unread_mail c view u Ideals ne e = refl
-unread_mail c view u Send ne e = refl
-unread_mail c view u Post ne e = refl
-
-unread_mails : (c : Cluster) (view : View) (u : SessionId) (rest : List Call) → list_any (same_call (Mail u)) rest ≡ false → list_all (is_unread view) rest ≡ true
-    → list_all (is_unread (with_mail c u view)) rest ≡ true
-unread_mails c view u [] ne e = refl
-unread_mails c view u (x ∷ rest) ne e =
-    and-both (is_unread (with_mail c u view) x) (list_all (is_unread (with_mail c u view)) rest)
-    (unread_mail c view u x (grind (arith, ne)) (and-first (is_unread view x) (list_all (is_unread view) rest) e))
-    (unread_mails c view u rest (grind (arith, ne)) (and-second (is_unread view x) (list_all (is_unread view) rest) e))
+    grind (arith, e, none_of_session (λ (x : Message). x.session) u v c.mail ne, any-append (λ (m : Message). m.session.0 == v.0) view.mail (mail_shown c u))
+unread_mail c view u _ ne e = e
 
 pub turn_mail : (c : Cluster) (begun : Begun) (view : View) (u : SessionId) (rest : List Call) → list_all has_no_fault c.models ≡ true → HasMail c
     → IsTurn c (record { left = Mail u ∷ rest; begun = begun; view = view }) → IsTurn c (record { left = rest; begun = begun; view = with_mail c u view })
 turn_mail c begun view u rest sound mail h =
-    let first : is_unread view (Mail u) ≡ true = and-first (is_unread view (Mail u)) (list_all (is_unread view) rest) h.unread in
-    let shown : is_shown view.live u ≡ true = and-first (is_shown view.live u) (not (list_any (λ m. m.session.0 == u.0) view.mail)) first in
-    let none : list_any (λ m. m.session.0 == u.0) view.mail ≡ false = turned (list_any (λ m. m.session.0 == u.0) view.mail) (and-second (is_shown view.live u) (not (list_any (λ m. m.session.0 == u.0) view.mail)) first) in
-    let behind : (is_first Send rest || is_first Post rest) ≡ false = unread_behind (Mail u) rest h.order u (grind (arith, same-self u.0)) in
-    record {
-      epoch = h.epoch;
-      order = order_rest (Mail u) rest h.order;
-      once = rest_once (Mail u) rest h.once;
-      unread = unread_mails c view u rest (call_no_more (Mail u) rest (h.once (Mail u))) (and-second (is_unread view (Mail u)) (list_all (is_unread view) rest) h.unread);
-      nothing = λ e. let both = sym (live_no_more (Mail u) rest h.order) ∙ e in cc;
-      mail_first = λ s e. h.mail_first s (weaker (same_call (Mail s) (Mail u)) (list_any (same_call (Mail s)) rest) e);
-      below = h.below;
-      own = h.own;
-      well_formed = ap (λ (b : Bool). is_well_formed c.models (length c.instances) (if b then with_mail c u view else beside (with_mail c u view) c)) behind
-          ∙ formed_mail c view u sound mail shown none h.well_formed;
-      resources = λ e. let both = sym behind ∙ e in cc;
-      replicas = λ e. let both = sym behind ∙ e in cc;
-    }
-  where
-    turned : (b : Bool) → not b ≡ true → b ≡ false
-    turned true e = cc
-    turned false e = refl
+    let new = both_parts (is_shown view.live u) (list_any (λ m. m.session.0 == u.0) view.mail) (and-first (is_unread view (Mail u)) (list_all (is_unread view) rest) h.unread) in
+    turn_read c begun view (view.mail ++ mail_shown c u) view.rows (Mail u) rest (unread_behind (Mail u) rest h.order u (grind (arith, same-self u.0))) (unread_mail c view u)
+    (λ s e. h.mail_first s (weaker (same_call (Mail s) (Mail u)) (list_any (same_call (Mail s)) rest) e)) (formed_mail c view u sound mail new.0 new.1 h.well_formed) h
 
 -- a session's states are read
-no_row_of_session : (u v : SessionId) (rows : List Row) → (u.0 == v.0) ≡ false → list_any (λ r. r.session.0 == v.0) (filter (λ r. r.session.0 == u.0) rows) ≡ false
-no_row_of_session u v [] ne = refl
-no_row_of_session u v (r ∷ rows) ne = grind (arith, nat_tests, ne, no_row_of_session u v rows ne)
-
-unread_state : (c : Cluster) (view : View) (u : SessionId) (call : Call) → same_call (States u) call ≡ false → is_unread view call ≡ true → is_unread (with_states c u view) call ≡ true
-unread_state c view u Live ne e = refl
-unread_state c view u (Mail v) ne e = e
-unread_state c view u (States v) ne e =
-    let none = no_row_of_session u v c.rows ne in
-    grind (arith, e, none, any-append (λ (r : Row). r.session.0 == v.0) view.rows (states_shown c u))
-unread_state c view u Ideals ne e = refl
-unread_state c view u Send ne e = refl
-unread_state c view u Post ne e = refl
-
-unread_states : (c : Cluster) (view : View) (u : SessionId) (rest : List Call) → list_any (same_call (States u)) rest ≡ false → list_all (is_unread view) rest ≡ true
-    → list_all (is_unread (with_states c u view)) rest ≡ true
-unread_states c view u [] ne e = refl
-unread_states c view u (x ∷ rest) ne e =
-    and-both (is_unread (with_states c u view) x) (list_all (is_unread (with_states c u view)) rest)
-    (unread_state c view u x (grind (arith, ne)) (and-first (is_unread view x) (list_all (is_unread view) rest) e))
-    (unread_states c view u rest (grind (arith, ne)) (and-second (is_unread view x) (list_all (is_unread view) rest) e))
+unread_states : (c : Cluster) (view : View) (u : SessionId) (call : Call) → same_call (States u) call ≡ false → is_unread view call ≡ true → is_unread (with_states c u view) call ≡ true
+unread_states c view u (States v) ne e =
+    grind (arith, e, none_of_session (λ (x : Row). x.session) u v c.rows ne, any-append (λ (r : Row). r.session.0 == v.0) view.rows (states_shown c u))
+unread_states c view u _ ne e = e
 
 pub turn_states : (c : Cluster) (begun : Begun) (view : View) (u : SessionId) (rest : List Call) → HasRows c
     → IsTurn c (record { left = States u ∷ rest; begun = begun; view = view }) → IsTurn c (record { left = rest; begun = begun; view = with_states c u view })
 turn_states c begun view u rest rows h =
-    let first : is_unread view (States u) ≡ true = and-first (is_unread view (States u)) (list_all (is_unread view) rest) h.unread in
-    let shown : is_shown view.live u ≡ true = and-first (is_shown view.live u) (not (list_any (λ r. r.session.0 == u.0) view.rows)) first in
-    let none : list_any (λ r. r.session.0 == u.0) view.rows ≡ false = turned (list_any (λ r. r.session.0 == u.0) view.rows) (and-second (is_shown view.live u) (not (list_any (λ r. r.session.0 == u.0) view.rows)) first) in
-    let behind : (is_first Send rest || is_first Post rest) ≡ false = unread_behind (States u) rest h.order u (grind (arith, same-self u.0)) in
-    record {
-      epoch = h.epoch;
-      order = order_rest (States u) rest h.order;
-      once = rest_once (States u) rest h.once;
-      unread = unread_states c view u rest (call_no_more (States u) rest (h.once (States u))) (and-second (is_unread view (States u)) (list_all (is_unread view) rest) h.unread);
-      nothing = λ e. let both = sym (live_no_more (States u) rest h.order) ∙ e in cc;
-      mail_first = λ s e. let both = sym (no_mail_behind (States u) rest s h.order refl) ∙ e in cc;
-      below = h.below;
-      own = h.own;
-      well_formed = ap (λ (b : Bool). is_well_formed c.models (length c.instances) (if b then with_states c u view else beside (with_states c u view) c)) behind
-          ∙ formed_states c view u rows shown none h.well_formed;
-      resources = λ e. let both = sym behind ∙ e in cc;
-      replicas = λ e. let both = sym behind ∙ e in cc;
-    }
-  where
-    turned : (b : Bool) → not b ≡ true → b ≡ false
-    turned true e = cc
-    turned false e = refl
+    let new = both_parts (is_shown view.live u) (list_any (λ r. r.session.0 == u.0) view.rows) (and-first (is_unread view (States u)) (list_all (is_unread view) rest) h.unread) in
+    turn_read c begun view view.mail (view.rows ++ states_shown c u) (States u) rest (unread_behind (States u) rest h.order u (grind (arith, same-self u.0))) (unread_states c view u)
+    (λ s e. let both = sym (no_mail_behind (States u) rest s h.order refl) ∙ e in cc) (formed_states c view u rows new.0 new.1 h.well_formed) h
 
 -- the ideals are read
 either_way : (c : Cluster) (view : View) (b : Bool) → is_well_formed c.models (length c.instances) (beside view c) ≡ true
@@ -282,42 +262,19 @@ either_way c view false e = e
 
 pub turn_ideals : (c : Cluster) (begun : Begun) (view : View) (rest : List Call) → IsTurn c (record { left = Ideals ∷ rest; begun = begun; view = view })
     → IsTurn c (record { left = rest; begun = begun; view = beside view c })
-turn_ideals c begun view rest h = record {
-  epoch = h.epoch;
-  order = order_rest Ideals rest h.order;
-  once = rest_once Ideals rest h.once;
-  unread = h.unread;
-  nothing = λ e. let both = sym (live_no_more Ideals rest h.order) ∙ e in cc;
-  mail_first = λ s e. let both = sym (no_mail_behind Ideals rest s h.order refl) ∙ e in cc;
-  below = h.below;
-  own = h.own;
-  well_formed = either_way c view (is_first Send rest || is_first Post rest) h.well_formed;
-  resources = λ e. front-self is_same_kind kind-self c.resources;
-  replicas = λ e. front-self has_same_replicas replicas-self c.resources;
-}
+turn_ideals c begun view rest h =
+    turn_rest c begun view view.mail view.rows (ideals_shown c) Ideals rest h.unread (λ s e. let both = sym (no_mail_behind Ideals rest s h.order refl) ∙ e in cc)
+    (either_way c view (is_first Send rest || is_first Post rest) h.well_formed)
+    (λ e. front-self is_same_kind kind-self c.resources) (λ e. front-self has_same_replicas replicas-self c.resources) h
 
 -- the proposals are sent
 post_behind : (rest : List Call) → is_in_order (Send ∷ rest) ≡ true → (is_first Send rest || is_first Post rest) ≡ true
-post_behind [] e = cc
-post_behind (Live ∷ rest) e = cc
-post_behind (Mail s ∷ rest) e = cc
-post_behind (States s ∷ rest) e = cc
-post_behind (Ideals ∷ rest) e = cc
-post_behind (Send ∷ rest) e = cc
 post_behind (Post ∷ rest) e = refl
+post_behind _ e = cc
 
 pub turn_send : (c : Cluster) (begun : Begun) (view : View) (rest : List Call) → IsTurn c (record { left = Send ∷ rest; begun = begun; view = view })
     → IsTurn c (record { left = rest; begun = begun; view = view })
-turn_send c begun view rest h = record {
-  epoch = h.epoch;
-  order = order_rest Send rest h.order;
-  once = rest_once Send rest h.once;
-  unread = h.unread;
-  nothing = λ e. let both = sym (live_no_more Send rest h.order) ∙ e in cc;
-  mail_first = λ s e. let both = sym (no_mail_behind Send rest s h.order refl) ∙ e in cc;
-  below = h.below;
-  own = h.own;
-  well_formed = ap (λ (b : Bool). is_well_formed c.models (length c.instances) (if b then view else beside view c)) (post_behind rest h.order) ∙ h.well_formed;
-  resources = λ e. h.resources refl;
-  replicas = λ e. h.replicas refl;
-}
+turn_send c begun view rest h =
+    turn_rest c begun view view.mail view.rows view.ideals Send rest h.unread (λ s e. let both = sym (no_mail_behind Send rest s h.order refl) ∙ e in cc)
+    (ap (λ (b : Bool). is_well_formed c.models (length c.instances) (if b then view else beside view c)) (post_behind rest h.order) ∙ h.well_formed)
+    (λ e. h.resources refl) (λ e. h.replicas refl) h

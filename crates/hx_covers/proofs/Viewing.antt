@@ -1,5 +1,5 @@
 -- Views that stay well formed as more is shown.
-use Rattle.std.proofs.Common.{◌≡◌, ℕ, ◌≤◌, ◌&&◌, ◌==◌, not, Bool, true, false, List, ◌++◌, length, Option, refl, sym, ap, ◌∙◌, subst, arith}
+use Rattle.std.proofs.Common.{◌≡◌, ℕ, ◌≤◌, ◌&&◌, ◌==◌, not, Bool, true, false, List, ◌++◌, length, Option, refl, sym, ap, ◌∙◌, subst, arith, filter}
 use Rattle.std.specs.Prelude.{nat_lt, nat_le}
 use Rattle.std.specs.List.{list_any, list_all}
 use Rattle.std.specs.Option.{option_map}
@@ -7,11 +7,8 @@ use Rattle.std.proofs.lemmas.Bool.Decides.{nat_tests}
 use Rattle.hx_lists.specs.Lists.{count}
 use Rattle.hx_ids.specs.declared.InstanceId.{InstanceId}
 use Rattle.hx_ids.specs.declared.SessionId.{SessionId}
-use Rattle.hx_ids.specs.declared.PartId.{PartId}
 use Rattle.hx_ids.specs.declared.Live.{Live}
 use Rattle.hx_model.specs.declared.ModelParts.{ModelParts}
-use Rattle.hx_cluster.specs.declared.state.Row.{Row}
-use Rattle.hx_cluster.specs.declared.state.Message.{Message}
 use Rattle.hx_cluster.specs.declared.state.Cluster.{Cluster}
 use Rattle.hx_cluster.specs.declared.planning.View.{View}
 use Rattle.hx_cluster.specs.Ends.{part_eq, is_row, is_message, is_session, is_shown, shown_of, instance_in}
@@ -25,7 +22,7 @@ use Rattle.hx_safe.proofs.Counting.{and-both, and-six, and-first, and-second, co
 use Rattle.hx_safe.proofs.Ends.{session_same, same-self, part_eq-self}
 use Rattle.hx_safe.proofs.Fixed.{IsFixed}
 use Rattle.hx_runs.specs.Onward.{IsOn}
-use Rattle.hx_covers.proofs.Fits.{message_fits, message_once, message_good, row_fits, row_once, row_good, message_on, row_on, pending_fits, kept_fits, resource_good}
+use Rattle.hx_covers.proofs.Fits.{message_fits, message_once, message_good, row_fits, row_once, row_good, message_on, row_on, pending_fits, kept_fits, resource_good, FitsMessage, FitsRow}
 use Rattle.hx_covers.proofs.Sorting.{count-sort, all-sort, find-sort, each_there, exactly, all-passed, none-all}
 
 -- the parts of a well-formed view
@@ -101,54 +98,56 @@ formed_nothing c ranged = well_formed c.models (length c.instances) (beside noth
   resources = good_shown c ranged;
 })
 
+-- where no item of a session was there and those of it that are kept come, once each, all are good: those that were there, and those that come
+old_good : {X : Type 0} (Fits : X → Type 0) (it : X → X → Bool) (at good new : X → Bool) (xs ys : List X) → ((x y : X) → not (at x) ≡ true → at y ≡ true → it x y ≡ false)
+    → ((x : X) → good x ≡ true → Fits x) → ((x : X) → good x ≡ true → (count (it x) xs == 1) ≡ true)
+    → ((x : X) → Fits x → (count (it x) (xs ++ filter at ys) == 1) ≡ true → new x ≡ true) → list_any at xs ≡ false → list_all good xs ≡ true → list_all new xs ≡ true
+old_good {X} Fits it at good new xs ys apart fits single make unread all =
+    all-le (λ x. good x && not (at x)) new (λ x e. each x (and-first (good x) (not (at x)) e) (and-second (good x) (not (at x)) e)) xs
+    (all-both good (λ x. not (at x)) xs all (none-all at xs unread))
+  where
+    each : (x : X) → good x ≡ true → not (at x) ≡ true → new x ≡ true
+    each x e ne =
+        let none : count (it x) (filter at ys) ≡ 0 = count-none (it x) (filter at ys) (none-from-all at (it x) (λ y here. apart x y ne here) (filter at ys) (all-passed at ys)) in
+        let once = single x e in
+        let more = count-append (it x) xs (filter at ys) in
+        make x (fits x e) (grind (arith, nat_tests, none, once, more))
+
+new_good : {X : Type 0} (Fits : X → Type 0) (it : X → X → Bool) (at kept new : X → Bool) (xs ys : List X) → ((x y : X) → at x ≡ true → not (at y) ≡ true → it x y ≡ false)
+    → ((x : X) → it x x ≡ true) → ((x : X) → count (it x) ys ≤ 1) → ((x : X) → kept x ≡ true → at x ≡ true → Fits x)
+    → ((x : X) → Fits x → (count (it x) (xs ++ filter at ys) == 1) ≡ true → new x ≡ true) → list_all kept ys ≡ true → list_any at xs ≡ false → list_all new (filter at ys) ≡ true
+new_good {X} Fits it at kept new xs ys apart self single fits make all unread =
+    all-le (λ x. (kept x && at x) && list_any (it x) (filter at ys)) new
+    (λ x e. one x (and-first (kept x && at x) (list_any (it x) (filter at ys)) e) (and-second (kept x && at x) (list_any (it x) (filter at ys)) e)) (filter at ys)
+    (all-both (λ x. kept x && at x) (λ x. list_any (it x) (filter at ys)) (filter at ys)
+    (all-both kept at (filter at ys) (all-filter kept at ys all) (all-passed at ys)) (each_there it self (filter at ys)))
+  where
+    one : (x : X) → (kept x && at x) ≡ true → list_any (it x) (filter at ys) ≡ true → new x ≡ true
+    one x both there =
+        let here = and-second (kept x) (at x) both in
+        let few = count-filter (it x) at ys in
+        let low : count (it x) (filter at ys) ≤ 1 = grind (arith, few, single x) in
+        let once = exactly (it x) (filter at ys) there low in
+        let none : count (it x) xs ≡ 0 = count-none (it x) xs (none-from-all (λ y. not (at y)) (it x) (λ y ne. apart x y here ne) xs (none-all at xs unread)) in
+        let more = count-append (it x) xs (filter at ys) in
+        make x (fits x (and-first (kept x) (at x) both) here) (grind (arith, nat_tests, none, once, more))
+
+all_good : {X : Type 0} (Fits : X → Type 0) (it : X → X → Bool) (at good kept new : X → Bool) (xs ys : List X) → ((x y : X) → not (at x) ≡ true → at y ≡ true → it x y ≡ false)
+    → ((x y : X) → at x ≡ true → not (at y) ≡ true → it x y ≡ false) → ((x : X) → it x x ≡ true) → ((x : X) → good x ≡ true → (count (it x) xs == 1) ≡ true)
+    → ((x : X) → count (it x) ys ≤ 1) → ((x : X) → good x ≡ true → Fits x) → ((x : X) → kept x ≡ true → at x ≡ true → Fits x)
+    → ((x : X) → Fits x → (count (it x) (xs ++ filter at ys) == 1) ≡ true → new x ≡ true)
+    → list_any at xs ≡ false → list_all good xs ≡ true → list_all kept ys ≡ true → list_all new (xs ++ filter at ys) ≡ true
+all_good Fits it at good kept new xs ys before behind self once few fits comes make unread old all =
+    all-append new xs (filter at ys)
+    ∙ and-both (list_all new xs) (list_all new (filter at ys)) (old_good Fits it at good new xs ys before fits once make unread old)
+    (new_good Fits it at kept new xs ys behind self few comes make all unread)
+
+shown_at : (live : List (SessionId × InstanceId)) (u s : SessionId) → is_shown live s ≡ true → (u.0 == s.0) ≡ true → is_shown live u ≡ true
+shown_at live u s shown at = subst (λ (v : SessionId). is_shown live v ≡ true) (sym (session_same u s at)) shown
+
 -- the mail of a shown session
 abbrev pub with_mail : Cluster → SessionId → View → View
 with_mail c s view = record view { mail = view.mail ++ mail_shown c s }
-
-other_session : (s : SessionId) (m : Message) (p : PartId) (x : Message) → not (m.session.0 == s.0) ≡ true → (x.session.0 == s.0) ≡ true → is_message m.session p x ≡ false
-other_session s m p x ne at = grind (arith, nat_tests, ne, at)
-
-mail_old : (c : Cluster) (view : View) (s : SessionId) → list_any (λ m. m.session.0 == s.0) view.mail ≡ false
-    → list_all (is_good_message c.models (beside view c)) view.mail ≡ true → list_all (is_good_message c.models (beside (with_mail c s view) c)) view.mail ≡ true
-mail_old c view s unread good =
-    all-le (λ m. is_good_message c.models (beside view c) m && not (m.session.0 == s.0)) (is_good_message c.models (beside (with_mail c s view) c))
-    (λ m e. each m (and-first (is_good_message c.models (beside view c) m) (not (m.session.0 == s.0)) e) (and-second (is_good_message c.models (beside view c) m) (not (m.session.0 == s.0)) e))
-    view.mail (all-both (is_good_message c.models (beside view c)) (λ m. not (m.session.0 == s.0)) view.mail good (none-all (λ m. m.session.0 == s.0) view.mail unread))
-  where
-    each : (m : Message) → is_good_message c.models (beside view c) m ≡ true → not (m.session.0 == s.0) ≡ true → is_good_message c.models (beside (with_mail c s view) c) m ≡ true
-    each m e ne =
-        let none : count (is_message m.session m.part) (mail_shown c s) ≡ 0 = count-none (is_message m.session m.part) (mail_shown c s)
-        (none-from-all (λ x. x.session.0 == s.0) (is_message m.session m.part) (λ x at. other_session s m m.part x ne at) (mail_shown c s) (all-passed (λ x. x.session.0 == s.0) c.mail)) in
-        let once = message_once c.models (beside view c) m e in
-        let more = count-append (is_message m.session m.part) view.mail (mail_shown c s) in
-        message_good c.models (beside (with_mail c s view) c) m (message_fits c.models (beside view c) m e) (grind (arith, nat_tests, none, once, more))
-
-mail_new : (c : Cluster) (view : View) (s : SessionId) → list_all has_no_fault c.models ≡ true → HasMail c → is_shown view.live s ≡ true
-    → list_any (λ m. m.session.0 == s.0) view.mail ≡ false → list_all (is_good_message c.models (beside (with_mail c s view) c)) (mail_shown c s) ≡ true
-mail_new c view s sound mail shown unread =
-    all-le (λ m. (is_pending c m && (m.session.0 == s.0)) && list_any (is_message m.session m.part) (mail_shown c s)) (is_good_message c.models (beside (with_mail c s view) c))
-    (λ m e. one m (and-first (is_pending c m && (m.session.0 == s.0)) (list_any (is_message m.session m.part) (mail_shown c s)) e)
-    (and-second (is_pending c m && (m.session.0 == s.0)) (list_any (is_message m.session m.part) (mail_shown c s)) e))
-    (mail_shown c s)
-    (all-both (λ m. is_pending c m && (m.session.0 == s.0)) (λ m. list_any (is_message m.session m.part) (mail_shown c s)) (mail_shown c s)
-    (all-both (is_pending c) (λ m. m.session.0 == s.0) (mail_shown c s) (all-filter (is_pending c) (λ m. m.session.0 == s.0) c.mail mail.pending) (all-passed (λ m. m.session.0 == s.0) c.mail))
-    (each_there (λ m. is_message m.session m.part) (λ m. and-both (m.session.0 == m.session.0) (part_eq m.part m.part) (same-self m.session.0) (part_eq-self m.part)) (mail_shown c s)))
-  where
-    each : (m : Message) → is_pending c m ≡ true → (m.session.0 == s.0) ≡ true → list_any (is_message m.session m.part) (mail_shown c s) ≡ true
-        → is_good_message c.models (beside (with_mail c s view) c) m ≡ true
-    each m pending at there =
-        let live : is_shown view.live m.session ≡ true = subst (λ (u : SessionId). is_shown view.live u ≡ true) (sym (session_same m.session s at)) shown in
-        let few = count-filter (is_message m.session m.part) (λ x. x.session.0 == s.0) c.mail in
-        let single : count (is_message m.session m.part) (mail_shown c s) ≤ 1 = grind (arith, few, mail.single m.session m.part) in
-        let once = exactly (is_message m.session m.part) (mail_shown c s) there single in
-        let none : count (is_message m.session m.part) view.mail ≡ 0 = count-none (is_message m.session m.part) view.mail
-        (none-from-all (λ x. not (x.session.0 == s.0)) (is_message m.session m.part) (λ x ne. grind (arith, nat_tests, ne, at)) view.mail (none-all (λ x. x.session.0 == s.0) view.mail unread)) in
-        let more = count-append (is_message m.session m.part) view.mail (mail_shown c s) in
-        message_good c.models (beside (with_mail c s view) c) m (pending_fits c view.live m sound live pending) (grind (arith, nat_tests, none, once, more))
-
-    one : (m : Message) → (is_pending c m && (m.session.0 == s.0)) ≡ true → list_any (is_message m.session m.part) (mail_shown c s) ≡ true
-        → is_good_message c.models (beside (with_mail c s view) c) m ≡ true
-    one m both there = each m (and-first (is_pending c m) (m.session.0 == s.0) both) (and-second (is_pending c m) (m.session.0 == s.0) both) there
 
 pub formed_mail : (c : Cluster) (view : View) (s : SessionId) → list_all has_no_fault c.models ≡ true → HasMail c → is_shown view.live s ≡ true
     → list_any (λ m. m.session.0 == s.0) view.mail ≡ false → is_well_formed c.models (length c.instances) (beside view c) ≡ true
@@ -157,9 +156,11 @@ formed_mail c view s sound mail shown unread e =
     let g = good_view c.models (length c.instances) (beside view c) e in
     well_formed c.models (length c.instances) (beside (with_mail c s view) c) (record {
       sessions = g.sessions;
-      mail = all-append (is_good_message c.models (beside (with_mail c s view) c)) view.mail (mail_shown c s)
-          ∙ and-both (list_all (is_good_message c.models (beside (with_mail c s view) c)) view.mail) (list_all (is_good_message c.models (beside (with_mail c s view) c)) (mail_shown c s))
-          (mail_old c view s unread g.mail) (mail_new c view s sound mail shown unread);
+      mail = all_good (FitsMessage c.models view.live c.resources) (λ m. is_message m.session m.part) (λ m. m.session.0 == s.0) (is_good_message c.models (beside view c)) (is_pending c)
+          (is_good_message c.models (beside (with_mail c s view) c)) view.mail c.mail (λ m x ne at. grind (arith, nat_tests, ne, at)) (λ m x at ne. grind (arith, nat_tests, ne, at))
+          (λ m. and-both (m.session.0 == m.session.0) (part_eq m.part m.part) (same-self m.session.0) (part_eq-self m.part)) (message_once c.models (beside view c))
+          (λ m. mail.single m.session m.part) (message_fits c.models (beside view c)) (λ m pending at. pending_fits c view.live m sound (shown_at view.live m.session s shown at) pending)
+          (message_good c.models (beside (with_mail c s view) c)) unread g.mail mail.pending;
       rows = g.rows;
       few = g.few;
       drained = g.drained;
@@ -170,51 +171,6 @@ formed_mail c view s sound mail shown unread e =
 abbrev pub with_states : Cluster → SessionId → View → View
 with_states c s view = record view { rows = view.rows ++ states_shown c s }
 
-other_row : (s : SessionId) (r : Row) (p : PartId) (x : Row) → not (r.session.0 == s.0) ≡ true → (x.session.0 == s.0) ≡ true → is_row r.session p x ≡ false
-other_row s r p x ne at = grind (arith, nat_tests, ne, at)
-
-rows_old : (c : Cluster) (view : View) (s : SessionId) → list_any (λ r. r.session.0 == s.0) view.rows ≡ false
-    → list_all (is_good_row c.models (beside view c)) view.rows ≡ true → list_all (is_good_row c.models (beside (with_states c s view) c)) view.rows ≡ true
-rows_old c view s unread good =
-    all-le (λ r. is_good_row c.models (beside view c) r && not (r.session.0 == s.0)) (is_good_row c.models (beside (with_states c s view) c))
-    (λ r e. each r (and-first (is_good_row c.models (beside view c) r) (not (r.session.0 == s.0)) e) (and-second (is_good_row c.models (beside view c) r) (not (r.session.0 == s.0)) e))
-    view.rows (all-both (is_good_row c.models (beside view c)) (λ r. not (r.session.0 == s.0)) view.rows good (none-all (λ r. r.session.0 == s.0) view.rows unread))
-  where
-    each : (r : Row) → is_good_row c.models (beside view c) r ≡ true → not (r.session.0 == s.0) ≡ true → is_good_row c.models (beside (with_states c s view) c) r ≡ true
-    each r e ne =
-        let none : count (is_row r.session r.part) (states_shown c s) ≡ 0 = count-none (is_row r.session r.part) (states_shown c s)
-        (none-from-all (λ x. x.session.0 == s.0) (is_row r.session r.part) (λ x at. other_row s r r.part x ne at) (states_shown c s) (all-passed (λ x. x.session.0 == s.0) c.rows)) in
-        let once = row_once c.models (beside view c) r e in
-        let more = count-append (is_row r.session r.part) view.rows (states_shown c s) in
-        row_good c.models (beside (with_states c s view) c) r (row_fits c.models (beside view c) r e) (grind (arith, nat_tests, none, once, more))
-
-rows_new : (c : Cluster) (view : View) (s : SessionId) → HasRows c → is_shown view.live s ≡ true
-    → list_any (λ r. r.session.0 == s.0) view.rows ≡ false → list_all (is_good_row c.models (beside (with_states c s view) c)) (states_shown c s) ≡ true
-rows_new c view s rows shown unread =
-    all-le (λ r. (is_kept c r && (r.session.0 == s.0)) && list_any (is_row r.session r.part) (states_shown c s)) (is_good_row c.models (beside (with_states c s view) c))
-    (λ r e. one r (and-first (is_kept c r && (r.session.0 == s.0)) (list_any (is_row r.session r.part) (states_shown c s)) e)
-    (and-second (is_kept c r && (r.session.0 == s.0)) (list_any (is_row r.session r.part) (states_shown c s)) e))
-    (states_shown c s)
-    (all-both (λ r. is_kept c r && (r.session.0 == s.0)) (λ r. list_any (is_row r.session r.part) (states_shown c s)) (states_shown c s)
-    (all-both (is_kept c) (λ r. r.session.0 == s.0) (states_shown c s) (all-filter (is_kept c) (λ r. r.session.0 == s.0) c.rows rows.kept) (all-passed (λ r. r.session.0 == s.0) c.rows))
-    (each_there (λ r. is_row r.session r.part) (λ r. and-both (r.session.0 == r.session.0) (part_eq r.part r.part) (same-self r.session.0) (part_eq-self r.part)) (states_shown c s)))
-  where
-    each : (r : Row) → is_kept c r ≡ true → (r.session.0 == s.0) ≡ true → list_any (is_row r.session r.part) (states_shown c s) ≡ true
-        → is_good_row c.models (beside (with_states c s view) c) r ≡ true
-    each r kept at there =
-        let live : is_shown view.live r.session ≡ true = subst (λ (u : SessionId). is_shown view.live u ≡ true) (sym (session_same r.session s at)) shown in
-        let few = count-filter (is_row r.session r.part) (λ x. x.session.0 == s.0) c.rows in
-        let single : count (is_row r.session r.part) (states_shown c s) ≤ 1 = grind (arith, few, rows.single r.session r.part) in
-        let once = exactly (is_row r.session r.part) (states_shown c s) there single in
-        let none : count (is_row r.session r.part) view.rows ≡ 0 = count-none (is_row r.session r.part) view.rows
-        (none-from-all (λ x. not (x.session.0 == s.0)) (is_row r.session r.part) (λ x ne. grind (arith, nat_tests, ne, at)) view.rows (none-all (λ x. x.session.0 == s.0) view.rows unread)) in
-        let more = count-append (is_row r.session r.part) view.rows (states_shown c s) in
-        row_good c.models (beside (with_states c s view) c) r (kept_fits c view.live r live kept) (grind (arith, nat_tests, none, once, more))
-
-    one : (r : Row) → (is_kept c r && (r.session.0 == s.0)) ≡ true → list_any (is_row r.session r.part) (states_shown c s) ≡ true
-        → is_good_row c.models (beside (with_states c s view) c) r ≡ true
-    one r both there = each r (and-first (is_kept c r) (r.session.0 == s.0) both) (and-second (is_kept c r) (r.session.0 == s.0) both) there
-
 pub formed_states : (c : Cluster) (view : View) (s : SessionId) → HasRows c → is_shown view.live s ≡ true
     → list_any (λ r. r.session.0 == s.0) view.rows ≡ false → is_well_formed c.models (length c.instances) (beside view c) ≡ true
     → is_well_formed c.models (length c.instances) (beside (with_states c s view) c) ≡ true
@@ -223,9 +179,11 @@ formed_states c view s rows shown unread e =
     well_formed c.models (length c.instances) (beside (with_states c s view) c) (record {
       sessions = g.sessions;
       mail = g.mail;
-      rows = all-append (is_good_row c.models (beside (with_states c s view) c)) view.rows (states_shown c s)
-          ∙ and-both (list_all (is_good_row c.models (beside (with_states c s view) c)) view.rows) (list_all (is_good_row c.models (beside (with_states c s view) c)) (states_shown c s))
-          (rows_old c view s unread g.rows) (rows_new c view s rows shown unread);
+      rows = all_good (FitsRow c.models view.live c.resources) (λ r. is_row r.session r.part) (λ r. r.session.0 == s.0) (is_good_row c.models (beside view c)) (is_kept c)
+          (is_good_row c.models (beside (with_states c s view) c)) view.rows c.rows (λ r x ne at. grind (arith, nat_tests, ne, at)) (λ r x at ne. grind (arith, nat_tests, ne, at))
+          (λ r. and-both (r.session.0 == r.session.0) (part_eq r.part r.part) (same-self r.session.0) (part_eq-self r.part)) (row_once c.models (beside view c))
+          (λ r. rows.single r.session r.part) (row_fits c.models (beside view c)) (λ r kept at. kept_fits c view.live r (shown_at view.live r.session s shown at) kept)
+          (row_good c.models (beside (with_states c s view) c)) unread g.rows rows.kept;
       few = g.few;
       drained = g.drained;
       resources = g.resources;

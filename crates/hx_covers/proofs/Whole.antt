@@ -18,7 +18,7 @@ use Rattle.hx_cluster.specs.Safe.{HasMail, HasRows, HasSessions}
 use Rattle.hx_cluster.specs.Valid.{has_no_fault, IsValid}
 use Rattle.hx_cluster.specs.Ranged.{IsRanged}
 use Rattle.hx_cluster.specs.Views.{is_well_formed}
-use Rattle.hx_pass.specs.Turns.{Call, Live, Mail, States, Ideals, Send, Post, Turn, is_first, is_due, is_of_epoch, idle_turn, begun_turn, with_live, gone_on, if_due, when_own, turn_after, turn_from, turn_of, view_of}
+use Rattle.hx_pass.specs.Turns.{Call, Live, Mail, States, Ideals, Send, Turn, is_first, is_due, is_of_epoch, idle_turn, begun_turn, with_live, gone_on, if_due, when_own, turn_after, turn_from, turn_of, view_of}
 use Rattle.hx_safe.proofs.Counting.{and-first}
 use Rattle.hx_safe.proofs.Ends.{session_same}
 use Rattle.hx_safe.proofs.Fixed.{IsFixed, fixed_self, fixed_both, fixed_next}
@@ -40,59 +40,34 @@ record IsGround (c : Cluster) : Type 0 where
 -- a call that is due
 due_live : (c : Cluster) (begun : Begun) (view : View) (left : List Call) → IsGround c → IsTurn c (record { left = left; begun = begun; view = view }) → is_first Live left ≡ true
     → IsTurn c (with_live c (record { left = left; begun = begun; view = view }))
-due_live c begun view [] g h e = cc
-due_live c begun view (Mail s ∷ rest) g h e = cc
-due_live c begun view (States s ∷ rest) g h e = cc
-due_live c begun view (Ideals ∷ rest) g h e = cc
-due_live c begun view (Send ∷ rest) g h e = cc
-due_live c begun view (Post ∷ rest) g h e = cc
 due_live c begun view (Live ∷ rest) g h e =
     subst (λ (v : View). IsTurn c (with_live c (record { left = Live ∷ rest; begun = begun; view = v }))) (sym (h.nothing refl))
     (turn_live c begun h.epoch g.ranged g.sessions)
+due_live c begun view _ g h e = cc
 
 due_mail : (c : Cluster) (begun : Begun) (view : View) (left : List Call) (s : SessionId) → IsGround c → IsTurn c (record { left = left; begun = begun; view = view }) → is_first (Mail s) left ≡ true
     → IsTurn c (gone_on (record { left = left; begun = begun; view = view }) (with_mail c s view))
-due_mail c begun view [] s g h e = cc
-due_mail c begun view (Live ∷ rest) s g h e = cc
-due_mail c begun view (States u ∷ rest) s g h e = cc
-due_mail c begun view (Ideals ∷ rest) s g h e = cc
-due_mail c begun view (Send ∷ rest) s g h e = cc
-due_mail c begun view (Post ∷ rest) s g h e = cc
 due_mail c begun view (Mail u ∷ rest) s g h e =
     subst (λ (v : SessionId). IsTurn c (gone_on (record { left = Mail u ∷ rest; begun = begun; view = view }) (with_mail c v view))) (session_same u s e)
     (turn_mail c begun view u rest g.sound g.mail h)
+due_mail c begun view _ s g h e = cc
 
 due_states : (c : Cluster) (begun : Begun) (view : View) (left : List Call) (s : SessionId) → IsGround c → IsTurn c (record { left = left; begun = begun; view = view }) → is_first (States s) left ≡ true
     → IsTurn c (gone_on (record { left = left; begun = begun; view = view }) (with_states c s view))
-due_states c begun view [] s g h e = cc
-due_states c begun view (Live ∷ rest) s g h e = cc
-due_states c begun view (Mail u ∷ rest) s g h e = cc
-due_states c begun view (Ideals ∷ rest) s g h e = cc
-due_states c begun view (Send ∷ rest) s g h e = cc
-due_states c begun view (Post ∷ rest) s g h e = cc
 due_states c begun view (States u ∷ rest) s g h e =
     subst (λ (v : SessionId). IsTurn c (gone_on (record { left = States u ∷ rest; begun = begun; view = view }) (with_states c v view))) (session_same u s e)
     (turn_states c begun view u rest g.rows h)
+due_states c begun view _ s g h e = cc
 
 due_ideals : (c : Cluster) (begun : Begun) (view : View) (left : List Call) → IsTurn c (record { left = left; begun = begun; view = view }) → is_first Ideals left ≡ true
     → IsTurn c (gone_on (record { left = left; begun = begun; view = view }) (beside view c))
-due_ideals c begun view [] h e = cc
-due_ideals c begun view (Live ∷ rest) h e = cc
-due_ideals c begun view (Mail u ∷ rest) h e = cc
-due_ideals c begun view (States u ∷ rest) h e = cc
-due_ideals c begun view (Send ∷ rest) h e = cc
-due_ideals c begun view (Post ∷ rest) h e = cc
 due_ideals c begun view (Ideals ∷ rest) h e = turn_ideals c begun view rest h
+due_ideals c begun view _ h e = cc
 
 due_send : (c : Cluster) (begun : Begun) (view : View) (left : List Call) → IsTurn c (record { left = left; begun = begun; view = view }) → is_first Send left ≡ true
     → IsTurn c (gone_on (record { left = left; begun = begun; view = view }) view)
-due_send c begun view [] h e = cc
-due_send c begun view (Live ∷ rest) h e = cc
-due_send c begun view (Mail u ∷ rest) h e = cc
-due_send c begun view (States u ∷ rest) h e = cc
-due_send c begun view (Ideals ∷ rest) h e = cc
-due_send c begun view (Post ∷ rest) h e = cc
 due_send c begun view (Send ∷ rest) h e = turn_send c begun view rest h
+due_send c begun view _ h e = cc
 
 -- a call of one's own that is due or not, and one of another
 own : (c : Cluster) (k j : ControllerId) (t after : Turn) → IsTurn c t → IsTurn c after → IsTurn c (when_own k j t after)

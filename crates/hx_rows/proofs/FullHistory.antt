@@ -1,6 +1,6 @@
 -- A history that may weigh thirteen: the dispatch of the third line finds no room. A run ends there, with what was printed before; a
 -- world goes on with its next line, and finds the turn as the third line left it.
-use Rattle.std.specs.Prelude.{◌≡◌, ℕ, List, [], ◌∷◌, ◌++◌, take, drop, codes}
+use Rattle.std.specs.Prelude.{◌≡◌, List, ◌++◌, take, drop, codes}
 use Rattle.std.specs.Fmt.{digits}
 use Rattle.std.proofs.Common.{refl}
 use Rattle.hx_script.specs.declared.Line.{Line}

@@ -5,23 +5,13 @@ use Rattle.std.proofs.Common.{refl}
 use Rattle.hx_cluster.specs.declared.description.Spec.{Spec}
 use Rattle.hx_model.specs.declared.Bound.TheVariants as bounds
 use Rattle.hx_cluster.specs.declared.description.Scope.TheVariants as scopes
-use Rattle.hx_rows.proofs.Fixtures.{built_in, built_in_states, built_in_names, bare, own_model, by_lists, by_maps, taken_in_turn, rule, output}
+use Rattle.hx_rows.proofs.Fixtures.{built_in, built_in_states, built_in_names, bare, own_model, by_lists, by_maps, taken_in_turn, rule, output, one_asked, one_list, pass_of_one, three_named}
 
 -- a message is delivered while it is accepted, and after it was acknowledged
-abbrev repeat_spec : Spec
-repeat_spec = record bare {
-  resource_names = codes "db" ∷ [];
-  resources = by_lists 0 0 3 ((0 ∷ 1 ∷ 2 ∷ []) ∷ []) ∷ [];
-}
-
-pub repeat : output repeat_spec (
+pub repeat : output one_list (
     codes "join n1\nlead c1\npass c1\nfetch n1\ndeliver n1 m1\ndeliver n1 m1\ntake n1 m1\n"
     ++ codes "write n1 m1\nack n1 m1\ndeliver n1 m1\n")
-    ≡ codes "line 1\njoin n1 s1\n"
-    ++ codes "line 2\nlead c1 e1\n"
-    ++ codes "line 3\nbegin c1 e1 p1\nlive c1 p1\nmail c1 p1 s1\nstates c1 p1 s1\n"
-    ++ codes "ideals c1 p1\nsend c1 e1 p1\n  sent m1 s1 db#0/0 OFFLINE>SLAVE\n? c1 sent 1\n"
-    ++ codes "post c1 e1 0\n"
+    ≡ one_asked
     ++ codes "line 4\nfetch n1 s1 1\n"
     ++ codes "line 5\n? n1 accept m1\n"
     ++ codes "line 6\n! 6 running m1\n"
@@ -33,32 +23,22 @@ unfolding digits
 repeat = refl
 
 -- a resource is dropped, and its name is free once no replica holds it
-abbrev drop_add_spec : Spec
-drop_add_spec = record bare {
-  resource_names = codes "db" ∷ [];
-  resources = by_lists 0 0 3 ((0 ∷ 1 ∷ 2 ∷ []) ∷ []) ∷ [];
-}
-
-pub drop_add : output drop_add_spec (
+pub drop_add : output one_list (
     codes "join n1\nlead c1\npass c1\ndrop db\nadd db MasterSlave 3 1 SEMI_AUTO\nsettle\n"
     ++ codes "add db MasterSlave 3 1 SEMI_AUTO\n")
-    ≡ codes "line 1\njoin n1 s1\n"
-    ++ codes "line 2\nlead c1 e1\n"
-    ++ codes "line 3\nbegin c1 e1 p1\nlive c1 p1\nmail c1 p1 s1\nstates c1 p1 s1\n"
-    ++ codes "ideals c1 p1\nsend c1 e1 p1\n  sent m1 s1 db#0/0 OFFLINE>SLAVE\n? c1 sent 1\n"
-    ++ codes "post c1 e1 0\n"
+    ≡ one_asked
     ++ codes "line 4\ndrop db#0\n"
     ++ codes "line 5\n! 5 name-in-use 0\n"
-    ++ codes "line 6\nbegin c1 e1 p3\nlive c1 p3\nmail c1 p3 s1\nstates c1 p3 s1\n"
-    ++ codes "ideals c1 p3\nsend c1 e1 p3\npost c1 e1 0\nfetch n1 s1 1\ntake s1 m1\n"
-    ++ codes "write s1 m1 ok\nack s1 m1\nbegin c1 e1 p5\nlive c1 p5\nmail c1 p5 s1\n"
-    ++ codes "states c1 p5 s1\nideals c1 p5\nsend c1 e1 p5\n"
+    ++ codes "line 6\n" ++ pass_of_one (codes "p3")
+    ++ codes "post c1 e1 0\nfetch n1 s1 1\ntake s1 m1\nwrite s1 m1 ok\nack s1 m1\n"
+    ++ pass_of_one (codes "p5")
     ++ codes "  sent m2 s1 db#0/0 SLAVE>OFFLINE\npost c1 e1 1\nfetch n1 s1 1\ntake s1 m2\n"
-    ++ codes "write s1 m2 ok\nack s1 m2\nbegin c1 e1 p7\nlive c1 p7\nmail c1 p7 s1\n"
-    ++ codes "states c1 p7 s1\nideals c1 p7\nsend c1 e1 p7\n"
+    ++ codes "write s1 m2 ok\nack s1 m2\n"
+    ++ pass_of_one (codes "p7")
     ++ codes "  sent m3 s1 db#0/0 OFFLINE>DROPPED\npost c1 e1 1\nfetch n1 s1 1\ntake s1 m3\n"
-    ++ codes "write s1 m3 ok\nack s1 m3\nbegin c1 e1 p9\nlive c1 p9\nmail c1 p9 s1\n"
-    ++ codes "states c1 p9 s1\nideals c1 p9\nsend c1 e1 p9\npost c1 e1 0\n? settle c1 4\n"
+    ++ codes "write s1 m3 ok\nack s1 m3\n"
+    ++ pass_of_one (codes "p9")
+    ++ codes "post c1 e1 0\n? settle c1 4\n"
     ++ codes "line 7\nadd db#1 MasterSlave 3 1 SEMI_AUTO\n= db#1/0 -\n"
 unfolding digits
 drop_add = refl
@@ -197,19 +177,16 @@ repeats_and_death = refl
 
 -- throttles, an expired session, and a message that comes to an instance without a session
 abbrev wrong_session_spec : Spec
-wrong_session_spec = record bare {
+wrong_session_spec = record three_named {
   instances = codes "n0" ∷ codes "n1" ∷ codes "n2" ∷ codes "n3" ∷ codes "n7" ∷ [];
   states = built_in_states ++ codes "Z" ∷ codes "X" ∷ [];
-  resource_names = codes "db0" ∷ codes "db1" ∷ codes "db2" ∷ [];
-  model_names = built_in_names ++ codes "M0" ∷ codes "M1" ∷ [];
   models = built_in ++ own_model 8 ((8, bounds.Free) ∷ (9, bounds.Count 1) ∷ (4, bounds.Live)
       ∷ (3, bounds.Count 1) ∷ []) ((8, 4) ∷ (3, 9) ∷ (8, 9) ∷ (4, 8) ∷ (8, 3) ∷ (9, 4) ∷ (8, 1)
       ∷ (4, 9) ∷ (9, 8) ∷ (4, 3) ∷ (9, 3) ∷ (3, 4) ∷ [])
       ∷ own_model 2 ((9, bounds.Free) ∷ (4, bounds.Count 1) ∷ (3, bounds.Free) ∷ (2, bounds.Free)
       ∷ []) ((4, 2) ∷ (2, 1) ∷ (9, 4) ∷ (2, 3) ∷ (9, 3) ∷ (9, 2) ∷ (3, 2) ∷ (3, 9) ∷ (4, 3)
       ∷ (2, 9) ∷ (3, 4) ∷ (4, 9) ∷ (2, 4) ∷ []) ∷ [];
-  rules = rule scopes.Cluster None 2
-      ∷ rule scopes.Instance None 3
+  rules = rule scopes.Cluster None 2 ∷ rule scopes.Instance None 3
       ∷ rule scopes.Cluster None 3 ∷ [];
   resources = by_maps 0 4 4 (((1, 4) ∷ (3, 2) ∷ (0, 4) ∷ []) ∷ [])
       ∷ by_maps 1 4 1 (((4, 9) ∷ (2, 2) ∷ []) ∷ ((2, 2) ∷ (4, 9) ∷ (0, 9) ∷ (3, 9) ∷ (1, 2) ∷ [])
@@ -260,10 +237,8 @@ one_instance_spec = record bare {
   models = built_in ++ own_model 5 ((5, bounds.Free) ∷ []) ((5, 1) ∷ [])
       ∷ own_model 3 ((3, bounds.Free) ∷ []) ((3, 1) ∷ []) ∷ [];
   controllers = 3;
-  rules = rule scopes.Cluster None 1
-      ∷ rule scopes.Cluster None 2 ∷ [];
-  resources = by_maps 0 1 1 ([] ∷ [] ∷ [])
-      ∷ by_maps 1 2 2 (((0, 7) ∷ []) ∷ []) ∷ [];
+  rules = rule scopes.Cluster None 1 ∷ rule scopes.Cluster None 2 ∷ [];
+  resources = by_maps 0 1 1 ([] ∷ [] ∷ []) ∷ by_maps 1 2 2 (((0, 7) ∷ []) ∷ []) ∷ [];
 }
 
 pub one_instance : output one_instance_spec (
@@ -284,9 +259,8 @@ pub one_instance : output one_instance_spec (
     ++ codes "line 8\n! 8 no-part 1\n"
     ++ codes "line 9\n! 9 led-by c1 e1\n"
     ++ codes "line 10\n! 10 out-of-turn begin\n"
-    ++ codes "line 11\nbegin c1 e1 p3\nlive c1 p3\nmail c1 p3 s1\nstates c1 p3 s1\n"
-    ++ codes "ideals c1 p3\nsend c1 e1 p3\n  sent m1 s1 db1#1/0 OFFLINE>STANDBY\n"
-    ++ codes "? c1 sent 1\npost c1 e1 0\n"
+    ++ codes "line 11\n" ++ pass_of_one (codes "p3")
+    ++ codes "  sent m1 s1 db1#1/0 OFFLINE>STANDBY\n? c1 sent 1\npost c1 e1 0\n"
     ++ codes "line 12\nfetch n2 s1 1\n"
     ++ codes "line 13\nfetch n2 s1 1\ntake s1 m1\nwrite s1 m1 ok\nack s1 m1\n"
     ++ codes "line 14\n! 14 no-job\n"

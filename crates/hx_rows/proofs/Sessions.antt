@@ -5,23 +5,13 @@ use Rattle.std.proofs.Common.{refl}
 use Rattle.hx_cluster.specs.declared.description.Spec.{Spec}
 use Rattle.hx_model.specs.declared.Bound.TheVariants as bounds
 use Rattle.hx_cluster.specs.declared.description.Scope.TheVariants as scopes
-use Rattle.hx_rows.proofs.Fixtures.{built_in, built_in_states, built_in_names, bare, own_model, by_lists, by_maps, taken_in_turn, rule, failed_make, failed_run, output}
+use Rattle.hx_rows.proofs.Fixtures.{built_in, built_in_states, built_in_names, bare, own_model, by_lists, by_maps, taken_in_turn, rule, failed_make, failed_run, output, one_asked, one_list, three_asked, pass_of_three, pass_of_one, pass_of_two, three_named}
 
 -- a job is open when its session ends, and its write is refused
-abbrev session_ended_spec : Spec
-session_ended_spec = record bare {
-  resource_names = codes "db" ∷ [];
-  resources = by_lists 0 0 3 ((0 ∷ 1 ∷ 2 ∷ []) ∷ []) ∷ [];
-}
-
-pub session_ended : output session_ended_spec (
+pub session_ended : output one_list (
     codes "join n1\nlead c1\npass c1\nfetch n1\ndeliver n1 m1\ntake n1 m1\nexpire n1\n"
     ++ codes "join n1\nwrite n1 m1\nfetch n1\ndeliver n1 m1\npass c1\nwork n1\n")
-    ≡ codes "line 1\njoin n1 s1\n"
-    ++ codes "line 2\nlead c1 e1\n"
-    ++ codes "line 3\nbegin c1 e1 p1\nlive c1 p1\nmail c1 p1 s1\nstates c1 p1 s1\n"
-    ++ codes "ideals c1 p1\nsend c1 e1 p1\n  sent m1 s1 db#0/0 OFFLINE>SLAVE\n? c1 sent 1\n"
-    ++ codes "post c1 e1 0\n"
+    ≡ one_asked
     ++ codes "line 4\nfetch n1 s1 1\n"
     ++ codes "line 5\n? n1 accept m1\n"
     ++ codes "line 6\ntake s1 m1\n"
@@ -39,13 +29,7 @@ unfolding digits
 session_ended = refl
 
 -- a session ends between the reads and the dispatch
-abbrev ended_spec : Spec
-ended_spec = record bare {
-  resource_names = codes "db" ∷ [];
-  resources = by_lists 0 0 3 ((0 ∷ 1 ∷ 2 ∷ []) ∷ []) ∷ [];
-}
-
-pub ended : output ended_spec (
+pub ended : output one_list (
     codes "join n1\njoin n2\nlead c1\nbegin c1\nread c1 live\nread c1 mail\n"
     ++ codes "read c1 states\nread c1 ideals\nexpire n1\nsend c1\n")
     ≡ codes "line 1\njoin n1 s1\n"
@@ -63,13 +47,7 @@ unfolding digits
 ended = refl
 
 -- sessions without a beat end in the order of their last beats
-abbrev expiry_spec : Spec
-expiry_spec = record bare {
-  resource_names = codes "db" ∷ [];
-  resources = by_lists 0 0 3 ((0 ∷ 1 ∷ 2 ∷ []) ∷ []) ∷ [];
-}
-
-pub expiry : output expiry_spec (
+pub expiry : output one_list (
     codes "join n1\njoin n2\ntick 10\nbeat n2\ntick 19\ntick 1\ntick 10\njoin n2\n"
     ++ codes "join n1\nbeat n2\ntick 30\n")
     ≡ codes "line 1\njoin n1 s1\n"
@@ -87,24 +65,11 @@ unfolding digits
 expiry = refl
 
 -- all sessions end in one tick, one with a job that is open
-abbrev storm_spec : Spec
-storm_spec = record bare {
-  resource_names = codes "db" ∷ [];
-  resources = by_lists 0 0 3 ((0 ∷ 1 ∷ 2 ∷ []) ∷ []) ∷ [];
-}
-
-pub storm : output storm_spec (
+pub storm : output one_list (
     codes "join n1\njoin n2\njoin n3\nlead c1\npass c1\nfetch n1\ndeliver n1 m1\n"
     ++ codes "take n1 m1\nbeat n1\ntick 30\njoin n1\nwrite n1 m1\ndeliver n1 m1\nwork n1\n"
     ++ codes "deliver n1 m1\npass c1\nwork n1\n")
-    ≡ codes "line 1\njoin n1 s1\n"
-    ++ codes "line 2\njoin n2 s2\n"
-    ++ codes "line 3\njoin n3 s3\n"
-    ++ codes "line 4\nlead c1 e1\n"
-    ++ codes "line 5\nbegin c1 e1 p1\nlive c1 p1\nmail c1 p1 s1\nmail c1 p1 s2\n"
-    ++ codes "mail c1 p1 s3\nstates c1 p1 s1\nstates c1 p1 s2\nstates c1 p1 s3\n"
-    ++ codes "ideals c1 p1\nsend c1 e1 p1\n  sent m1 s1 db#0/0 OFFLINE>SLAVE\n"
-    ++ codes "  sent m2 s2 db#0/0 OFFLINE>SLAVE\n  sent m3 s3 db#0/0 OFFLINE>SLAVE\n"
+    ≡ three_asked
     ++ codes "? c1 sent 3\npost c1 e1 0\n"
     ++ codes "line 6\nfetch n1 s1 1\n"
     ++ codes "line 7\n? n1 accept m1\n"
@@ -126,23 +91,19 @@ storm = refl
 
 -- a tick ends each session between a turn's reads and its dispatch, and the clock comes to its end
 abbrev ended_before_dispatch_spec : Spec
-ended_before_dispatch_spec = record bare {
+ended_before_dispatch_spec = record three_named {
   instances = codes "n2" ∷ codes "n4" ∷ codes "n5" ∷ codes "n6" ∷ codes "n7" ∷ [];
   states = built_in_states ++ codes "X" ∷ codes "Z" ∷ [];
-  resource_names = codes "db0" ∷ codes "db1" ∷ codes "db2" ∷ [];
-  model_names = built_in_names ++ codes "M0" ∷ codes "M1" ∷ [];
   models = built_in ++ own_model 8 ((8, bounds.Free) ∷ []) ((8, 1) ∷ [])
       ∷ own_model 3 ((9, bounds.Live) ∷ (4, bounds.Free) ∷ (3, bounds.Free) ∷ (2, bounds.Count 2)
       ∷ []) ((9, 3) ∷ (3, 2) ∷ (4, 2) ∷ (9, 2) ∷ (2, 9) ∷ (2, 4) ∷ (3, 1) ∷ (3, 9) ∷ (4, 9)
       ∷ (4, 3) ∷ []) ∷ [];
   controllers = 1;
-  rules = rule scopes.Instance None 1
-      ∷ rule scopes.Instance (Some (7, 6)) 3
+  rules = rule scopes.Instance None 1 ∷ rule scopes.Instance (Some (7, 6)) 3
       ∷ rule scopes.Instance (Some (9, 1)) 2 ∷ [];
   resources = by_maps 0 2 4 (((0, 4) ∷ (2, 4) ∷ (1, 7) ∷ (4, 6) ∷ []) ∷ ((3, 7) ∷ (2, 4) ∷ (4, 4)
       ∷ []) ∷ ((0, 6) ∷ (1, 6) ∷ (2, 6) ∷ (3, 6) ∷ []) ∷ [])
-      ∷ by_maps 1 2 1 ([] ∷ ((0, 6) ∷ (3, 7) ∷ (2, 4) ∷ []) ∷ [])
-      ∷ taken_in_turn 2 3 2 3 ∷ [];
+      ∷ by_maps 1 2 1 ([] ∷ ((0, 6) ∷ (3, 7) ∷ (2, 4) ∷ []) ∷ []) ∷ taken_in_turn 2 3 2 3 ∷ [];
 }
 
 pub ended_before_dispatch : output ended_before_dispatch_spec (
@@ -203,8 +164,7 @@ pub death_in_turn : output death_in_turn_spec (
     ++ codes "line 6\n! 6 already-live s2\n"
     ++ codes "line 7\n! 7 already-live s1\n"
     ++ codes "line 8\n! 8 no-job\n"
-    ++ codes "line 9\nbegin c1 e1 p1\nlive c1 p1\nmail c1 p1 s1\nmail c1 p1 s2\n"
-    ++ codes "states c1 p1 s1\nstates c1 p1 s2\nideals c1 p1\nsend c1 e1 p1\n"
+    ++ codes "line 9\n" ++ pass_of_two (codes "p1")
     ++ codes "  sent m1 s1 db0#0/0 OFFLINE>ONLINE\n  sent m2 s2 db0#0/1 OFFLINE>ONLINE\n"
     ++ codes "  sent m3 s2 db1#1/0 OFFLINE>ONLINE\n  sent m4 s1 db1#1/1 OFFLINE>ONLINE\n"
     ++ codes "? c1 sent 4\npost c1 e1 0\n"
@@ -212,9 +172,8 @@ pub death_in_turn : output death_in_turn_spec (
     ++ codes "line 11\ntick 30\n"
     ++ codes "line 12\n! 12 no-message\n"
     ++ codes "line 13\n! 13 already-so\n"
-    ++ codes "line 14\nbegin c1 e1 p3\nlive c1 p3\nmail c1 p3 s1\nmail c1 p3 s2\n"
-    ++ codes "states c1 p3 s1\nstates c1 p3 s2\nideals c1 p3\nsend c1 e1 p3\n? c1 waiting 4\n"
-    ++ codes "post c1 e1 0\n"
+    ++ codes "line 14\n" ++ pass_of_two (codes "p3")
+    ++ codes "? c1 waiting 4\npost c1 e1 0\n"
     ++ codes "line 15\n! 15 no-message\n"
     ++ codes "line 16\n! 16 no-message\n"
     ++ codes "line 17\nend n4 s2\n"
@@ -222,12 +181,11 @@ pub death_in_turn : output death_in_turn_spec (
     ++ codes "line 19\ntick 3\n"
     ++ codes "line 20\nfetch n3 s1 2\n"
     ++ codes "line 21\n! 21 no-part 2\n"
-    ++ codes "line 22\nbegin c1 e1 p5\nlive c1 p5\nmail c1 p5 s1\nstates c1 p5 s1\n"
-    ++ codes "ideals c1 p5\nsend c1 e1 p5\n  sent m5 s1 db0#0/1 OFFLINE>ONLINE\n? c1 sent 1\n"
-    ++ codes "post c1 e1 0\n"
+    ++ codes "line 22\n" ++ pass_of_one (codes "p5")
+    ++ codes "  sent m5 s1 db0#0/1 OFFLINE>ONLINE\n? c1 sent 1\npost c1 e1 0\n"
     ++ codes "line 23\nfetch n4 - 0\n"
-    ++ codes "line 24\nbegin c1 e1 p7\nlive c1 p7\nmail c1 p7 s1\nstates c1 p7 s1\n"
-    ++ codes "ideals c1 p7\nsend c1 e1 p7\n? c1 waiting 3\npost c1 e1 0\n"
+    ++ codes "line 24\n" ++ pass_of_one (codes "p7")
+    ++ codes "? c1 waiting 3\npost c1 e1 0\n"
     ++ codes "line 25\nfetch n4 - 0\n"
     ++ codes "line 26\nbegin c1 e1 p9\n"
     ++ codes "line 27\n! 27 already-so\n"
@@ -249,11 +207,8 @@ expiries_and_repeats_spec = record bare {
       ∷ own_model 8 ((8, bounds.Free) ∷ (9, bounds.Free) ∷ []) ((8, 9) ∷ (9, 8) ∷ (8, 1) ∷ []) ∷ [];
   controllers = 1;
   timeout = 13;
-  resources = taken_in_turn 0 2 4 3
-      ∷ taken_in_turn 1 3 4 1 ∷ [];
-  failures = failed_run 0 0 1 3
-      ∷ failed_make 1 0 0 3
-      ∷ failed_make 1 0 1 3 ∷ [];
+  resources = taken_in_turn 0 2 4 3 ∷ taken_in_turn 1 3 4 1 ∷ [];
+  failures = failed_run 0 0 1 3 ∷ failed_make 1 0 0 3 ∷ failed_make 1 0 1 3 ∷ [];
 }
 
 pub expiries_and_repeats : output expiries_and_repeats_spec (
@@ -399,13 +354,11 @@ pub torn_by_expiry : output torn_by_expiry_spec (
     ++ codes "line 4\nlead c1 e1\n"
     ++ codes "line 5\n! 5 out-of-turn begin\n"
     ++ codes "line 6\n! 6 no-job\n"
-    ++ codes "line 7\nbegin c1 e1 p1\nlive c1 p1\nmail c1 p1 s1\nmail c1 p1 s2\n"
-    ++ codes "mail c1 p1 s3\nstates c1 p1 s1\nstates c1 p1 s2\nstates c1 p1 s3\n"
-    ++ codes "ideals c1 p1\nsend c1 e1 p1\n  sent m1 s2 db0#0/1 OFFLINE>STANDBY\n"
-    ++ codes "  sent m2 s1 db0#0/1 OFFLINE>STANDBY\n  sent m3 s2 db0#0/2 OFFLINE>STANDBY\n"
-    ++ codes "  sent m4 s3 db0#0/2 OFFLINE>STANDBY\n  sent m5 s2 db1#1/2 OFFLINE>STANDBY\n"
-    ++ codes "  sent m6 s1 db1#1/2 OFFLINE>STANDBY\n  sent m7 s3 db1#1/2 OFFLINE>STANDBY\n"
-    ++ codes "? c1 sent 7\npost c1 e1 0\n"
+    ++ codes "line 7\n" ++ pass_of_three (codes "p1")
+    ++ codes "  sent m1 s2 db0#0/1 OFFLINE>STANDBY\n  sent m2 s1 db0#0/1 OFFLINE>STANDBY\n"
+    ++ codes "  sent m3 s2 db0#0/2 OFFLINE>STANDBY\n  sent m4 s3 db0#0/2 OFFLINE>STANDBY\n"
+    ++ codes "  sent m5 s2 db1#1/2 OFFLINE>STANDBY\n  sent m6 s1 db1#1/2 OFFLINE>STANDBY\n"
+    ++ codes "  sent m7 s3 db1#1/2 OFFLINE>STANDBY\n? c1 sent 7\npost c1 e1 0\n"
     ++ codes "line 8\n! 8 no-job\n"
     ++ codes "line 9\n! 9 wrong-mode\n"
     ++ codes "line 10\nlist db0#0/1 n2 n0\n"

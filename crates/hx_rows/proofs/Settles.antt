@@ -5,35 +5,23 @@ use Rattle.std.proofs.Common.{refl}
 use Rattle.hx_cluster.specs.declared.description.Spec.{Spec}
 use Rattle.hx_model.specs.declared.Bound.TheVariants as bounds
 use Rattle.hx_cluster.specs.declared.description.Scope.TheVariants as scopes
-use Rattle.hx_rows.proofs.Fixtures.{built_in, built_in_states, built_in_names, bare, own_model, by_lists, by_maps, taken_in_turn, rule, failed_make, failed_run, output}
+use Rattle.hx_rows.proofs.Fixtures.{built_in, built_in_states, built_in_names, bare, own_model, by_lists, by_maps, taken_in_turn, rule, failed_make, failed_run, output, one_list, three_at_slave, three_read, three_settled, two_wanted, pass_of_three, pass_of_one, pass_of_two, two_asked, demo as demo_spec}
 
 -- no line at all: there is the view alone
-abbrev empty_spec : Spec
-empty_spec = record bare {
-  resource_names = codes "db" ∷ [];
-  resources = by_lists 0 1 2 ((0 ∷ 1 ∷ 2 ∷ []) ∷ (1 ∷ 2 ∷ 0 ∷ []) ∷ []) ∷ [];
-}
-
-pub empty : output empty_spec (
+pub empty : output demo_spec (
     [])
     ≡ codes "= db#0/0 -\n= db#0/1 -\n"
 unfolding digits
 empty = refl
 
 -- one instance joins, a controller leads and makes one pass, and the instance does what it is sent
-abbrev demo_spec : Spec
-demo_spec = record bare {
-  resource_names = codes "db" ∷ [];
-  resources = by_lists 0 1 2 ((0 ∷ 1 ∷ 2 ∷ []) ∷ (1 ∷ 2 ∷ 0 ∷ []) ∷ []) ∷ [];
-}
-
 pub demo : output demo_spec (
     codes "join n1\nlead c1\npass c1\nwork n1\nview\n")
     ≡ codes "line 1\njoin n1 s1\n"
     ++ codes "line 2\nlead c1 e1\n"
-    ++ codes "line 3\nbegin c1 e1 p1\nlive c1 p1\nmail c1 p1 s1\nstates c1 p1 s1\n"
-    ++ codes "ideals c1 p1\nsend c1 e1 p1\n  sent m1 s1 db#0/0 OFFLINE>ONLINE\n"
-    ++ codes "  sent m2 s1 db#0/1 OFFLINE>ONLINE\n? c1 sent 2\npost c1 e1 0\n"
+    ++ codes "line 3\n" ++ pass_of_one (codes "p1")
+    ++ codes "  sent m1 s1 db#0/0 OFFLINE>ONLINE\n  sent m2 s1 db#0/1 OFFLINE>ONLINE\n"
+    ++ codes "? c1 sent 2\npost c1 e1 0\n"
     ++ codes "line 4\nfetch n1 s1 2\ntake s1 m1\nwrite s1 m1 ok\nack s1 m1\ntake s1 m2\n"
     ++ codes "write s1 m2 ok\nack s1 m2\n"
     ++ codes "line 5\n= db#0/0 n1:ONLINE\n= db#0/1 n1:ONLINE\n= db#0/0 n1:ONLINE\n"
@@ -42,76 +30,27 @@ unfolding digits
 demo = refl
 
 -- three instances join and settle, one at MASTER and two at SLAVE
-abbrev settle_spec : Spec
-settle_spec = record bare {
-  resource_names = codes "db" ∷ [];
-  resources = by_lists 0 0 3 ((0 ∷ 1 ∷ 2 ∷ []) ∷ []) ∷ [];
-}
-
-pub settle : output settle_spec (
+pub settle : output one_list (
     codes "join n1\njoin n2\njoin n3\nlead c1\nsettle\n")
-    ≡ codes "line 1\njoin n1 s1\n"
-    ++ codes "line 2\njoin n2 s2\n"
-    ++ codes "line 3\njoin n3 s3\n"
-    ++ codes "line 4\nlead c1 e1\n"
-    ++ codes "line 5\nbegin c1 e1 p1\nlive c1 p1\nmail c1 p1 s1\nmail c1 p1 s2\n"
-    ++ codes "mail c1 p1 s3\nstates c1 p1 s1\nstates c1 p1 s2\nstates c1 p1 s3\n"
-    ++ codes "ideals c1 p1\nsend c1 e1 p1\n  sent m1 s1 db#0/0 OFFLINE>SLAVE\n"
-    ++ codes "  sent m2 s2 db#0/0 OFFLINE>SLAVE\n  sent m3 s3 db#0/0 OFFLINE>SLAVE\n"
-    ++ codes "post c1 e1 0\nfetch n1 s1 1\ntake s1 m1\nwrite s1 m1 ok\nack s1 m1\n"
-    ++ codes "fetch n2 s2 1\ntake s2 m2\nwrite s2 m2 ok\nack s2 m2\nfetch n3 s3 1\n"
-    ++ codes "take s3 m3\nwrite s3 m3 ok\nack s3 m3\nbegin c1 e1 p3\nlive c1 p3\n"
-    ++ codes "mail c1 p3 s1\nmail c1 p3 s2\nmail c1 p3 s3\nstates c1 p3 s1\nstates c1 p3 s2\n"
-    ++ codes "states c1 p3 s3\nideals c1 p3\nsend c1 e1 p3\n"
-    ++ codes "  sent m4 s1 db#0/0 SLAVE>MASTER\npost c1 e1 3\nfetch n1 s1 1\ntake s1 m4\n"
-    ++ codes "write s1 m4 ok\nack s1 m4\nfetch n2 s2 0\nfetch n3 s3 0\nbegin c1 e1 p5\n"
-    ++ codes "live c1 p5\nmail c1 p5 s1\nmail c1 p5 s2\nmail c1 p5 s3\nstates c1 p5 s1\n"
-    ++ codes "states c1 p5 s2\nstates c1 p5 s3\nideals c1 p5\nsend c1 e1 p5\npost c1 e1 3\n"
-    ++ codes "? settle c1 3\n= db#0/0 n1:MASTER n2:SLAVE n3:SLAVE\n"
+    ≡ three_settled
+    ++ codes "= db#0/0 n1:MASTER n2:SLAVE n3:SLAVE\n"
 unfolding digits
 settle = refl
 
 -- the instance at MASTER is drained, and the next of the list takes its place
-abbrev drain_spec : Spec
-drain_spec = record bare {
-  resource_names = codes "db" ∷ [];
-  resources = by_lists 0 0 3 ((0 ∷ 1 ∷ 2 ∷ []) ∷ []) ∷ [];
-}
-
-pub drain : output drain_spec (
+pub drain : output one_list (
     codes "join n1\njoin n2\njoin n3\nlead c1\nsettle\ndrain n1\nsettle\n")
-    ≡ codes "line 1\njoin n1 s1\n"
-    ++ codes "line 2\njoin n2 s2\n"
-    ++ codes "line 3\njoin n3 s3\n"
-    ++ codes "line 4\nlead c1 e1\n"
-    ++ codes "line 5\nbegin c1 e1 p1\nlive c1 p1\nmail c1 p1 s1\nmail c1 p1 s2\n"
-    ++ codes "mail c1 p1 s3\nstates c1 p1 s1\nstates c1 p1 s2\nstates c1 p1 s3\n"
-    ++ codes "ideals c1 p1\nsend c1 e1 p1\n  sent m1 s1 db#0/0 OFFLINE>SLAVE\n"
-    ++ codes "  sent m2 s2 db#0/0 OFFLINE>SLAVE\n  sent m3 s3 db#0/0 OFFLINE>SLAVE\n"
-    ++ codes "post c1 e1 0\nfetch n1 s1 1\ntake s1 m1\nwrite s1 m1 ok\nack s1 m1\n"
-    ++ codes "fetch n2 s2 1\ntake s2 m2\nwrite s2 m2 ok\nack s2 m2\nfetch n3 s3 1\n"
-    ++ codes "take s3 m3\nwrite s3 m3 ok\nack s3 m3\nbegin c1 e1 p3\nlive c1 p3\n"
-    ++ codes "mail c1 p3 s1\nmail c1 p3 s2\nmail c1 p3 s3\nstates c1 p3 s1\nstates c1 p3 s2\n"
-    ++ codes "states c1 p3 s3\nideals c1 p3\nsend c1 e1 p3\n"
-    ++ codes "  sent m4 s1 db#0/0 SLAVE>MASTER\npost c1 e1 3\nfetch n1 s1 1\ntake s1 m4\n"
-    ++ codes "write s1 m4 ok\nack s1 m4\nfetch n2 s2 0\nfetch n3 s3 0\nbegin c1 e1 p5\n"
-    ++ codes "live c1 p5\nmail c1 p5 s1\nmail c1 p5 s2\nmail c1 p5 s3\nstates c1 p5 s1\n"
-    ++ codes "states c1 p5 s2\nstates c1 p5 s3\nideals c1 p5\nsend c1 e1 p5\npost c1 e1 3\n"
-    ++ codes "? settle c1 3\n"
+    ≡ three_settled
     ++ codes "line 6\ndrain n1\n"
-    ++ codes "line 7\nbegin c1 e1 p7\nlive c1 p7\nmail c1 p7 s1\nmail c1 p7 s2\n"
-    ++ codes "mail c1 p7 s3\nstates c1 p7 s1\nstates c1 p7 s2\nstates c1 p7 s3\n"
-    ++ codes "ideals c1 p7\nsend c1 e1 p7\n  sent m5 s1 db#0/0 MASTER>SLAVE\npost c1 e1 3\n"
-    ++ codes "fetch n1 s1 1\ntake s1 m5\nwrite s1 m5 ok\nack s1 m5\nfetch n2 s2 0\n"
-    ++ codes "fetch n3 s3 0\nbegin c1 e1 p9\nlive c1 p9\nmail c1 p9 s1\nmail c1 p9 s2\n"
-    ++ codes "mail c1 p9 s3\nstates c1 p9 s1\nstates c1 p9 s2\nstates c1 p9 s3\n"
-    ++ codes "ideals c1 p9\nsend c1 e1 p9\n  sent m6 s2 db#0/0 SLAVE>MASTER\n"
-    ++ codes "  sent m7 s1 db#0/0 SLAVE>OFFLINE\npost c1 e1 3\nfetch n1 s1 1\ntake s1 m7\n"
-    ++ codes "write s1 m7 ok\nack s1 m7\nfetch n2 s2 1\ntake s2 m6\nwrite s2 m6 ok\n"
-    ++ codes "ack s2 m6\nfetch n3 s3 0\nbegin c1 e1 p11\nlive c1 p11\nmail c1 p11 s1\n"
-    ++ codes "mail c1 p11 s2\nmail c1 p11 s3\nstates c1 p11 s1\nstates c1 p11 s2\n"
-    ++ codes "states c1 p11 s3\nideals c1 p11\nsend c1 e1 p11\npost c1 e1 3\n? settle c1 3\n"
-    ++ codes "= db#0/0 n1:OFFLINE n2:MASTER n3:SLAVE\n"
+    ++ codes "line 7\n" ++ pass_of_three (codes "p7")
+    ++ codes "  sent m5 s1 db#0/0 MASTER>SLAVE\npost c1 e1 3\nfetch n1 s1 1\ntake s1 m5\n"
+    ++ codes "write s1 m5 ok\nack s1 m5\nfetch n2 s2 0\nfetch n3 s3 0\n"
+    ++ pass_of_three (codes "p9")
+    ++ codes "  sent m6 s2 db#0/0 SLAVE>MASTER\n  sent m7 s1 db#0/0 SLAVE>OFFLINE\n"
+    ++ codes "post c1 e1 3\nfetch n1 s1 1\ntake s1 m7\nwrite s1 m7 ok\nack s1 m7\n"
+    ++ codes "fetch n2 s2 1\ntake s2 m6\nwrite s2 m6 ok\nack s2 m6\nfetch n3 s3 0\n"
+    ++ pass_of_three (codes "p11")
+    ++ codes "post c1 e1 3\n? settle c1 3\n= db#0/0 n1:OFFLINE n2:MASTER n3:SLAVE\n"
 unfolding digits
 drain = refl
 
@@ -128,58 +67,37 @@ swap_spec = record bare {
 
 pub swap : output swap_spec (
     codes "join n1\njoin n2\njoin n3\nlead c1\nsettle\nlist db 0 n2 n1 n3\nsettle\n")
-    ≡ codes "line 1\njoin n1 s1\n"
-    ++ codes "line 2\njoin n2 s2\n"
-    ++ codes "line 3\njoin n3 s3\n"
-    ++ codes "line 4\nlead c1 e1\n"
-    ++ codes "line 5\nbegin c1 e1 p1\nlive c1 p1\nmail c1 p1 s1\nmail c1 p1 s2\n"
-    ++ codes "mail c1 p1 s3\nstates c1 p1 s1\nstates c1 p1 s2\nstates c1 p1 s3\n"
-    ++ codes "ideals c1 p1\nsend c1 e1 p1\n  sent m1 s1 db#0/0 OFFLINE>Q\n"
-    ++ codes "  sent m2 s2 db#0/0 OFFLINE>Q\npost c1 e1 0\nfetch n1 s1 1\ntake s1 m1\n"
-    ++ codes "write s1 m1 ok\nack s1 m1\nfetch n2 s2 1\ntake s2 m2\nwrite s2 m2 ok\n"
-    ++ codes "ack s2 m2\nfetch n3 s3 0\nbegin c1 e1 p3\nlive c1 p3\nmail c1 p3 s1\n"
-    ++ codes "mail c1 p3 s2\nmail c1 p3 s3\nstates c1 p3 s1\nstates c1 p3 s2\n"
-    ++ codes "states c1 p3 s3\nideals c1 p3\nsend c1 e1 p3\n  sent m3 s1 db#0/0 Q>P\n"
-    ++ codes "post c1 e1 2\nfetch n1 s1 1\ntake s1 m3\nwrite s1 m3 ok\nack s1 m3\n"
-    ++ codes "fetch n2 s2 0\nfetch n3 s3 0\nbegin c1 e1 p5\nlive c1 p5\nmail c1 p5 s1\n"
-    ++ codes "mail c1 p5 s2\nmail c1 p5 s3\nstates c1 p5 s1\nstates c1 p5 s2\n"
-    ++ codes "states c1 p5 s3\nideals c1 p5\nsend c1 e1 p5\n  sent m4 s3 db#0/0 OFFLINE>Q\n"
-    ++ codes "post c1 e1 2\nfetch n1 s1 0\nfetch n2 s2 0\nfetch n3 s3 1\ntake s3 m4\n"
-    ++ codes "write s3 m4 ok\nack s3 m4\nbegin c1 e1 p7\nlive c1 p7\nmail c1 p7 s1\n"
-    ++ codes "mail c1 p7 s2\nmail c1 p7 s3\nstates c1 p7 s1\nstates c1 p7 s2\n"
-    ++ codes "states c1 p7 s3\nideals c1 p7\nsend c1 e1 p7\npost c1 e1 3\n? settle c1 4\n"
+    ≡ three_read
+    ++ codes "  sent m1 s1 db#0/0 OFFLINE>Q\n  sent m2 s2 db#0/0 OFFLINE>Q\npost c1 e1 0\n"
+    ++ codes "fetch n1 s1 1\ntake s1 m1\nwrite s1 m1 ok\nack s1 m1\nfetch n2 s2 1\n"
+    ++ codes "take s2 m2\nwrite s2 m2 ok\nack s2 m2\nfetch n3 s3 0\n"
+    ++ pass_of_three (codes "p3")
+    ++ codes "  sent m3 s1 db#0/0 Q>P\npost c1 e1 2\nfetch n1 s1 1\ntake s1 m3\n"
+    ++ codes "write s1 m3 ok\nack s1 m3\nfetch n2 s2 0\nfetch n3 s3 0\n"
+    ++ pass_of_three (codes "p5")
+    ++ codes "  sent m4 s3 db#0/0 OFFLINE>Q\npost c1 e1 2\nfetch n1 s1 0\nfetch n2 s2 0\n"
+    ++ codes "fetch n3 s3 1\ntake s3 m4\nwrite s3 m4 ok\nack s3 m4\n"
+    ++ pass_of_three (codes "p7")
+    ++ codes "post c1 e1 3\n? settle c1 4\n"
     ++ codes "line 6\nlist db#0/0 n2 n1 n3\n"
-    ++ codes "line 7\nbegin c1 e1 p9\nlive c1 p9\nmail c1 p9 s1\nmail c1 p9 s2\n"
-    ++ codes "mail c1 p9 s3\nstates c1 p9 s1\nstates c1 p9 s2\nstates c1 p9 s3\n"
-    ++ codes "ideals c1 p9\nsend c1 e1 p9\npost c1 e1 3\n? settle c1 1\n"
-    ++ codes "? full n1 db#0/0 P>Q 2 of 2 n2 n3\n? full n2 db#0/0 Q>P 1 of 1 n1\n"
-    ++ codes "= db#0/0 n1:P n2:Q n3:Q\n"
+    ++ codes "line 7\n" ++ pass_of_three (codes "p9")
+    ++ codes "post c1 e1 3\n? settle c1 1\n? full n1 db#0/0 P>Q 2 of 2 n2 n3\n"
+    ++ codes "? full n2 db#0/0 Q>P 1 of 1 n1\n= db#0/0 n1:P n2:Q n3:Q\n"
 unfolding digits
 swap = refl
 
 -- a map wants two at MASTER, of which the bound allows one: the report names the holder
-abbrev two_masters_spec : Spec
-two_masters_spec = record bare {
-  resource_names = codes "db" ∷ [];
-  resources = by_maps 0 0 2 (((0, 2) ∷ (1, 2) ∷ []) ∷ []) ∷ [];
-}
-
-pub two_masters : output two_masters_spec (
+pub two_masters : output two_wanted (
     codes "join n1\njoin n2\nlead c1\nsettle\n")
-    ≡ codes "line 1\njoin n1 s1\n"
-    ++ codes "line 2\njoin n2 s2\n"
-    ++ codes "line 3\nlead c1 e1\n"
-    ++ codes "line 4\nbegin c1 e1 p1\nlive c1 p1\nmail c1 p1 s1\nmail c1 p1 s2\n"
-    ++ codes "states c1 p1 s1\nstates c1 p1 s2\nideals c1 p1\nsend c1 e1 p1\n"
-    ++ codes "  sent m1 s1 db#0/0 OFFLINE>SLAVE\n  sent m2 s2 db#0/0 OFFLINE>SLAVE\n"
+    ≡ two_asked
     ++ codes "post c1 e1 0\nfetch n1 s1 1\ntake s1 m1\nwrite s1 m1 ok\nack s1 m1\n"
-    ++ codes "fetch n2 s2 1\ntake s2 m2\nwrite s2 m2 ok\nack s2 m2\nbegin c1 e1 p3\n"
-    ++ codes "live c1 p3\nmail c1 p3 s1\nmail c1 p3 s2\nstates c1 p3 s1\nstates c1 p3 s2\n"
-    ++ codes "ideals c1 p3\nsend c1 e1 p3\n  sent m3 s1 db#0/0 SLAVE>MASTER\npost c1 e1 2\n"
-    ++ codes "fetch n1 s1 1\ntake s1 m3\nwrite s1 m3 ok\nack s1 m3\nfetch n2 s2 0\n"
-    ++ codes "begin c1 e1 p5\nlive c1 p5\nmail c1 p5 s1\nmail c1 p5 s2\nstates c1 p5 s1\n"
-    ++ codes "states c1 p5 s2\nideals c1 p5\nsend c1 e1 p5\npost c1 e1 2\n? settle c1 3\n"
-    ++ codes "? full n2 db#0/0 SLAVE>MASTER 1 of 1 n1\n= db#0/0 n1:MASTER n2:SLAVE\n"
+    ++ codes "fetch n2 s2 1\ntake s2 m2\nwrite s2 m2 ok\nack s2 m2\n"
+    ++ pass_of_two (codes "p3")
+    ++ codes "  sent m3 s1 db#0/0 SLAVE>MASTER\npost c1 e1 2\nfetch n1 s1 1\ntake s1 m3\n"
+    ++ codes "write s1 m3 ok\nack s1 m3\nfetch n2 s2 0\n"
+    ++ pass_of_two (codes "p5")
+    ++ codes "post c1 e1 2\n? settle c1 3\n? full n2 db#0/0 SLAVE>MASTER 1 of 1 n1\n"
+    ++ codes "= db#0/0 n1:MASTER n2:SLAVE\n"
 unfolding digits
 two_masters = refl
 
@@ -196,34 +114,34 @@ pub throttle : output throttle_spec (
     codes "join n1\nlead c1\nsettle\n")
     ≡ codes "line 1\njoin n1 s1\n"
     ++ codes "line 2\nlead c1 e1\n"
-    ++ codes "line 3\nbegin c1 e1 p1\nlive c1 p1\nmail c1 p1 s1\nstates c1 p1 s1\n"
-    ++ codes "ideals c1 p1\nsend c1 e1 p1\n  sent m1 s1 db#0/0 OFFLINE>ONLINE\npost c1 e1 0\n"
-    ++ codes "fetch n1 s1 1\ntake s1 m1\nwrite s1 m1 ok\nack s1 m1\nbegin c1 e1 p3\n"
-    ++ codes "live c1 p3\nmail c1 p3 s1\nstates c1 p3 s1\nideals c1 p3\nsend c1 e1 p3\n"
+    ++ codes "line 3\n" ++ pass_of_one (codes "p1")
+    ++ codes "  sent m1 s1 db#0/0 OFFLINE>ONLINE\npost c1 e1 0\nfetch n1 s1 1\ntake s1 m1\n"
+    ++ codes "write s1 m1 ok\nack s1 m1\n"
+    ++ pass_of_one (codes "p3")
     ++ codes "  sent m2 s1 db#0/1 OFFLINE>ONLINE\npost c1 e1 1\nfetch n1 s1 1\ntake s1 m2\n"
-    ++ codes "write s1 m2 ok\nack s1 m2\nbegin c1 e1 p5\nlive c1 p5\nmail c1 p5 s1\n"
-    ++ codes "states c1 p5 s1\nideals c1 p5\nsend c1 e1 p5\n"
+    ++ codes "write s1 m2 ok\nack s1 m2\n"
+    ++ pass_of_one (codes "p5")
     ++ codes "  sent m3 s1 db#0/2 OFFLINE>ONLINE\npost c1 e1 2\nfetch n1 s1 1\ntake s1 m3\n"
-    ++ codes "write s1 m3 ok\nack s1 m3\nbegin c1 e1 p7\nlive c1 p7\nmail c1 p7 s1\n"
-    ++ codes "states c1 p7 s1\nideals c1 p7\nsend c1 e1 p7\n"
+    ++ codes "write s1 m3 ok\nack s1 m3\n"
+    ++ pass_of_one (codes "p7")
     ++ codes "  sent m4 s1 db#0/3 OFFLINE>ONLINE\npost c1 e1 3\nfetch n1 s1 1\ntake s1 m4\n"
-    ++ codes "write s1 m4 ok\nack s1 m4\nbegin c1 e1 p9\nlive c1 p9\nmail c1 p9 s1\n"
-    ++ codes "states c1 p9 s1\nideals c1 p9\nsend c1 e1 p9\n"
+    ++ codes "write s1 m4 ok\nack s1 m4\n"
+    ++ pass_of_one (codes "p9")
     ++ codes "  sent m5 s1 db#0/4 OFFLINE>ONLINE\npost c1 e1 4\nfetch n1 s1 1\ntake s1 m5\n"
-    ++ codes "write s1 m5 ok\nack s1 m5\nbegin c1 e1 p11\nlive c1 p11\nmail c1 p11 s1\n"
-    ++ codes "states c1 p11 s1\nideals c1 p11\nsend c1 e1 p11\n"
+    ++ codes "write s1 m5 ok\nack s1 m5\n"
+    ++ pass_of_one (codes "p11")
     ++ codes "  sent m6 s1 db#0/5 OFFLINE>ONLINE\npost c1 e1 5\nfetch n1 s1 1\ntake s1 m6\n"
-    ++ codes "write s1 m6 ok\nack s1 m6\nbegin c1 e1 p13\nlive c1 p13\nmail c1 p13 s1\n"
-    ++ codes "states c1 p13 s1\nideals c1 p13\nsend c1 e1 p13\n"
+    ++ codes "write s1 m6 ok\nack s1 m6\n"
+    ++ pass_of_one (codes "p13")
     ++ codes "  sent m7 s1 db#0/6 OFFLINE>ONLINE\npost c1 e1 6\nfetch n1 s1 1\ntake s1 m7\n"
-    ++ codes "write s1 m7 ok\nack s1 m7\nbegin c1 e1 p15\nlive c1 p15\nmail c1 p15 s1\n"
-    ++ codes "states c1 p15 s1\nideals c1 p15\nsend c1 e1 p15\n"
+    ++ codes "write s1 m7 ok\nack s1 m7\n"
+    ++ pass_of_one (codes "p15")
     ++ codes "  sent m8 s1 db#0/7 OFFLINE>ONLINE\npost c1 e1 7\nfetch n1 s1 1\ntake s1 m8\n"
-    ++ codes "write s1 m8 ok\nack s1 m8\nbegin c1 e1 p17\nlive c1 p17\nmail c1 p17 s1\n"
-    ++ codes "states c1 p17 s1\nideals c1 p17\nsend c1 e1 p17\npost c1 e1 8\n? settle c1 9\n"
-    ++ codes "= db#0/0 n1:ONLINE\n= db#0/1 n1:ONLINE\n= db#0/2 n1:ONLINE\n"
-    ++ codes "= db#0/3 n1:ONLINE\n= db#0/4 n1:ONLINE\n= db#0/5 n1:ONLINE\n"
-    ++ codes "= db#0/6 n1:ONLINE\n= db#0/7 n1:ONLINE\n"
+    ++ codes "write s1 m8 ok\nack s1 m8\n"
+    ++ pass_of_one (codes "p17")
+    ++ codes "post c1 e1 8\n? settle c1 9\n= db#0/0 n1:ONLINE\n= db#0/1 n1:ONLINE\n"
+    ++ codes "= db#0/2 n1:ONLINE\n= db#0/3 n1:ONLINE\n= db#0/4 n1:ONLINE\n"
+    ++ codes "= db#0/5 n1:ONLINE\n= db#0/6 n1:ONLINE\n= db#0/7 n1:ONLINE\n"
 unfolding digits
 throttle = refl
 
@@ -237,45 +155,25 @@ failure_spec = record bare {
 
 pub failure : output failure_spec (
     codes "join n1\njoin n2\njoin n3\nlead c1\nsettle\nreset n1 db 0\nsettle\n")
-    ≡ codes "line 1\njoin n1 s1\n"
-    ++ codes "line 2\njoin n2 s2\n"
-    ++ codes "line 3\njoin n3 s3\n"
-    ++ codes "line 4\nlead c1 e1\n"
-    ++ codes "line 5\nbegin c1 e1 p1\nlive c1 p1\nmail c1 p1 s1\nmail c1 p1 s2\n"
-    ++ codes "mail c1 p1 s3\nstates c1 p1 s1\nstates c1 p1 s2\nstates c1 p1 s3\n"
-    ++ codes "ideals c1 p1\nsend c1 e1 p1\n  sent m1 s1 db#0/0 OFFLINE>SLAVE\n"
-    ++ codes "  sent m2 s2 db#0/0 OFFLINE>SLAVE\n  sent m3 s3 db#0/0 OFFLINE>SLAVE\n"
-    ++ codes "post c1 e1 0\nfetch n1 s1 1\ntake s1 m1\nwrite s1 m1 ok\nack s1 m1\n"
-    ++ codes "fetch n2 s2 1\ntake s2 m2\nwrite s2 m2 ok\nack s2 m2\nfetch n3 s3 1\n"
-    ++ codes "take s3 m3\nwrite s3 m3 ok\nack s3 m3\nbegin c1 e1 p3\nlive c1 p3\n"
-    ++ codes "mail c1 p3 s1\nmail c1 p3 s2\nmail c1 p3 s3\nstates c1 p3 s1\nstates c1 p3 s2\n"
-    ++ codes "states c1 p3 s3\nideals c1 p3\nsend c1 e1 p3\n"
-    ++ codes "  sent m4 s1 db#0/0 SLAVE>MASTER\npost c1 e1 3\nfetch n1 s1 1\ntake s1 m4\n"
-    ++ codes "write s1 m4 failed\nack s1 m4\nfetch n2 s2 0\nfetch n3 s3 0\nbegin c1 e1 p5\n"
-    ++ codes "live c1 p5\nmail c1 p5 s1\nmail c1 p5 s2\nmail c1 p5 s3\nstates c1 p5 s1\n"
-    ++ codes "states c1 p5 s2\nstates c1 p5 s3\nideals c1 p5\nsend c1 e1 p5\n"
+    ≡ three_at_slave
+    ++ codes "write s1 m4 failed\nack s1 m4\nfetch n2 s2 0\nfetch n3 s3 0\n"
+    ++ pass_of_three (codes "p5")
     ++ codes "  sent m5 s2 db#0/0 SLAVE>MASTER\npost c1 e1 3\nfetch n1 s1 0\nfetch n2 s2 1\n"
-    ++ codes "take s2 m5\nwrite s2 m5 ok\nack s2 m5\nfetch n3 s3 0\nbegin c1 e1 p7\n"
-    ++ codes "live c1 p7\nmail c1 p7 s1\nmail c1 p7 s2\nmail c1 p7 s3\nstates c1 p7 s1\n"
-    ++ codes "states c1 p7 s2\nstates c1 p7 s3\nideals c1 p7\nsend c1 e1 p7\npost c1 e1 3\n"
-    ++ codes "? settle c1 4\n? failed n1 db#0/0\n"
+    ++ codes "take s2 m5\nwrite s2 m5 ok\nack s2 m5\nfetch n3 s3 0\n"
+    ++ pass_of_three (codes "p7")
+    ++ codes "post c1 e1 3\n? settle c1 4\n? failed n1 db#0/0\n"
     ++ codes "line 6\nreset n1 s1 db#0/0\n"
-    ++ codes "line 7\nbegin c1 e1 p9\nlive c1 p9\nmail c1 p9 s1\nmail c1 p9 s2\n"
-    ++ codes "mail c1 p9 s3\nstates c1 p9 s1\nstates c1 p9 s2\nstates c1 p9 s3\n"
-    ++ codes "ideals c1 p9\nsend c1 e1 p9\n  sent m6 s1 db#0/0 ERROR>OFFLINE\npost c1 e1 3\n"
-    ++ codes "fetch n1 s1 1\ntake s1 m6\nwrite s1 m6 ok\nack s1 m6\nfetch n2 s2 0\n"
-    ++ codes "fetch n3 s3 0\nbegin c1 e1 p11\nlive c1 p11\nmail c1 p11 s1\nmail c1 p11 s2\n"
-    ++ codes "mail c1 p11 s3\nstates c1 p11 s1\nstates c1 p11 s2\nstates c1 p11 s3\n"
-    ++ codes "ideals c1 p11\nsend c1 e1 p11\n  sent m7 s2 db#0/0 MASTER>SLAVE\n"
-    ++ codes "  sent m8 s1 db#0/0 OFFLINE>SLAVE\npost c1 e1 3\nfetch n1 s1 1\ntake s1 m8\n"
-    ++ codes "write s1 m8 ok\nack s1 m8\nfetch n2 s2 1\ntake s2 m7\nwrite s2 m7 ok\n"
-    ++ codes "ack s2 m7\nfetch n3 s3 0\nbegin c1 e1 p13\nlive c1 p13\nmail c1 p13 s1\n"
-    ++ codes "mail c1 p13 s2\nmail c1 p13 s3\nstates c1 p13 s1\nstates c1 p13 s2\n"
-    ++ codes "states c1 p13 s3\nideals c1 p13\nsend c1 e1 p13\n"
+    ++ codes "line 7\n" ++ pass_of_three (codes "p9")
+    ++ codes "  sent m6 s1 db#0/0 ERROR>OFFLINE\npost c1 e1 3\nfetch n1 s1 1\ntake s1 m6\n"
+    ++ codes "write s1 m6 ok\nack s1 m6\nfetch n2 s2 0\nfetch n3 s3 0\n"
+    ++ pass_of_three (codes "p11")
+    ++ codes "  sent m7 s2 db#0/0 MASTER>SLAVE\n  sent m8 s1 db#0/0 OFFLINE>SLAVE\n"
+    ++ codes "post c1 e1 3\nfetch n1 s1 1\ntake s1 m8\nwrite s1 m8 ok\nack s1 m8\n"
+    ++ codes "fetch n2 s2 1\ntake s2 m7\nwrite s2 m7 ok\nack s2 m7\nfetch n3 s3 0\n"
+    ++ pass_of_three (codes "p13")
     ++ codes "  sent m9 s1 db#0/0 SLAVE>MASTER\npost c1 e1 3\nfetch n1 s1 1\ntake s1 m9\n"
-    ++ codes "write s1 m9 ok\nack s1 m9\nfetch n2 s2 0\nfetch n3 s3 0\nbegin c1 e1 p15\n"
-    ++ codes "live c1 p15\nmail c1 p15 s1\nmail c1 p15 s2\nmail c1 p15 s3\nstates c1 p15 s1\n"
-    ++ codes "states c1 p15 s2\nstates c1 p15 s3\nideals c1 p15\nsend c1 e1 p15\n"
+    ++ codes "write s1 m9 ok\nack s1 m9\nfetch n2 s2 0\nfetch n3 s3 0\n"
+    ++ pass_of_three (codes "p15")
     ++ codes "post c1 e1 3\n? settle c1 4\n= db#0/0 n1:MASTER n2:SLAVE n3:SLAVE\n"
 unfolding digits
 failure = refl
@@ -289,22 +187,17 @@ full_auto_spec = record bare {
 
 pub full_auto : output full_auto_spec (
     codes "join n1\njoin n2\njoin n3\nlead c1\nsettle\nroute db 1 ONLINE\n")
-    ≡ codes "line 1\njoin n1 s1\n"
-    ++ codes "line 2\njoin n2 s2\n"
-    ++ codes "line 3\njoin n3 s3\n"
-    ++ codes "line 4\nlead c1 e1\n"
-    ++ codes "line 5\nbegin c1 e1 p1\nlive c1 p1\nmail c1 p1 s1\nmail c1 p1 s2\n"
-    ++ codes "mail c1 p1 s3\nstates c1 p1 s1\nstates c1 p1 s2\nstates c1 p1 s3\n"
-    ++ codes "ideals c1 p1\nsend c1 e1 p1\n  sent m1 s1 db#0/0 OFFLINE>ONLINE\n"
-    ++ codes "  sent m2 s2 db#0/0 OFFLINE>ONLINE\n  sent m3 s3 db#0/1 OFFLINE>ONLINE\n"
-    ++ codes "  sent m4 s1 db#0/1 OFFLINE>ONLINE\n  sent m5 s2 db#0/2 OFFLINE>ONLINE\n"
-    ++ codes "  sent m6 s3 db#0/2 OFFLINE>ONLINE\npost c1 e1 0\nfetch n1 s1 2\ntake s1 m1\n"
-    ++ codes "write s1 m1 ok\nack s1 m1\ntake s1 m4\nwrite s1 m4 ok\nack s1 m4\n"
-    ++ codes "fetch n2 s2 2\ntake s2 m2\nwrite s2 m2 ok\nack s2 m2\ntake s2 m5\n"
-    ++ codes "write s2 m5 ok\nack s2 m5\nfetch n3 s3 2\ntake s3 m3\nwrite s3 m3 ok\n"
-    ++ codes "ack s3 m3\ntake s3 m6\nwrite s3 m6 ok\nack s3 m6\nbegin c1 e1 p3\nlive c1 p3\n"
-    ++ codes "mail c1 p3 s1\nmail c1 p3 s2\nmail c1 p3 s3\nstates c1 p3 s1\nstates c1 p3 s2\n"
-    ++ codes "states c1 p3 s3\nideals c1 p3\nsend c1 e1 p3\npost c1 e1 6\n? settle c1 2\n"
+    ≡ three_read
+    ++ codes "  sent m1 s1 db#0/0 OFFLINE>ONLINE\n  sent m2 s2 db#0/0 OFFLINE>ONLINE\n"
+    ++ codes "  sent m3 s3 db#0/1 OFFLINE>ONLINE\n  sent m4 s1 db#0/1 OFFLINE>ONLINE\n"
+    ++ codes "  sent m5 s2 db#0/2 OFFLINE>ONLINE\n  sent m6 s3 db#0/2 OFFLINE>ONLINE\n"
+    ++ codes "post c1 e1 0\nfetch n1 s1 2\ntake s1 m1\nwrite s1 m1 ok\nack s1 m1\n"
+    ++ codes "take s1 m4\nwrite s1 m4 ok\nack s1 m4\nfetch n2 s2 2\ntake s2 m2\n"
+    ++ codes "write s2 m2 ok\nack s2 m2\ntake s2 m5\nwrite s2 m5 ok\nack s2 m5\n"
+    ++ codes "fetch n3 s3 2\ntake s3 m3\nwrite s3 m3 ok\nack s3 m3\ntake s3 m6\n"
+    ++ codes "write s3 m6 ok\nack s3 m6\n"
+    ++ pass_of_three (codes "p3")
+    ++ codes "post c1 e1 6\n? settle c1 2\n"
     ++ codes "line 6\n= route db#0/1 ONLINE n1 n3\n= db#0/0 n1:ONLINE n2:ONLINE\n"
     ++ codes "= db#0/1 n1:ONLINE n3:ONLINE\n= db#0/2 n2:ONLINE n3:ONLINE\n"
 unfolding digits
@@ -321,8 +214,7 @@ throttled_settle_spec = record bare {
       ∷ (5, bounds.Free) ∷ []) ((8, 3) ∷ (2, 8) ∷ (8, 5) ∷ (5, 3) ∷ (3, 5) ∷ (3, 2) ∷ (2, 3)
       ∷ (5, 1) ∷ []) ∷ [];
   controllers = 3;
-  rules = rule scopes.Cluster None 1
-      ∷ rule scopes.Resource None 3
+  rules = rule scopes.Cluster None 1 ∷ rule scopes.Resource None 3
       ∷ rule scopes.Cluster None 3 ∷ [];
   resources = by_lists 0 0 1 ((2 ∷ 1 ∷ 0 ∷ []) ∷ (1 ∷ 2 ∷ []) ∷ [])
       ∷ by_maps 1 0 4 (((0, 2) ∷ []) ∷ []) ∷ [];
@@ -339,22 +231,20 @@ pub throttled_settle : output throttled_settle_spec (
     ++ codes "line 6\n! 6 no-job\n"
     ++ codes "line 7\n= db0#0/0 -\n= db0#0/1 -\n= db1#1/0 -\n"
     ++ codes "line 8\nbeat n5 s2\n"
-    ++ codes "line 9\nbegin c1 e1 p1\nlive c1 p1\nmail c1 p1 s1\nmail c1 p1 s2\n"
-    ++ codes "states c1 p1 s1\nstates c1 p1 s2\nideals c1 p1\nsend c1 e1 p1\n"
+    ++ codes "line 9\n" ++ pass_of_two (codes "p1")
     ++ codes "  sent m1 s2 db0#0/0 OFFLINE>SLAVE\npost c1 e1 0\nfetch n3 s1 0\n"
-    ++ codes "fetch n5 s2 1\ntake s2 m1\nwrite s2 m1 ok\nack s2 m1\nbegin c1 e1 p3\n"
-    ++ codes "live c1 p3\nmail c1 p3 s1\nmail c1 p3 s2\nstates c1 p3 s1\nstates c1 p3 s2\n"
-    ++ codes "ideals c1 p3\nsend c1 e1 p3\n  sent m2 s2 db0#0/0 SLAVE>MASTER\npost c1 e1 1\n"
-    ++ codes "fetch n3 s1 0\nfetch n5 s2 1\ntake s2 m2\nwrite s2 m2 ok\nack s2 m2\n"
-    ++ codes "begin c1 e1 p5\nlive c1 p5\nmail c1 p5 s1\nmail c1 p5 s2\nstates c1 p5 s1\n"
-    ++ codes "states c1 p5 s2\nideals c1 p5\nsend c1 e1 p5\n"
+    ++ codes "fetch n5 s2 1\ntake s2 m1\nwrite s2 m1 ok\nack s2 m1\n"
+    ++ pass_of_two (codes "p3")
+    ++ codes "  sent m2 s2 db0#0/0 SLAVE>MASTER\npost c1 e1 1\nfetch n3 s1 0\nfetch n5 s2 1\n"
+    ++ codes "take s2 m2\nwrite s2 m2 ok\nack s2 m2\n"
+    ++ pass_of_two (codes "p5")
     ++ codes "  sent m3 s1 db0#0/1 OFFLINE>SLAVE\npost c1 e1 1\nfetch n3 s1 1\ntake s1 m3\n"
-    ++ codes "write s1 m3 ok\nack s1 m3\nfetch n5 s2 0\nbegin c1 e1 p7\nlive c1 p7\n"
-    ++ codes "mail c1 p7 s1\nmail c1 p7 s2\nstates c1 p7 s1\nstates c1 p7 s2\nideals c1 p7\n"
-    ++ codes "send c1 e1 p7\n  sent m4 s1 db0#0/1 SLAVE>MASTER\npost c1 e1 2\nfetch n3 s1 1\n"
-    ++ codes "take s1 m4\nwrite s1 m4 ok\nack s1 m4\nfetch n5 s2 0\nbegin c1 e1 p9\n"
-    ++ codes "live c1 p9\nmail c1 p9 s1\nmail c1 p9 s2\nstates c1 p9 s1\nstates c1 p9 s2\n"
-    ++ codes "ideals c1 p9\nsend c1 e1 p9\npost c1 e1 2\n? settle c1 5\n"
+    ++ codes "write s1 m3 ok\nack s1 m3\nfetch n5 s2 0\n"
+    ++ pass_of_two (codes "p7")
+    ++ codes "  sent m4 s1 db0#0/1 SLAVE>MASTER\npost c1 e1 2\nfetch n3 s1 1\ntake s1 m4\n"
+    ++ codes "write s1 m4 ok\nack s1 m4\nfetch n5 s2 0\n"
+    ++ pass_of_two (codes "p9")
+    ++ codes "post c1 e1 2\n? settle c1 5\n"
     ++ codes "line 10\n! 10 not-live\n= db0#0/0 n5:MASTER\n= db0#0/1 n3:MASTER\n= db1#1/0 -\n"
 unfolding digits
 throttled_settle = refl
@@ -371,12 +261,9 @@ failed_settle_spec = record bare {
       ∷ (8, 9) ∷ (9, 5) ∷ []) ∷ [];
   timeout = 10;
   rules = rule scopes.Resource (Some (5, 5)) 2 ∷ [];
-  resources = taken_in_turn 0 0 3 2
-      ∷ by_lists 1 1 1 ((2 ∷ 0 ∷ 1 ∷ 4 ∷ 3 ∷ []) ∷ [])
+  resources = taken_in_turn 0 0 3 2 ∷ by_lists 1 1 1 ((2 ∷ 0 ∷ 1 ∷ 4 ∷ 3 ∷ []) ∷ [])
       ∷ by_lists 2 1 3 ((3 ∷ 2 ∷ 1 ∷ 4 ∷ 0 ∷ []) ∷ [] ∷ (0 ∷ []) ∷ []) ∷ [];
-  failures = failed_run 0 1 0 2
-      ∷ failed_make 0 2 1 3
-      ∷ failed_run 1 0 1 1
+  failures = failed_run 0 1 0 2 ∷ failed_make 0 2 1 3 ∷ failed_run 1 0 1 1
       ∷ failed_run 4 1 0 1 ∷ [];
 }
 
@@ -419,15 +306,12 @@ pub failed_settle : output failed_settle_spec (
     ++ codes "write s2 m5 failed\nack s2 m5\ntake s2 m9\nwrite s2 m9 ok\nack s2 m9\n"
     ++ codes "fetch n4 s3 3\ntake s3 m3\nwrite s3 m3 ok\nack s3 m3\ntake s3 m6\n"
     ++ codes "write s3 m6 ok\nack s3 m6\ntake s3 m8\nwrite s3 m8 ok\nack s3 m8\n"
-    ++ codes "begin c1 e1 p3\nlive c1 p3\nmail c1 p3 s1\nmail c1 p3 s2\nmail c1 p3 s3\n"
-    ++ codes "states c1 p3 s1\nstates c1 p3 s2\nstates c1 p3 s3\nideals c1 p3\n"
-    ++ codes "send c1 e1 p3\n  sent m12 s1 db0#0/0 SLAVE>MASTER\n"
-    ++ codes "  sent m13 s1 db0#0/1 SLAVE>MASTER\npost c1 e1 11\nfetch n0 s1 2\ntake s1 m12\n"
-    ++ codes "write s1 m12 ok\nack s1 m12\ntake s1 m13\nwrite s1 m13 ok\nack s1 m13\n"
-    ++ codes "fetch n1 s2 0\nfetch n4 s3 0\nbegin c1 e1 p5\nlive c1 p5\nmail c1 p5 s1\n"
-    ++ codes "mail c1 p5 s2\nmail c1 p5 s3\nstates c1 p5 s1\nstates c1 p5 s2\n"
-    ++ codes "states c1 p5 s3\nideals c1 p5\nsend c1 e1 p5\npost c1 e1 11\n? settle c1 3\n"
-    ++ codes "? failed n1 db0#0/1\n"
+    ++ pass_of_three (codes "p3")
+    ++ codes "  sent m12 s1 db0#0/0 SLAVE>MASTER\n  sent m13 s1 db0#0/1 SLAVE>MASTER\n"
+    ++ codes "post c1 e1 11\nfetch n0 s1 2\ntake s1 m12\nwrite s1 m12 ok\nack s1 m12\n"
+    ++ codes "take s1 m13\nwrite s1 m13 ok\nack s1 m13\nfetch n1 s2 0\nfetch n4 s3 0\n"
+    ++ pass_of_three (codes "p5")
+    ++ codes "post c1 e1 11\n? settle c1 3\n? failed n1 db0#0/1\n"
     ++ codes "line 18\n! 18 out-of-turn begin\n"
     ++ codes "line 19\n! 19 out-of-turn begin\n"
     ++ codes "line 20\ndrain n1\n"
@@ -443,14 +327,12 @@ pub failed_settle : output failed_settle_spec (
     ++ codes "send c1 e1 p8\n  sent m14 s2 db0#0/0 SLAVE>OFFLINE\n"
     ++ codes "  sent m15 s2 db2#2/0 ONLINE>OFFLINE\npost c1 e1 11\nfetch n0 s1 0\n"
     ++ codes "fetch n1 s2 2\ntake s2 m14\nwrite s2 m14 ok\nack s2 m14\ntake s2 m15\n"
-    ++ codes "write s2 m15 ok\nack s2 m15\nfetch n4 s3 0\nbegin c1 e1 p10\nlive c1 p10\n"
-    ++ codes "mail c1 p10 s1\nmail c1 p10 s2\nmail c1 p10 s3\nstates c1 p10 s1\n"
-    ++ codes "states c1 p10 s2\nstates c1 p10 s3\nideals c1 p10\nsend c1 e1 p10\n"
+    ++ codes "write s2 m15 ok\nack s2 m15\nfetch n4 s3 0\n"
+    ++ pass_of_three (codes "p10")
     ++ codes "  sent m16 s2 db0#0/0 OFFLINE>DROPPED\npost c1 e1 11\nfetch n0 s1 0\n"
     ++ codes "fetch n1 s2 1\ntake s2 m16\nwrite s2 m16 ok\nack s2 m16\nfetch n4 s3 0\n"
-    ++ codes "begin c1 e1 p12\nlive c1 p12\nmail c1 p12 s1\nmail c1 p12 s2\nmail c1 p12 s3\n"
-    ++ codes "states c1 p12 s1\nstates c1 p12 s2\nstates c1 p12 s3\nideals c1 p12\n"
-    ++ codes "send c1 e1 p12\npost c1 e1 10\n? settle c1 3\n? failed n1 db0#0/1\n"
+    ++ pass_of_three (codes "p12")
+    ++ codes "post c1 e1 10\n? settle c1 3\n? failed n1 db0#0/1\n"
     ++ codes "line 29\n= db0#0/0 n0:MASTER n4:SLAVE\n= db0#0/1 n0:MASTER n1:ERROR n4:SLAVE\n"
     ++ codes "= db1#1/0 n0:ONLINE\n= db2#2/0 n0:ONLINE n1:OFFLINE n4:ONLINE\n= db2#2/1 -\n"
     ++ codes "= db2#2/2 n0:ONLINE\n"

@@ -3,24 +3,20 @@
 use Rattle.std.specs.Prelude.{◌≡◌, ℕ, List, [], ◌∷◌, ◌++◌, map, codes}
 use Rattle.std.specs.Fmt.{digits}
 use Rattle.std.proofs.Common.{refl}
-use Rattle.hx_cluster.specs.declared.description.Spec.{Spec}
 use Rattle.hx_pass.specs.Left.{left_of}
 use Rattle.hx_replicas.specs.Ledger.{held_by}
 use Rattle.hx_sim.specs.World.{World}
 use Rattle.hx_sim.specs.Settles.{enough_rounds}
-use Rattle.hx_rows.proofs.Fixtures.{bare, by_lists, world_after}
-
-abbrev described : Spec
-described = record bare { resource_names = codes "db" ∷ []; resources = by_lists 0 0 3 ((0 ∷ 1 ∷ 2 ∷ []) ∷ []) ∷ [] }
+use Rattle.hx_rows.proofs.Fixtures.{one_list, world_after}
 
 abbrev joins : List ℕ
 joins = codes "join n1\njoin n2\njoin n3\nlead c1\n"
 
 abbrev joined : World
-joined = world_after described joins
+joined = world_after one_list joins
 
 abbrev settled : World
-settled = world_after described (joins ++ codes "settle\n")
+settled = world_after one_list (joins ++ codes "settle\n")
 
 pub left_at_first : left_of joined.cluster ≡ 4
 unfolding digits

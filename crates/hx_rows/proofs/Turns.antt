@@ -5,36 +5,21 @@ use Rattle.std.proofs.Common.{refl}
 use Rattle.hx_cluster.specs.declared.description.Spec.{Spec}
 use Rattle.hx_model.specs.declared.Bound.TheVariants as bounds
 use Rattle.hx_cluster.specs.declared.description.Scope.TheVariants as scopes
-use Rattle.hx_rows.proofs.Fixtures.{built_in, built_in_states, built_in_names, bare, own_model, by_lists, by_maps, taken_in_turn, rule, failed_make, failed_run, output}
+use Rattle.hx_rows.proofs.Fixtures.{built_in, built_in_states, built_in_names, bare, own_model, taken_in_turn, rule, failed_make, failed_run, output, one_list, one_stopped, three_asked, three_settled, two_wanted, pass_of_three, pass_of_two, two_asked}
 
 -- a transition ends between the reads of mail and of states, and the plan is of what was read
-abbrev torn_read_spec : Spec
-torn_read_spec = record bare {
-  resource_names = codes "db" ∷ [];
-  resources = by_lists 0 0 3 ((0 ∷ 1 ∷ 2 ∷ []) ∷ []) ∷ [];
-}
-
-pub torn_read : output torn_read_spec (
+pub torn_read : output one_list (
     codes "join n1\njoin n2\njoin n3\nlead c1\npass c1\nwork n1\nwork n2\nwork n3\n"
     ++ codes "pass c1\nfetch n1\ndeliver n1 m4\ntake n1 m4\nlist db 0 n2 n1 n3\nbegin c1\n"
     ++ codes "read c1 live\nread c1 mail\nwrite n1 m4\nack n1 m4\nread c1 states\n"
     ++ codes "read c1 ideals\nsend c1\npost c1\npass c1\n")
-    ≡ codes "line 1\njoin n1 s1\n"
-    ++ codes "line 2\njoin n2 s2\n"
-    ++ codes "line 3\njoin n3 s3\n"
-    ++ codes "line 4\nlead c1 e1\n"
-    ++ codes "line 5\nbegin c1 e1 p1\nlive c1 p1\nmail c1 p1 s1\nmail c1 p1 s2\n"
-    ++ codes "mail c1 p1 s3\nstates c1 p1 s1\nstates c1 p1 s2\nstates c1 p1 s3\n"
-    ++ codes "ideals c1 p1\nsend c1 e1 p1\n  sent m1 s1 db#0/0 OFFLINE>SLAVE\n"
-    ++ codes "  sent m2 s2 db#0/0 OFFLINE>SLAVE\n  sent m3 s3 db#0/0 OFFLINE>SLAVE\n"
+    ≡ three_asked
     ++ codes "? c1 sent 3\npost c1 e1 0\n"
     ++ codes "line 6\nfetch n1 s1 1\ntake s1 m1\nwrite s1 m1 ok\nack s1 m1\n"
     ++ codes "line 7\nfetch n2 s2 1\ntake s2 m2\nwrite s2 m2 ok\nack s2 m2\n"
     ++ codes "line 8\nfetch n3 s3 1\ntake s3 m3\nwrite s3 m3 ok\nack s3 m3\n"
-    ++ codes "line 9\nbegin c1 e1 p3\nlive c1 p3\nmail c1 p3 s1\nmail c1 p3 s2\n"
-    ++ codes "mail c1 p3 s3\nstates c1 p3 s1\nstates c1 p3 s2\nstates c1 p3 s3\n"
-    ++ codes "ideals c1 p3\nsend c1 e1 p3\n  sent m4 s1 db#0/0 SLAVE>MASTER\n? c1 sent 1\n"
-    ++ codes "post c1 e1 3\n"
+    ++ codes "line 9\n" ++ pass_of_three (codes "p3")
+    ++ codes "  sent m4 s1 db#0/0 SLAVE>MASTER\n? c1 sent 1\npost c1 e1 3\n"
     ++ codes "line 10\nfetch n1 s1 1\n"
     ++ codes "line 11\n? n1 accept m4\n"
     ++ codes "line 12\ntake s1 m4\n"
@@ -48,31 +33,17 @@ pub torn_read : output torn_read_spec (
     ++ codes "line 20\nideals c1 p5\n"
     ++ codes "line 21\nsend c1 e1 p5\n? c1 waiting 1\n"
     ++ codes "line 22\npost c1 e1 3\n"
-    ++ codes "line 23\nbegin c1 e1 p7\nlive c1 p7\nmail c1 p7 s1\nmail c1 p7 s2\n"
-    ++ codes "mail c1 p7 s3\nstates c1 p7 s1\nstates c1 p7 s2\nstates c1 p7 s3\n"
-    ++ codes "ideals c1 p7\nsend c1 e1 p7\n  sent m5 s1 db#0/0 MASTER>SLAVE\n? c1 sent 1\n"
-    ++ codes "post c1 e1 3\n= db#0/0 n1:MASTER n2:SLAVE n3:SLAVE\n"
+    ++ codes "line 23\n" ++ pass_of_three (codes "p7")
+    ++ codes "  sent m5 s1 db#0/0 MASTER>SLAVE\n? c1 sent 1\npost c1 e1 3\n"
+    ++ codes "= db#0/0 n1:MASTER n2:SLAVE n3:SLAVE\n"
 unfolding digits
 torn_read = refl
 
 -- another controller leads before the first dispatches
-abbrev fenced_spec : Spec
-fenced_spec = record bare {
-  resource_names = codes "db" ∷ [];
-  resources = by_lists 0 0 3 ((0 ∷ 1 ∷ 2 ∷ []) ∷ []) ∷ [];
-}
-
-pub fenced : output fenced_spec (
+pub fenced : output one_list (
     codes "join n1\nlead c1\nbegin c1\nread c1 live\nread c1 mail\nread c1 states\n"
     ++ codes "read c1 ideals\nstop c1\nlead c2\npass c2\nsend c1\n")
-    ≡ codes "line 1\njoin n1 s1\n"
-    ++ codes "line 2\nlead c1 e1\n"
-    ++ codes "line 3\nbegin c1 e1 p1\n"
-    ++ codes "line 4\nlive c1 p1\n"
-    ++ codes "line 5\nmail c1 p1 s1\n"
-    ++ codes "line 6\nstates c1 p1 s1\n"
-    ++ codes "line 7\nideals c1 p1\n"
-    ++ codes "line 8\nstop c1\n"
+    ≡ one_stopped
     ++ codes "line 9\nlead c2 e2\n"
     ++ codes "line 10\nbegin c2 e2 p1\nlive c2 p1\nmail c2 p1 s1\nstates c2 p1 s1\n"
     ++ codes "ideals c2 p1\nsend c2 e2 p1\n  sent m1 s1 db#0/0 OFFLINE>SLAVE\n? c2 sent 1\n"
@@ -82,23 +53,10 @@ unfolding digits
 fenced = refl
 
 -- the same controller leads again, in another epoch
-abbrev led_again_spec : Spec
-led_again_spec = record bare {
-  resource_names = codes "db" ∷ [];
-  resources = by_lists 0 0 3 ((0 ∷ 1 ∷ 2 ∷ []) ∷ []) ∷ [];
-}
-
-pub led_again : output led_again_spec (
+pub led_again : output one_list (
     codes "join n1\nlead c1\nbegin c1\nread c1 live\nread c1 mail\nread c1 states\n"
     ++ codes "read c1 ideals\nstop c1\nstart c1\nlead c1\nsend c1\npass c1\n")
-    ≡ codes "line 1\njoin n1 s1\n"
-    ++ codes "line 2\nlead c1 e1\n"
-    ++ codes "line 3\nbegin c1 e1 p1\n"
-    ++ codes "line 4\nlive c1 p1\n"
-    ++ codes "line 5\nmail c1 p1 s1\n"
-    ++ codes "line 6\nstates c1 p1 s1\n"
-    ++ codes "line 7\nideals c1 p1\n"
-    ++ codes "line 8\nstop c1\n"
+    ≡ one_stopped
     ++ codes "line 9\nstart c1\n"
     ++ codes "line 10\nlead c1 e2\n"
     ++ codes "line 11\n! 11 fenced 2\n"
@@ -109,31 +67,19 @@ unfolding digits
 led_again = refl
 
 -- one pass waits for its messages, and the next goes on
-abbrev passes_spec : Spec
-passes_spec = record bare {
-  resource_names = codes "db" ∷ [];
-  resources = by_maps 0 0 2 (((0, 2) ∷ (1, 2) ∷ []) ∷ []) ∷ [];
-}
-
-pub passes : output passes_spec (
+pub passes : output two_wanted (
     codes "join n1\njoin n2\nlead c1\npass c1\nwork n1\nwork n2\npass c1\nwork n1\n"
     ++ codes "pass c1\n")
-    ≡ codes "line 1\njoin n1 s1\n"
-    ++ codes "line 2\njoin n2 s2\n"
-    ++ codes "line 3\nlead c1 e1\n"
-    ++ codes "line 4\nbegin c1 e1 p1\nlive c1 p1\nmail c1 p1 s1\nmail c1 p1 s2\n"
-    ++ codes "states c1 p1 s1\nstates c1 p1 s2\nideals c1 p1\nsend c1 e1 p1\n"
-    ++ codes "  sent m1 s1 db#0/0 OFFLINE>SLAVE\n  sent m2 s2 db#0/0 OFFLINE>SLAVE\n"
+    ≡ two_asked
     ++ codes "? c1 sent 2\npost c1 e1 0\n"
     ++ codes "line 5\nfetch n1 s1 1\ntake s1 m1\nwrite s1 m1 ok\nack s1 m1\n"
     ++ codes "line 6\nfetch n2 s2 1\ntake s2 m2\nwrite s2 m2 ok\nack s2 m2\n"
-    ++ codes "line 7\nbegin c1 e1 p3\nlive c1 p3\nmail c1 p3 s1\nmail c1 p3 s2\n"
-    ++ codes "states c1 p3 s1\nstates c1 p3 s2\nideals c1 p3\nsend c1 e1 p3\n"
+    ++ codes "line 7\n"
+    ++ pass_of_two (codes "p3")
     ++ codes "  sent m3 s1 db#0/0 SLAVE>MASTER\n? c1 sent 1\npost c1 e1 2\n"
-    ++ codes "line 8\nfetch n1 s1 1\ntake s1 m3\nwrite s1 m3 ok\nack s1 m3\n"
-    ++ codes "line 9\nbegin c1 e1 p5\nlive c1 p5\nmail c1 p5 s1\nmail c1 p5 s2\n"
-    ++ codes "states c1 p5 s1\nstates c1 p5 s2\nideals c1 p5\nsend c1 e1 p5\n? c1 settled\n"
-    ++ codes "? full n2 db#0/0 SLAVE>MASTER 1 of 1 n1\npost c1 e1 2\n"
+    ++ codes "line 8\nfetch n1 s1 1\ntake s1 m3\nwrite s1 m3 ok\nack s1 m3\nline 9\n"
+    ++ pass_of_two (codes "p5")
+    ++ codes "? c1 settled\n? full n2 db#0/0 SLAVE>MASTER 1 of 1 n1\npost c1 e1 2\n"
     ++ codes "= db#0/0 n1:MASTER n2:SLAVE\n"
 unfolding digits
 passes = refl
@@ -222,8 +168,7 @@ torn_turns_spec = record bare {
       ∷ (4, bounds.Live) ∷ []) ((2, 8) ∷ (4, 8) ∷ (8, 2) ∷ (3, 4) ∷ (8, 3) ∷ (2, 4) ∷ (3, 2)
       ∷ (8, 1) ∷ (4, 3) ∷ []) ∷ [];
   timeout = 26;
-  resources = taken_in_turn 0 2 4 1
-      ∷ taken_in_turn 1 1 4 2 ∷ [];
+  resources = taken_in_turn 0 2 4 1 ∷ taken_in_turn 1 1 4 2 ∷ [];
 }
 
 pub torn_turns : output torn_turns_spec (
@@ -344,13 +289,10 @@ fenced_and_failed_spec = record bare {
       ∷ own_model 10 ((10, bounds.Free) ∷ (8, bounds.Count 1) ∷ []) ((8, 10) ∷ (10, 1) ∷ (10, 8)
       ∷ []) ∷ [];
   controllers = 1;
-  rules = rule scopes.Instance None 2
-      ∷ rule scopes.Instance (Some (4, 4)) 3
+  rules = rule scopes.Instance None 2 ∷ rule scopes.Instance (Some (4, 4)) 3
       ∷ rule scopes.Resource None 1 ∷ [];
   resources = taken_in_turn 0 2 3 2 ∷ [];
-  failures = failed_make 1 0 1 4
-      ∷ failed_make 1 0 1 3
-      ∷ failed_run 1 0 1 3
+  failures = failed_make 1 0 1 4 ∷ failed_make 1 0 1 3 ∷ failed_run 1 0 1 3
       ∷ failed_make 0 0 0 1 ∷ [];
 }
 
@@ -441,49 +383,19 @@ unfolding digits
 fenced_and_failed = refl
 
 -- a transition that was written counts at both its ends until it is acknowledged
-abbrev written_not_acknowledged_spec : Spec
-written_not_acknowledged_spec = record bare {
-  resource_names = codes "db" ∷ [];
-  resources = by_lists 0 0 3 ((0 ∷ 1 ∷ 2 ∷ []) ∷ []) ∷ [];
-}
-
-pub written_not_acknowledged : output written_not_acknowledged_spec (
+pub written_not_acknowledged : output one_list (
     codes "join n1\njoin n2\njoin n3\nlead c1\nsettle\nlist db 0 n2 n1 n3\npass c1\n"
     ++ codes "fetch n1\ndeliver n1 m5\ntake n1 m5\nwrite n1 m5\npass c1\nack n1 m5\npass c1\n")
-    ≡ codes "line 1\njoin n1 s1\n"
-    ++ codes "line 2\njoin n2 s2\n"
-    ++ codes "line 3\njoin n3 s3\n"
-    ++ codes "line 4\nlead c1 e1\n"
-    ++ codes "line 5\nbegin c1 e1 p1\nlive c1 p1\nmail c1 p1 s1\nmail c1 p1 s2\n"
-    ++ codes "mail c1 p1 s3\nstates c1 p1 s1\nstates c1 p1 s2\nstates c1 p1 s3\n"
-    ++ codes "ideals c1 p1\nsend c1 e1 p1\n  sent m1 s1 db#0/0 OFFLINE>SLAVE\n"
-    ++ codes "  sent m2 s2 db#0/0 OFFLINE>SLAVE\n  sent m3 s3 db#0/0 OFFLINE>SLAVE\n"
-    ++ codes "post c1 e1 0\nfetch n1 s1 1\ntake s1 m1\nwrite s1 m1 ok\nack s1 m1\n"
-    ++ codes "fetch n2 s2 1\ntake s2 m2\nwrite s2 m2 ok\nack s2 m2\nfetch n3 s3 1\n"
-    ++ codes "take s3 m3\nwrite s3 m3 ok\nack s3 m3\nbegin c1 e1 p3\nlive c1 p3\n"
-    ++ codes "mail c1 p3 s1\nmail c1 p3 s2\nmail c1 p3 s3\nstates c1 p3 s1\nstates c1 p3 s2\n"
-    ++ codes "states c1 p3 s3\nideals c1 p3\nsend c1 e1 p3\n"
-    ++ codes "  sent m4 s1 db#0/0 SLAVE>MASTER\npost c1 e1 3\nfetch n1 s1 1\ntake s1 m4\n"
-    ++ codes "write s1 m4 ok\nack s1 m4\nfetch n2 s2 0\nfetch n3 s3 0\nbegin c1 e1 p5\n"
-    ++ codes "live c1 p5\nmail c1 p5 s1\nmail c1 p5 s2\nmail c1 p5 s3\nstates c1 p5 s1\n"
-    ++ codes "states c1 p5 s2\nstates c1 p5 s3\nideals c1 p5\nsend c1 e1 p5\npost c1 e1 3\n"
-    ++ codes "? settle c1 3\n"
+    ≡ three_settled
     ++ codes "line 6\nlist db#0/0 n2 n1 n3\n"
-    ++ codes "line 7\nbegin c1 e1 p7\nlive c1 p7\nmail c1 p7 s1\nmail c1 p7 s2\n"
-    ++ codes "mail c1 p7 s3\nstates c1 p7 s1\nstates c1 p7 s2\nstates c1 p7 s3\n"
-    ++ codes "ideals c1 p7\nsend c1 e1 p7\n  sent m5 s1 db#0/0 MASTER>SLAVE\n? c1 sent 1\n"
-    ++ codes "post c1 e1 3\n"
+    ++ codes "line 7\n" ++ pass_of_three (codes "p7")
+    ++ codes "  sent m5 s1 db#0/0 MASTER>SLAVE\n? c1 sent 1\npost c1 e1 3\n"
     ++ codes "line 8\nfetch n1 s1 1\n"
     ++ codes "line 9\n? n1 accept m5\n"
-    ++ codes "line 10\ntake s1 m5\n"
-    ++ codes "line 11\nwrite s1 m5 ok\n"
-    ++ codes "line 12\nbegin c1 e1 p9\nlive c1 p9\nmail c1 p9 s1\nmail c1 p9 s2\n"
-    ++ codes "mail c1 p9 s3\nstates c1 p9 s1\nstates c1 p9 s2\nstates c1 p9 s3\n"
-    ++ codes "ideals c1 p9\nsend c1 e1 p9\n? c1 waiting 1\npost c1 e1 3\n"
-    ++ codes "line 13\nack s1 m5\n"
-    ++ codes "line 14\nbegin c1 e1 p11\nlive c1 p11\nmail c1 p11 s1\nmail c1 p11 s2\n"
-    ++ codes "mail c1 p11 s3\nstates c1 p11 s1\nstates c1 p11 s2\nstates c1 p11 s3\n"
-    ++ codes "ideals c1 p11\nsend c1 e1 p11\n  sent m6 s2 db#0/0 SLAVE>MASTER\n? c1 sent 1\n"
-    ++ codes "post c1 e1 3\n= db#0/0 n1:SLAVE n2:SLAVE n3:SLAVE\n"
+    ++ codes "line 10\ntake s1 m5\nline 11\nwrite s1 m5 ok\n"
+    ++ codes "line 12\n" ++ pass_of_three (codes "p9")
+    ++ codes "? c1 waiting 1\npost c1 e1 3\nline 13\nack s1 m5\nline 14\n" ++ pass_of_three (codes "p11")
+    ++ codes "  sent m6 s2 db#0/0 SLAVE>MASTER\n? c1 sent 1\npost c1 e1 3\n"
+    ++ codes "= db#0/0 n1:SLAVE n2:SLAVE n3:SLAVE\n"
 unfolding digits
 written_not_acknowledged = refl

@@ -1,19 +1,12 @@
 -- Verdicts on whole logs, and a script at fault.
-use Rattle.std.specs.Prelude.{◌≡◌, [], ◌∷◌, ◌++◌, Some, codes}
+use Rattle.std.specs.Prelude.{◌≡◌, ◌++◌, Some, codes}
 use Rattle.std.specs.Fmt.{digits}
 use Rattle.std.proofs.Common.{refl}
-use Rattle.hx_cluster.specs.declared.description.Spec.{Spec}
 use Rattle.hx_script.specs.declared.faults.ScriptKind.TheVariants as kinds
-use Rattle.hx_rows.proofs.Fixtures.{bare, by_lists, fault, verdict}
+use Rattle.hx_rows.proofs.Fixtures.{fault, verdict, demo, one_list}
 
 -- the whole output of the demo is the log of a lawful history, with 21 entries
-abbrev lawful_log_spec : Spec
-lawful_log_spec = record bare {
-  resource_names = codes "db" ∷ [];
-  resources = by_lists 0 1 2 ((0 ∷ 1 ∷ 2 ∷ []) ∷ (1 ∷ 2 ∷ 0 ∷ []) ∷ []) ∷ [];
-}
-
-pub lawful_log : verdict lawful_log_spec (
+pub lawful_log : verdict demo (
     codes "line 1\njoin n1 s1\nline 2\nlead c1 e1\nline 3\nbegin c1 e1 p1\nlive c1 p1\n"
     ++ codes "mail c1 p1 s1\nstates c1 p1 s1\nideals c1 p1\nsend c1 e1 p1\n"
     ++ codes "  sent m1 s1 db#0/0 OFFLINE>ONLINE\n  sent m2 s1 db#0/1 OFFLINE>ONLINE\n"
@@ -25,13 +18,7 @@ unfolding digits
 lawful_log = refl
 
 -- with the reads of mail and of states exchanged, the eighth line is out of the turn's order
-abbrev read_out_of_order_spec : Spec
-read_out_of_order_spec = record bare {
-  resource_names = codes "db" ∷ [];
-  resources = by_lists 0 1 2 ((0 ∷ 1 ∷ 2 ∷ []) ∷ (1 ∷ 2 ∷ 0 ∷ []) ∷ []) ∷ [];
-}
-
-pub read_out_of_order : verdict read_out_of_order_spec (
+pub read_out_of_order : verdict demo (
     codes "line 1\njoin n1 s1\nline 2\nlead c1 e1\nline 3\nbegin c1 e1 p1\nlive c1 p1\n"
     ++ codes "states c1 p1 s1\nmail c1 p1 s1\nideals c1 p1\nsend c1 e1 p1\n"
     ++ codes "  sent m1 s1 db#0/0 OFFLINE>ONLINE\n  sent m2 s1 db#0/1 OFFLINE>ONLINE\n"
@@ -43,13 +30,7 @@ unfolding digits
 read_out_of_order = refl
 
 -- six good lines, and one whose first word is none
-abbrev unknown_word_spec : Spec
-unknown_word_spec = record bare {
-  resource_names = codes "db" ∷ [];
-  resources = by_lists 0 0 3 ((0 ∷ 1 ∷ 2 ∷ []) ∷ []) ∷ [];
-}
-
-pub unknown_word : fault unknown_word_spec (
+pub unknown_word : fault one_list (
     codes "join n1\njoin n2\njoin n3\nlead c1\nsettle\nview\njion n1\n")
     ≡ Some (record { line = 7; kind = kinds.UnknownWord })
 unfolding digits

@@ -110,19 +110,15 @@ calm_step c (steps.Reset i p) = calm_asked c p (live_of c.live i)
 calm_step c step = let beside = beside_step c step refl in calm_same c (after c step) beside.mail beside.rows
 
 -- marks
+marked_same : (b : Bool) (x m n : Message) → is_same n x ≡ is_same m x → is_same (if b then n else m) x ≡ is_same m x
+marked_same true x m n e = e
+marked_same false x m n e = refl
+
 taken_same : (s : SessionId) (id : MsgId) (x m : Message) → is_same (as_taken s id m) x ≡ is_same m x
-taken_same s id x m = one (has_id s id m)
-  where
-    one : (b : Bool) → is_same (if b then record m { taken = true } else m) x ≡ is_same m x
-    one true = refl
-    one false = refl
+taken_same s id x m = marked_same (has_id s id m) x m (record m { taken = true }) refl
 
 written_same : (s : SessionId) (id : MsgId) (x m : Message) → is_same (as_written s id m) x ≡ is_same m x
-written_same s id x m = one (has_id s id m)
-  where
-    one : (b : Bool) → is_same (if b then record m { written = true } else m) x ≡ is_same m x
-    one true = refl
-    one false = refl
+written_same s id x m = marked_same (has_id s id m) x m (record m { written = true }) refl
 
 pub any-same : {X : Type 0} (p q : X → Bool) (h : (x : X) → p x ≡ q x) (xs : List X) → list_any p xs ≡ list_any q xs
 any-same p q h [] = refl

@@ -219,18 +219,13 @@ any_acked m taken c s id mail can e = one (is_live c.live s) (pending_of c s id)
         c.mail (any-both (waits m taken) (λ x. not (has_id s id x) || x.written) c.mail e all))
       where
         out : (a b : Bool) → a ≡ false → (not a || b) ≡ true
-        out true b w = cc
-        out false b w = refl
+        out a b w = grind (arith, w)
 
         last : (a b : Bool) → b ≡ true → (not a || b) ≡ true
-        last true true w = refl
-        last false true w = refl
-        last a false w = cc
+        last a b w = grind (arith, w)
 
         stays : (a b : Bool) → (not a || b) ≡ true → b ≡ false → not a ≡ true
-        stays true true w u = cc
-        stays true false w u = cc
-        stays false b w u = refl
+        stays a b w u = grind (arith, w, u)
 
     one : (live : Bool) (o : Option Message) → pending_of c s id ≡ o → is_none (if live then ack_fault o else Some acks.SessionEnded) ≡ true
         → list_any (waits m taken) (filter (λ x. not (has_id s id x)) c.mail) ≡ true
@@ -284,13 +279,13 @@ stands_until c (e ∷ es) m w legal wait = (
 )
 
 -- a message that is sent waits
-next_session_placed : (c : Cluster) (q : Proposal) (a : Placed) → (after_placed c q a).next_session ≡ c.next_session
-next_session_placed c q (placings.Sent id) = refl
-next_session_placed c q _ = refl
-
 next_session_proposals : (c : Cluster) (qs : List Proposal) → (after_proposals c qs).next_session ≡ c.next_session
 next_session_proposals c [] = refl
-next_session_proposals c (q ∷ qs) = next_session_proposals (after_proposal c q) qs ∙ next_session_placed c q (placed_of c q)
+next_session_proposals c (q ∷ qs) = next_session_proposals (after_proposal c q) qs ∙ one (placed_of c q)
+  where
+    one : (a : Placed) → (after_placed c q a).next_session ≡ c.next_session
+    one (placings.Sent id) = refl
+    one _ = refl
 
 abbrev are_below : Cluster → Bool
 are_below c = list_all (λ l. nat_lt l.session.0 c.next_session) c.live
