@@ -11,8 +11,8 @@ use Rattle.hx_handler.specs.declared.Handler as handler
 use Rattle.hx_replicas.specs.declared.slots.Work.{Work}
 use Rattle.hx_replicas.specs.declared.slots.Work.TheVariants.{Idle, Accepted, Out}
 use Rattle.hx_replicas.specs.declared.slots.Slot.{Slot}
-use Rattle.hx_replicas.specs.Participants.{Participant, Slot as PlainSlot, slot_in, slot_of, accepted_of, number_before}
-use Rattle.hx_replicas.specs.Layout.{plain_slot, IsSlot, AreDistinct}
+use Rattle.hx_replicas.specs.Participants.{Participant, Slot as PlainSlot, slot_in, slot_of, accepted_of, accepted_all, number_before}
+use Rattle.hx_replicas.specs.Layout.{plain_slot, IsSlot, IsLaidOut, AreDistinct}
 use Rattle.hx_replicas.specs.Batches.{with_accepted, AreApart, AreSpread, AreAccepted}
 use Rattle.hx_replicas.proofs.Parts.{part_eq-same}
 use Rattle.hx_replicas.proofs.Putting.{find-step}
@@ -139,11 +139,24 @@ module _ {H : Type 0} (k : handler.Ghosts H) (told : Option (List Failure)) wher
       one (Out m b) e fit later = subst (λ (ns : List Message). AreAccepted (behind (x ∷ xs)) ns) (sym (first-idle x xs (ap accepted_of e))) later
 
   -- the messages in order are of parts of their own, and accepted
-  pub spread-all : (xs : List (Slot H)) → AreDistinct (map (λ x. x.part) xs) → All (IsSlot k told) xs → AreSpread (sort_by number_before (filter_map (λ y. accepted_of y.work) xs))
+  spread-all : (xs : List (Slot H)) → AreDistinct (map (λ x. x.part) xs) → All (IsSlot k told) xs → AreSpread (sort_by number_before (filter_map (λ y. accepted_of y.work) xs))
   spread-all xs distinct fits = spread-sort (filter_map (λ y. accepted_of y.work) xs) (spread-accepted xs distinct fits)
 
-  pub accepted-sorted : (w : Participant) (xs : List (Slot H)) → w.slots ≡ map (plain_slot k) xs → AreDistinct (map (λ x. x.part) xs) → All (IsSlot k told) xs → AreAccepted w (sort_by number_before (filter_map (λ y. accepted_of y.work) xs))
+  accepted-sorted : (w : Participant) (xs : List (Slot H)) → w.slots ≡ map (plain_slot k) xs → AreDistinct (map (λ x. x.part) xs) → All (IsSlot k told) xs → AreAccepted w (sort_by number_before (filter_map (λ y. accepted_of y.work) xs))
   unfolding behind
   accepted-sorted w xs is distinct fits =
       AreAccepted-same (behind xs) w (sort_by number_before (filter_map (λ y. accepted_of y.work) xs)) (λ p. ap (λ ss. (slot_in ss p).work) is)
       (accepted-sort (behind xs) (filter_map (λ y. accepted_of y.work) xs) (all-accepted xs distinct fits))
+
+-- the accepted messages, by number
+pub record AreSorted (w : Participant) (ms : List Message) : Type 0 where
+  pub all : accepted_all w ≡ ms
+  pub spread : AreSpread ms
+  pub accepted : AreAccepted w ms
+
+pub sorted-all : {H : Type 0} {k : handler.Ghosts H} {told : Option (List Failure)} {xs : List (Slot H)} {made retired : ℕ} → IsLaidOut k told xs made retired → (w : Participant) (ms : List Message) → w.slots ≡ map (plain_slot k) xs → ms ≡ sort_by number_before (filter_map (λ y. accepted_of y.work) xs) → AreSorted w ms
+sorted-all {k = k} {told = told} {xs = xs} laid w ms is sorted = record {
+  all = rw (is, accepted-plain k xs) (sym sorted);
+  spread = rw sorted (spread-all k told xs laid.distinct laid.fits);
+  accepted = rw sorted (accepted-sorted k told w xs is laid.distinct laid.fits);
+}

@@ -210,12 +210,11 @@ impl<F: Factory> Participant<F> {
         let Some(place) = accepted_place(&self.slots, id) else {
             return Ok(None);
         };
-        let slot = &mut self.slots[place];
-        let Work::Accepted(message) = slot.work else {
+        let Work::Accepted(message) = self.slots[place].work else {
             unreachable!()
         };
-        ready(slot, &message, &mut self.factory)?;
-        Ok(Some(give(slot, &message)))
+        self.ready_one(&message)?;
+        Ok(Some(self.give_one(&message)))
     }
 
     /// Hands out all accepted messages by their numbers, as `job_of` does. It makes the handlers
