@@ -77,7 +77,7 @@ apart-at p (m ∷ ms) zero d apart lt = part_eq-flip m.part p apart.0
 apart-at p (m ∷ ms) (suc i) d apart lt = apart-at p ms i d apart.1 (omega arith)
 
 -- a message that isn't reached keeps its slot and its makings
-pub slot-left : (w : Participant) (ms : List Message) (fs : List Bool) (i : ℕ) (d : Message) → AreSpread ms → i < length ms → length fs ≤ i → slot_of (readied_all w ms fs) (get_or ms i d).part ≡ slot_of w (get_or ms i d).part
+slot-left : (w : Participant) (ms : List Message) (fs : List Bool) (i : ℕ) (d : Message) → AreSpread ms → i < length ms → length fs ≤ i → slot_of (readied_all w ms fs) (get_or ms i d).part ≡ slot_of w (get_or ms i d).part
 slot-left w [] fs i d spread lt le = absurd (omega arith)
 slot-left w (m ∷ ms) [] i d spread lt le = refl
 slot-left w (m ∷ ms) (f ∷ fs) zero d spread lt le = absurd (omega arith)
@@ -146,7 +146,7 @@ KeepsRest-then a b c was now = record {
   listed = now.listed ∙ was.listed;
 }
 
-pub accepted-at : (w : Participant) (ms : List Message) (i : ℕ) (d : Message) → AreAccepted w ms → i < length ms → (slot_of w (get_or ms i d).part).work ≡ Accepted (get_or ms i d)
+accepted-at : (w : Participant) (ms : List Message) (i : ℕ) (d : Message) → AreAccepted w ms → i < length ms → (slot_of w (get_or ms i d).part).work ≡ Accepted (get_or ms i d)
 accepted-at w [] i d all lt = absurd (omega arith)
 accepted-at w (m ∷ ms) zero d all lt = all.0
 accepted-at w (m ∷ ms) (suc i) d all lt = accepted-at w ms i d all.1 (omega arith)
@@ -244,7 +244,7 @@ given-other w m p other =
     let own : (slot_of w m.part).part ≡ m.part = part-slot_in w.slots m.part in
     slot_in-put_other w.slots (emptied_for (slot_of w m.part) m) p (subst (λ (q : PartId). part_eq q p ≡ false) (sym own) other)
 
-pub slot-ungiven : (w : Participant) (ms : List Message) (i : ℕ) (d : Message) → AreSpread ms → i < length ms → slot_of (given_all w (take i ms)) (get_or ms i d).part ≡ slot_of w (get_or ms i d).part
+slot-ungiven : (w : Participant) (ms : List Message) (i : ℕ) (d : Message) → AreSpread ms → i < length ms → slot_of (given_all w (take i ms)) (get_or ms i d).part ≡ slot_of w (get_or ms i d).part
 slot-ungiven w [] i d spread lt = absurd (omega arith)
 slot-ungiven w (m ∷ ms) zero d spread lt = refl
 slot-ungiven w (m ∷ ms) (suc i) d spread lt =
@@ -263,6 +263,17 @@ AreGiven-more a (m ∷ ms) [] j (suc i) d lt len message runs listed was = absur
 AreGiven-more a (m ∷ ms) (h ∷ js) j zero d lt len message runs listed was = absurd (omega arith)
 AreGiven-more a (m ∷ ms) (h ∷ js) j (suc i) d lt len message runs listed was =
     (was.0, was.1, was.2, AreGiven-more a ms js j i d (omega arith) (omega arith) message runs listed was.3)
+
+-- the next message to be handed out stands as it did
+pub next-unready : (w v : Participant) (ms : List Message) (fs : List Bool) (i : ℕ) (d : Message) → AreSpread ms → AreAccepted w ms → i < length ms → length fs ≤ i → v ≡ readied_all w ms fs → (slot_of v (get_or ms i d).part).work ≡ Accepted (get_or ms i d)
+next-unready w v ms fs i d spread accepted lt len is =
+    ap (λ u. (slot_of u (get_or ms i d).part).work) is ∙ ap (λ x. x.work) (slot-left w ms fs i d spread lt len) ∙ accepted-at w ms i d accepted lt
+
+pub next-ungiven : (w v : Participant) (ms : List Message) (i : ℕ) (d : Message) → AreSpread ms → i < length ms → v ≡ given_all w (take i ms) → slot_of v (get_or ms i d).part ≡ slot_of w (get_or ms i d).part
+next-ungiven w v ms i d spread lt is = ap (λ u. slot_of u (get_or ms i d).part) is ∙ slot-ungiven w ms i d spread lt
+
+pub next-accepted : (w v : Participant) (ms : List Message) (i : ℕ) (d : Message) → AreSpread ms → AreAccepted w ms → i < length ms → v ≡ given_all w (take i ms) → (slot_of v (get_or ms i d).part).work ≡ Accepted (get_or ms i d)
+next-accepted w v ms i d spread accepted lt is = ap (λ x. x.work) (next-ungiven w v ms i d spread lt is) ∙ accepted-at w ms i d accepted lt
 
 all-first : {X : Type 0} (P : X → Type 0) (x : X) (xs : List X) → P x → All P xs → All P (x ∷ xs)
 all-first P x xs p ps zero d lt = p

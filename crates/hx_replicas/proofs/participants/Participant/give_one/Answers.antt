@@ -8,13 +8,13 @@ unreachable-requires g c = accepted-found g.F.H.Handler c.self.inside.slots.item
 
 pub give-requires-clause-fits : goal.give-requires-clause-fits
 give-requires-clause-fits g c κs within =
+    let told = g.F.Factory.listed c.self.inside.factory in
     let t = slot-held c.self.invariant.0 c.args.message.now c.in-Some.place c.index_mut.result.now (cc) c.index_mut.ensures.value (rw (← c.self.view_is) at c.requires) in
-    (g.F.Factory.listed c.self.inside.factory, t.fit)
+    (told, t.fit)
 
 pub give-requires-clause-accepted : goal.give-requires-clause-accepted
 give-requires-clause-accepted g c κs within =
-    let t = slot-held c.self.invariant.0 c.args.message.now c.in-Some.place c.index_mut.result.now (cc) c.index_mut.ensures.value (rw (← c.self.view_is) at c.requires) in
-    t.work
+    (slot-held c.self.invariant.0 c.args.message.now c.in-Some.place c.index_mut.result.now (cc) c.index_mut.ensures.value (rw (← c.self.view_is) at c.requires)).work
 
 pub invariant_of-self : goal.invariant_of-self
 invariant_of-self g c =

@@ -15,13 +15,11 @@ returns-in_err-messages-clause-err g c =
 
 pub ready_all-requires-clause-spread : goal.ready_all-requires-clause-spread
 ready_all-requires-clause-spread g c κs within =
-    let of = sorted-all c.self.invariant.0 c.args.self.now.plain c.in_ok-messages.messages.items (rw (← c.self.view_is) refl) (rw c.deref.ensures.value at c.in_ok-messages.ensures) in
-    rw c.deref-2.ensures.value of.spread
+    rw c.deref-2.ensures.value (sorted-all c.self.invariant.0 c.args.self.now.plain c.in_ok-messages.messages.items (rw (← c.self.view_is) refl) (rw c.deref.ensures.value at c.in_ok-messages.ensures)).spread
 
 pub ready_all-requires-clause-accepted : goal.ready_all-requires-clause-accepted
 ready_all-requires-clause-accepted g c κs within =
-    let of = sorted-all c.self.invariant.0 c.args.self.now.plain c.in_ok-messages.messages.items (rw (← c.self.view_is) refl) (rw c.deref.ensures.value at c.in_ok-messages.ensures) in
-    rw c.deref-2.ensures.value of.accepted
+    rw c.deref-2.ensures.value (sorted-all c.self.invariant.0 c.args.self.now.plain c.in_ok-messages.messages.items (rw (← c.self.view_is) refl) (rw c.deref.ensures.value at c.in_ok-messages.ensures)).accepted
 
 pub ready_all-requires-clause-ledger : goal.ready_all-requires-clause-ledger
 ready_all-requires-clause-ledger g c κs within =
@@ -47,8 +45,7 @@ returns-in_err-jobs-clause-err g c =
 
 pub give_all-requires-clause-spread : goal.give_all-requires-clause-spread
 give_all-requires-clause-spread g c κs within =
-    let of = sorted-all c.self.invariant.0 c.args.self.now.plain c.in_ok-messages.messages.items (rw (← c.self.view_is) refl) (rw c.deref.ensures.value at c.in_ok-messages.ensures) in
-    rw c.deref-3.ensures.value of.spread
+    rw c.deref-3.ensures.value (sorted-all c.self.invariant.0 c.args.self.now.plain c.in_ok-messages.messages.items (rw (← c.self.view_is) refl) (rw c.deref.ensures.value at c.in_ok-messages.ensures)).spread
 
 pub give_all-requires-clause-accepted : goal.give_all-requires-clause-accepted
 give_all-requires-clause-accepted g c κs within =

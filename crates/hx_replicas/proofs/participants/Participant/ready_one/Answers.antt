@@ -12,24 +12,22 @@ unreachable-requires g c = accepted-found g.F.H.Handler c.self.inside.slots.item
 
 pub ready-requires-clause-fits : goal.ready-requires-clause-fits
 ready-requires-clause-fits g c κs within =
-    let t = slot-held c.self.invariant.0 c.args.message.now c.in-Some.place c.index_mut.result.now (cc) c.index_mut.ensures.value (rw (← c.self.view_is) at c.requires) in
-    t.fit
+    (slot-held c.self.invariant.0 c.args.message.now c.in-Some.place c.index_mut.result.now (cc) c.index_mut.ensures.value (rw (← c.self.view_is) at c.requires)).fit
 
 pub ready-requires-clause-accepted : goal.ready-requires-clause-accepted
 ready-requires-clause-accepted g c κs within =
-    let t = slot-held c.self.invariant.0 c.args.message.now c.in-Some.place c.index_mut.result.now (cc) c.index_mut.ensures.value (rw (← c.self.view_is) at c.requires) in
-    t.work
+    (slot-held c.self.invariant.0 c.args.message.now c.in-Some.place c.index_mut.result.now (cc) c.index_mut.ensures.value (rw (← c.self.view_is) at c.requires)).work
 
 pub invariant_of-self : goal.invariant_of-self
 invariant_of-self g c =
-    let t = slot-held c.self.invariant.0 c.args.message.now c.in-Some.place c.index_mut.result.now (cc) c.index_mut.ensures.value (rw (← c.self.view_is) at c.requires) in
     let now = c.ready.ensures in
+    let t = slot-held c.self.invariant.0 c.args.message.now c.in-Some.place c.index_mut.result.now (cc) c.index_mut.ensures.value (rw (← c.self.view_is) at c.requires) in
     (rw (now.listed, now.retired) (IsLaidOut-ready t c.ready.new.slot now.slot now.fits now.made c.self.invariant.0), c.self.invariant.1)
 
 pub invariant_of-self-2 : goal.invariant_of-self-2
 invariant_of-self-2 g c =
-    let t = slot-held c.self.invariant.0 c.args.message.now c.in-Some.place c.index_mut.result.now (cc) c.index_mut.ensures.value (rw (← c.self.view_is) at c.requires) in
     let now = c.ready.ensures in
+    let t = slot-held c.self.invariant.0 c.args.message.now c.in-Some.place c.index_mut.result.now (cc) c.index_mut.ensures.value (rw (← c.self.view_is) at c.requires) in
     (rw (now.listed, now.retired) (IsLaidOut-ready t c.ready.new.slot now.slot now.fits now.made c.self.invariant.0), c.self.invariant.1)
 
 pub returns-in_err-ready : goal.returns-in_err-ready
