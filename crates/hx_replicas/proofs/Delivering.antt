@@ -74,14 +74,14 @@ module _ {H : Type 0} (k : handler.Ghosts H) (told : Option (List Failure)) wher
         out = λ e. (cc);
       }
 
-  pub IsLaidOut-accept : {made retired : ℕ} (xs : List (Slot H)) (m : Message) (i : ℕ) (x : Slot H) → position (has_part m.part) xs ≡ Some i → x ≡ get_or xs i x → slot_fault x.work x.state x.last x.initial m ≡ None → IsSound m → IsLike x.initial m → IsLaidOut k told xs made retired → IsLaidOut k told (set xs i (taken x m)) made retired
+  pub IsLaidOut-accept : {made retired : ℕ} (xs : List (Slot H)) (m : Message) (i : ℕ) (x : Slot H) → position (has_part m.part) xs ≡ Some i → x ≡ get_or xs i x → slot_fault x.work x.state x.last x.initial m ≡ None → IsSound m → IsLike (slot_in (map (plain_slot k) xs) m.part).initial m → IsLaidOut k told xs made retired → IsLaidOut k told (set xs i (taken x m)) made retired
   IsLaidOut-accept xs m i x e at_i none sound like was =
       let lt : i < length xs = found-in (has_part m.part) xs i x e in
       let same : x.part ≡ m.part = part-found xs m.part i x e at_i in
       let idle : x.work ≡ Idle = idle-from_none x.work x.state x.last x.initial m none in
       let quiet : lent x.work ≡ 0 = rw idle refl in
       IsLaidOut-set xs i (taken x m) x lt (rw (← at_i) refl)
-      (IsSlot-taken x m (sym same) (let h : IsSlot k told (get_or xs i x) = was.fits i x lt in rw (← at_i) at h) none sound like)
+      (IsSlot-taken x m (sym same) (let h : IsSlot k told (get_or xs i x) = was.fits i x lt in rw (← at_i) at h) none sound (rw (slot-found k xs m.part i x e at_i) at like))
       (rw (← at_i) (omega (arith, quiet))) was
 
   pub IsLaidOut-fresh : {made retired : ℕ} (xs : List (Slot H)) (m : Message) → find (λ y. part_eq y.part m.part) (map (plain_slot k) xs) ≡ None → m.initial ≡ m.from → IsSound m → IsLaidOut k told xs made retired → IsLaidOut k told (xs ++ fresh m ∷ []) made retired
@@ -102,6 +102,3 @@ module _ {H : Type 0} (k : handler.Ghosts H) where
 
   pub accept-new : (xs : List (Slot H)) (m : Message) → find (λ y. part_eq y.part m.part) (map (plain_slot k) xs) ≡ None → map (plain_slot k) (xs ++ fresh m ∷ []) ≡ put_slot (map (plain_slot k) xs) (accepted (slot_in (map (plain_slot k) xs) m.part) m)
   accept-new xs m new = rw new (sym (unused-put k xs (fresh m) m.part refl new))
-
-  pub like-held : (xs : List (Slot H)) (m : Message) (i : ℕ) (x : Slot H) → position (has_part m.part) xs ≡ Some i → x ≡ get_or xs i x → IsLike (slot_in (map (plain_slot k) xs) m.part).initial m → IsLike x.initial m
-  like-held xs m i x e at_i like = rw (slot-found k xs m.part i x e at_i) at like

@@ -11,14 +11,14 @@ use Rattle.hx_handler.specs.declared.Handler as handler
 use Rattle.hx_replicas.specs.declared.slots.Work.{Work}
 use Rattle.hx_replicas.specs.declared.slots.Work.TheVariants.{Idle, Accepted, Out}
 use Rattle.hx_replicas.specs.declared.slots.Slot.{Slot}
-use Rattle.hx_replicas.specs.Participants.{Participant, has_accepted, slot_in, slot_of, put_slot, made_ready, makes, emptied_for, readied, given, hand_out}
+use Rattle.hx_replicas.specs.Participants.{Participant, Slot as PlainSlot, has_accepted, slot_in, slot_of, put_slot, made_ready, makes, emptied_for, readied, given}
 use Rattle.hx_handler.specs.Makings.{tried_up}
 use Rattle.hx_replicas.specs.Ledger.{lent, in_place}
 use Rattle.hx_replicas.specs.Jobs.{StandsEmpty, runs_of, seen, seen_in}
-use Rattle.hx_replicas.specs.Layout.{plain_slot, IsSlot, Stands, OfSlot, IsLaidOut, AreDistinct, has_number, has_part, sent_out}
-use Rattle.hx_replicas.proofs.Searching.{found-passes}
-use Rattle.hx_replicas.proofs.Placing.{slot-at, put-at, slot-found, slot-none}
-use Rattle.hx_replicas.proofs.Putting.{slots-hand_out, slot_in-put}
+use Rattle.hx_replicas.specs.Layout.{plain_slot, IsSlot, Stands, OfSlot, IsLaidOut, AreDistinct, has_number, has_part, filled, sent_out}
+use Rattle.hx_replicas.proofs.Searching.{found-in, found-passes}
+use Rattle.hx_replicas.proofs.Placing.{slot-at, put-at, slot-found, slot-none, part-found}
+use Rattle.hx_replicas.proofs.Putting.{slot_in-put}
 use Rattle.hx_replicas.proofs.Laying.{IsLaidOut-set}
 
 pub is_some-map : {X Y : Type 0} (f : X → Y) (o : Option X) → is_some (option_map f o) ≡ is_some o
@@ -58,21 +58,6 @@ module _ {H : Type 0} (k : handler.Ghosts H) (told : Option (List Failure)) wher
       let stands : Stands k told x.part x.state x.initial 0 x.handler = rw is at was.handler in
       record { handler = λ none. sent-empty x.handler x.part x.state x.initial m stands none; work = of-slot x m was is; out = λ e. refl }
 
-  -- a slot got a handler, or not, and sends its message out with it
-  pub IsLaidOut-sent : {made retired made' : ℕ} (xs : List (Slot H)) (m : Message) (i : ℕ) (x y : Slot H) → i < length xs → x ≡ get_or xs i x → x.work ≡ Accepted m → y.part ≡ x.part → y.work ≡ Accepted m → IsSlot k told y → made' + in_place x.handler ≡ made + in_place y.handler → IsLaidOut k told xs made retired → IsLaidOut k told (set xs i (sent_out y m)) made' retired
-  IsLaidOut-sent xs m i x y lt at_i is same still fits counts was =
-      let quiet : lent x.work ≡ 0 = rw is refl in
-      IsLaidOut-set xs i (sent_out y m) x lt (rw (← at_i) same) (IsSlot-sent y m fits still)
-      (rw (← at_i) (omega (arith, quiet, counts, sent-count y.handler m))) was
-
-  -- the same, where it keeps the message
-  pub IsLaidOut-ready : {made retired made' : ℕ} (xs : List (Slot H)) (m : Message) (i : ℕ) (x y : Slot H) → i < length xs → x ≡ get_or xs i x → x.work ≡ Accepted m → y.part ≡ x.part → y.work ≡ Accepted m → IsSlot k told y → made' + in_place x.handler ≡ made + in_place y.handler → IsLaidOut k told xs made retired → IsLaidOut k told (set xs i y) made' retired
-  IsLaidOut-ready xs m i x y lt at_i is same still fits counts was =
-      let quiet : lent x.work ≡ 0 = rw is refl in
-      let quiet_too : lent y.work ≡ 0 = rw still refl in
-      IsLaidOut-set xs i y x lt (rw (← at_i) same) fits
-      (rw (← at_i) (omega (arith, quiet, quiet_too, counts))) was
-
   listed-in : (h : Option H) (p : PartId) (s : StateId) (i : Option StateId) (out : ℕ) → Stands k told p s i out h → ForSome (seen_in k h) (λ y. y.listed ≡ told)
   listed-in None p s i out was = λ y e. (cc)
   listed-in (Some h) p s i out was = λ y e. let is : y ≡ seen k h = (cc) in rw is was.0.of_list
@@ -81,52 +66,84 @@ module _ {H : Type 0} (k : handler.Ghosts H) (told : Option (List Failure)) wher
   pub listed-seen : (x : Slot H) → IsSlot k told x → ForSome (seen_in k x.handler) (λ y. y.listed ≡ told)
   listed-seen x was = listed-in x.handler x.part x.state x.initial (lent x.work) was.handler
 
-module _ {H : Type 0} (k : handler.Ghosts H) where
-  plain-sent : (x : Slot H) (m : Message) → plain_slot k (sent_out x m) ≡ emptied_for (plain_slot k x) m
-  plain-sent x m = rw (is_some-map (λ h. k.runs h) x.handler) refl
+-- a message that is accepted has a slot
+pub accepted-found : {H : Type 0} (k : handler.Ghosts H) (xs : List (Slot H)) (m : Message) → (slot_in (map (plain_slot k) xs) m.part).work ≡ Accepted m → position (has_part m.part) xs ≡ None → ⊥
+accepted-found k xs m is none = let e : Idle ≡ Accepted m = rw (slot-none k xs m.part none) at is in (cc)
 
-  pub hand_out-slots : (w : Participant) (xs : List (Slot H)) (m : Message) (i : ℕ) (x y : Slot H) (f : Bool) → w.slots ≡ map (plain_slot k) xs → i < length xs → x ≡ get_or xs i x → slot_of w m.part ≡ plain_slot k x → y.part ≡ x.part → plain_slot k y ≡ made_ready (plain_slot k x) m f → ((z : Slot H) → z.part ≡ x.part → put_slot (map (plain_slot k) xs) (plain_slot k z) ≡ map (plain_slot k) (set xs i z)) → map (plain_slot k) (set xs i (sent_out y m)) ≡ (hand_out w m f).slots
-  hand_out-slots w xs m i x y f is lt at_i found same plain put =
-      let a = made_ready (slot_of w m.part) m f in
-      let at : a ≡ plain_slot k y = ap (λ s. made_ready s m f) found ∙ sym plain in
-      let gone : emptied_for a m ≡ plain_slot k (sent_out y m) = ap (λ s. emptied_for s m) at ∙ sym (plain-sent y m) in
-      sym (put (sent_out y m) same) ∙ ap (λ s. put_slot (map (plain_slot k) xs) s) (sym gone)
-      ∙ ap (λ ss. put_slot ss (emptied_for a m)) (sym is) ∙ sym (slots-hand_out w m f)
+-- an accepted message's slot, at its place
+pub record IsTaken {H : Type 0} (k : handler.Ghosts H) (told : Option (List Failure)) (xs : List (Slot H)) (m : Message) (i : ℕ) (x : Slot H) : Type 0 where
+  pub distinct : AreDistinct (map (λ y. y.part) xs)
+  pub lt : i < length xs
+  pub at_i : x ≡ get_or xs i x
+  pub work : x.work ≡ Accepted m
+  pub part : m.part ≡ x.part
+  pub fit : IsSlot k told x
 
-  -- the plain participant after a message was handed out
-  pub hand_out-plain : (w : Participant) (xs : List (Slot H)) (tried : List (PartId × ℕ)) (m : Message) (i : ℕ) (x y : Slot H) (f : Bool) → w.slots ≡ map (plain_slot k) xs → AreDistinct (map (λ x. x.part) xs) → i < length xs → x ≡ get_or xs i x → m.part ≡ x.part → y.part ≡ x.part → plain_slot k y ≡ made_ready (plain_slot k x) m f → tried ≡ (if makes (plain_slot k x) m then tried_up w.tried m.part else w.tried) → record { session = w.session; slots = map (plain_slot k) (set xs i (sent_out y m)); tried = tried } ≡ hand_out w m f
-  hand_out-plain w xs tried m i x y f is distinct lt at_i part same plain tries =
-      let found : slot_of w m.part ≡ plain_slot k x = ap (λ ss. slot_in ss m.part) is ∙ slot-at k xs i m.part x distinct lt at_i part in
-      let slots : map (plain_slot k) (set xs i (sent_out y m)) ≡ (hand_out w m f).slots =
-      hand_out-slots w xs m i x y f is lt at_i found same plain (λ z own. put-at k xs i x z distinct lt at_i own) in
-      let tries_too : tried ≡ (hand_out w m f).tried = tries ∙ sym (ap (λ s. if makes s m then tried_up w.tried m.part else w.tried) found) in
-      (λ j. record { session = w.session; slots = slots j; tried = tries_too j })
+module _ {H : Type 0} {k : handler.Ghosts H} {told : Option (List Failure)} {xs : List (Slot H)} where
+  fit-at : {made retired : ℕ} → IsLaidOut k told xs made retired → (i : ℕ) (x : Slot H) → i < length xs → x ≡ get_or xs i x → IsSlot k told x
+  fit-at laid i x lt at_i = let f : IsSlot k told (get_or xs i x) = laid.fits i x lt in rw (← at_i) at f
 
-  -- a message that is accepted has a slot
-  pub accepted-found : (xs : List (Slot H)) (p : PartId) (m : Message) → (slot_in (map (plain_slot k) xs) p).work ≡ Accepted m → position (has_part p) xs ≡ None → ⊥
-  accepted-found xs p m is none = let e : Idle ≡ Accepted m = rw (slot-none k xs p none) at is in (cc)
+  pub slot-held : {made retired : ℕ} → IsLaidOut k told xs made retired → (m : Message) (i : ℕ) (x : Slot H) → position (has_part m.part) xs ≡ Some i → x ≡ get_or xs i x → (slot_in (map (plain_slot k) xs) m.part).work ≡ Accepted m → IsTaken k told xs m i x
+  slot-held laid m i x e at_i is =
+      let lt : i < length xs = found-in (has_part m.part) xs i x e in
+      record {
+        distinct = laid.distinct;
+        lt = lt;
+        at_i = at_i;
+        work = rw (slot-found k xs m.part i x e at_i) at is;
+        part = sym (part-found xs m.part i x e at_i);
+        fit = fit-at laid i x lt at_i;
+      }
 
-  pub accepted-work : (xs : List (Slot H)) (p : PartId) (i : ℕ) (x : Slot H) (m : Message) → position (has_part p) xs ≡ Some i → x ≡ get_or xs i x → (slot_in (map (plain_slot k) xs) p).work ≡ Accepted m → x.work ≡ Accepted m
-  accepted-work xs p i x m e at_i is = rw (slot-found k xs p i x e at_i) at is
+  -- the slot that was found by a message's number is that of its part
+  pub stands-accepted : {made retired : ℕ} → IsLaidOut k told xs made retired → (id : MsgId) (m : Message) (i : ℕ) (x : Slot H) → position (has_number id) xs ≡ Some i → x ≡ get_or xs i x → x.work ≡ Accepted m → (slot_in (map (plain_slot k) xs) m.part).work ≡ Accepted m
+  stands-accepted laid id m i x e at_i is =
+      let lt : i < length xs = found-in (has_number id) xs i x e in
+      let of = of-slot k told x m (fit-at laid i x lt at_i) is in
+      rw (slot-at k xs i m.part x laid.distinct lt at_i of.of_part) is
 
-  pub slot-set : (xs : List (Slot H)) (i : ℕ) (p : PartId) (x y : Slot H) → AreDistinct (map (λ x. x.part) xs) → i < length xs → x ≡ get_or xs i x → p ≡ x.part → y.part ≡ x.part → slot_in (map (plain_slot k) (set xs i y)) p ≡ plain_slot k y
-  slot-set xs i p x y distinct lt at_i part same =
-      ap (λ ss. slot_in ss p) (sym (put-at k xs i x y distinct lt at_i same)) ∙ slot_in-put (map (plain_slot k) xs) (plain_slot k y) p (same ∙ sym part)
+module _ {H : Type 0} {k : handler.Ghosts H} {told : Option (List Failure)} {xs : List (Slot H)} {m : Message} {i : ℕ} {x : Slot H} where
+  pub slot-taken : IsTaken k told xs m i x → slot_in (map (plain_slot k) xs) m.part ≡ plain_slot k x
+  slot-taken t = slot-at k xs i m.part x t.distinct t.lt t.at_i t.part
 
-  -- the plain participant after a message's handler was made, and after the message went out
-  pub readied-plain : (w : Participant) (xs : List (Slot H)) (tried : List (PartId × ℕ)) (m : Message) (i : ℕ) (x y : Slot H) (f : Bool) → w.slots ≡ map (plain_slot k) xs → AreDistinct (map (λ x. x.part) xs) → i < length xs → x ≡ get_or xs i x → m.part ≡ x.part → y.part ≡ x.part → plain_slot k y ≡ made_ready (plain_slot k x) m f → tried ≡ (if makes (plain_slot k x) m then tried_up w.tried m.part else w.tried) → record { session = w.session; slots = map (plain_slot k) (set xs i y); tried = tried } ≡ readied w m f
-  readied-plain w xs tried m i x y f is distinct lt at_i part same plain tries =
-      let found : slot_of w m.part ≡ plain_slot k x = ap (λ ss. slot_in ss m.part) is ∙ slot-at k xs i m.part x distinct lt at_i part in
+  -- the slot sends its message out
+  pub IsLaidOut-sent : {made retired : ℕ} → IsTaken k told xs m i x → IsLaidOut k told xs made retired → IsLaidOut k told (set xs i (sent_out x m)) made retired
+  IsLaidOut-sent t was =
+      let quiet : lent x.work ≡ 0 = rw t.work refl in
+      IsLaidOut-set xs i (sent_out x m) x t.lt (rw (← t.at_i) refl) (IsSlot-sent k told x m t.fit t.work)
+      (rw (← t.at_i) (omega (arith, quiet, sent-count x.handler m))) was
+
+  -- the slot got a handler, or not, and keeps its message
+  pub IsLaidOut-ready : {made retired made' : ℕ} → IsTaken k told xs m i x → (y : Slot H) → y ≡ filled x y.handler → IsSlot k told y → made' + in_place x.handler ≡ made + in_place y.handler → IsLaidOut k told xs made retired → IsLaidOut k told (set xs i y) made' retired
+  IsLaidOut-ready t y is fits counts was =
+      let quiet : lent x.work ≡ 0 = rw t.work refl in
+      let still : y.work ≡ Accepted m = ap (λ s. s.work) is ∙ t.work in
+      let quiet_too : lent y.work ≡ 0 = rw still refl in
+      let same : y.part ≡ x.part = ap (λ s. s.part) is in
+      IsLaidOut-set xs i y x t.lt (rw (← t.at_i) same) fits (rw (← t.at_i) (omega (arith, quiet, quiet_too, counts))) was
+
+  pub slot-set : IsTaken k told xs m i x → (y : Slot H) → y ≡ filled x y.handler → slot_in (map (plain_slot k) (set xs i y)) m.part ≡ plain_slot k y
+  slot-set t y is =
+      let same : y.part ≡ x.part = ap (λ s. s.part) is in
+      ap (λ ss. slot_in ss m.part) (sym (put-at k xs i x y t.distinct t.lt t.at_i same)) ∙ slot_in-put (map (plain_slot k) xs) (plain_slot k y) m.part (same ∙ sym t.part)
+
+  -- the plain slots after one of them was put
+  put-taken : IsTaken k told xs m i x → (w : Participant) (y : Slot H) (s : PlainSlot) → w.slots ≡ map (plain_slot k) xs → y.part ≡ x.part → plain_slot k y ≡ s → map (plain_slot k) (set xs i y) ≡ put_slot w.slots s
+  put-taken t w y s is same at =
+      sym (put-at k xs i x y t.distinct t.lt t.at_i same) ∙ ap (λ z. put_slot (map (plain_slot k) xs) z) at ∙ ap (λ ss. put_slot ss s) (sym is)
+
+  -- the plain participant after the message's handler was made, and after the message went out
+  pub readied-plain : IsTaken k told xs m i x → (w : Participant) (tried : List (PartId × ℕ)) (y : Slot H) (f : Bool) → w.slots ≡ map (plain_slot k) xs → y ≡ filled x y.handler → plain_slot k y ≡ made_ready (plain_slot k x) m f → tried ≡ (if makes (plain_slot k x) m then tried_up w.tried m.part else w.tried) → record { session = w.session; slots = map (plain_slot k) (set xs i y); tried = tried } ≡ readied w m f
+  readied-plain t w tried y f is filled_is plain tries =
+      let found : slot_of w m.part ≡ plain_slot k x = ap (λ ss. slot_in ss m.part) is ∙ slot-taken t in
       let at : plain_slot k y ≡ made_ready (slot_of w m.part) m f = plain ∙ sym (ap (λ s. made_ready s m f) found) in
-      let slots : map (plain_slot k) (set xs i y) ≡ put_slot w.slots (made_ready (slot_of w m.part) m f) =
-      sym (put-at k xs i x y distinct lt at_i same) ∙ ap (λ s. put_slot (map (plain_slot k) xs) s) at ∙ ap (λ ss. put_slot ss (made_ready (slot_of w m.part) m f)) (sym is) in
+      let slots = put-taken t w y (made_ready (slot_of w m.part) m f) is (ap (λ s. s.part) filled_is) at in
       let tries_too : tried ≡ (readied w m f).tried = tries ∙ sym (ap (λ s. if makes s m then tried_up w.tried m.part else w.tried) found) in
       (λ j. record { session = w.session; slots = slots j; tried = tries_too j })
 
-  pub given-plain : (w : Participant) (xs : List (Slot H)) (m : Message) (i : ℕ) (x : Slot H) → w.slots ≡ map (plain_slot k) xs → AreDistinct (map (λ x. x.part) xs) → i < length xs → x ≡ get_or xs i x → m.part ≡ x.part → record { session = w.session; slots = map (plain_slot k) (set xs i (sent_out x m)); tried = w.tried } ≡ given w m
-  given-plain w xs m i x is distinct lt at_i part =
-      let found : slot_of w m.part ≡ plain_slot k x = ap (λ ss. slot_in ss m.part) is ∙ slot-at k xs i m.part x distinct lt at_i part in
-      let at : plain_slot k (sent_out x m) ≡ emptied_for (slot_of w m.part) m = plain-sent x m ∙ sym (ap (λ s. emptied_for s m) found) in
-      let slots : map (plain_slot k) (set xs i (sent_out x m)) ≡ put_slot w.slots (emptied_for (slot_of w m.part) m) =
-      sym (put-at k xs i x (sent_out x m) distinct lt at_i refl) ∙ ap (λ s. put_slot (map (plain_slot k) xs) s) at ∙ ap (λ ss. put_slot ss (emptied_for (slot_of w m.part) m)) (sym is) in
+  pub given-plain : IsTaken k told xs m i x → (w : Participant) → w.slots ≡ map (plain_slot k) xs → record { session = w.session; slots = map (plain_slot k) (set xs i (sent_out x m)); tried = w.tried } ≡ given w m
+  given-plain t w is =
+      let found : slot_of w m.part ≡ plain_slot k x = ap (λ ss. slot_in ss m.part) is ∙ slot-taken t in
+      let sent : plain_slot k (sent_out x m) ≡ emptied_for (plain_slot k x) m = rw (is_some-map (λ h. k.runs h) x.handler) refl in
+      let slots = put-taken t w (sent_out x m) (emptied_for (slot_of w m.part) m) is refl (sent ∙ sym (ap (λ s. emptied_for s m) found)) in
       (λ j. record { session = w.session; slots = slots j; tried = w.tried })

@@ -2,18 +2,14 @@
 use Rattle.std.proofs.Common.{◌≡◌, ◌≢◌, ℕ, arith, ap, refl, Bool, true, false, ◌==◌}
 use Rattle.std.proofs.lemmas.Bool.Decides.{nat_tests}
 use Rattle.hx_ids.specs.declared.PartId.{PartId}
-use Rattle.hx_ids.specs.declared.ResourceId.{ResourceId}
 use Rattle.hx_ids.specs.declared.StateId.{StateId}
 use Rattle.hx_cluster.specs.Ends.{part_eq}
 
-resource_same : (a b : ResourceId) → (a.0 == b.0) ≡ true → a ≡ b
-resource_same a b e = let same : a.0 ≡ b.0 = grind (arith, nat_tests, e) in ap (λ (n : ℕ). record { 0 = n }) same
-
 pub part_same : (a b : PartId) → part_eq a b ≡ true → a ≡ b
 part_same a b e =
-    let one : a.resource ≡ b.resource = resource_same a.resource b.resource (grind (arith, e)) in
-    let two : a.index ≡ b.index = grind (arith, nat_tests, e) in
-    (λ i. record { resource = one i; index = two i })
+    let resource : a.resource.0 ≡ b.resource.0 = grind (arith, nat_tests, e) in
+    let index : a.index ≡ b.index = grind (arith, nat_tests, e) in
+    (λ i. record { resource = record { 0 = resource i }; index = index i })
 
 pub part_eq-self : (p : PartId) → part_eq p p ≡ true
 part_eq-self p = grind (arith, nat_tests)

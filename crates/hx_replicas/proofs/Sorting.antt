@@ -11,8 +11,8 @@ use Rattle.hx_handler.specs.declared.Handler as handler
 use Rattle.hx_replicas.specs.declared.slots.Work.{Work}
 use Rattle.hx_replicas.specs.declared.slots.Work.TheVariants.{Idle, Accepted, Out}
 use Rattle.hx_replicas.specs.declared.slots.Slot.{Slot}
-use Rattle.hx_replicas.specs.Participants.{Participant, Slot as PlainSlot, slot_in, slot_of, accepted_of, number_before}
-use Rattle.hx_replicas.specs.Layout.{plain_slot, IsSlot, AreDistinct}
+use Rattle.hx_replicas.specs.Participants.{Participant, Slot as PlainSlot, slot_in, slot_of, accepted_of, accepted_all, number_before}
+use Rattle.hx_replicas.specs.Layout.{plain_slot, IsSlot, IsLaidOut, AreDistinct}
 use Rattle.hx_replicas.specs.Batches.{with_accepted, AreApart, AreSpread, AreAccepted}
 use Rattle.hx_replicas.proofs.Parts.{part_eq-same}
 use Rattle.hx_replicas.proofs.Putting.{find-step}
@@ -40,14 +40,18 @@ accepted-plain k (x ∷ xs) = one x.work refl (accepted-plain k xs)
     one (Accepted m) e later = rw e (ap (λ ms. m ∷ ms) later)
     one (Out m b) e later = rw e later
 
+-- a message is put before another one, or behind it
+insert-step : (P : List Message → Type 0) (m y : Message) (ys : List Message) → P (y ∷ insert_by number_before m ys) → P (m ∷ y ∷ ys) → P (insert_by number_before m (y ∷ ys))
+insert-step P m y ys later here = one (number_before y m) refl
+  where
+    one : (b : Bool) → number_before y m ≡ b → P (insert_by number_before m (y ∷ ys))
+    one true e = rw e later
+    one false e = rw e here
+
 -- messages stay apart, and accepted, when they are put in order
 apart-insert : (p : PartId) (m : Message) (ms : List Message) → part_eq m.part p ≡ false → AreApart p ms → AreApart p (insert_by number_before m ms)
 apart-insert p m [] other apart = (other, tt)
-apart-insert p m (y ∷ ys) other apart = one (number_before y m) refl (apart-insert p m ys other apart.1)
-  where
-    one : (b : Bool) → number_before y m ≡ b → AreApart p (insert_by number_before m ys) → AreApart p (insert_by number_before m (y ∷ ys))
-    one true e later = rw e (apart.0, later)
-    one false e later = rw e (other, apart)
+apart-insert p m (y ∷ ys) other apart = insert-step (λ ns. AreApart p ns) m y ys (apart.0, apart-insert p m ys other apart.1) (other, apart)
 
 apart-sort : (p : PartId) (ms : List Message) → AreApart p ms → AreApart p (sort_by number_before ms)
 apart-sort p [] apart = tt
@@ -55,11 +59,10 @@ apart-sort p (m ∷ ms) apart = apart-insert p m (sort_by number_before ms) apar
 
 spread-insert : (m : Message) (ms : List Message) → AreApart m.part ms → AreSpread ms → AreSpread (insert_by number_before m ms)
 spread-insert m [] apart spread = (tt, tt)
-spread-insert m (y ∷ ys) apart spread = one (number_before y m) refl (spread-insert m ys apart.1 spread.1)
-  where
-    one : (b : Bool) → number_before y m ≡ b → AreSpread (insert_by number_before m ys) → AreSpread (insert_by number_before m (y ∷ ys))
-    one true e later = rw e (apart-insert y.part m ys (part_eq-flip y.part m.part apart.0) spread.0, later)
-    one false e later = rw e (apart, spread)
+spread-insert m (y ∷ ys) apart spread =
+    insert-step (λ ns. AreSpread ns) m y ys
+    (apart-insert y.part m ys (part_eq-flip y.part m.part apart.0) spread.0, spread-insert m ys apart.1 spread.1)
+    (apart, spread)
 
 spread-sort : (ms : List Message) → AreSpread ms → AreSpread (sort_by number_before ms)
 spread-sort [] spread = tt
@@ -67,11 +70,7 @@ spread-sort (m ∷ ms) spread = spread-insert m (sort_by number_before ms) (apar
 
 accepted-insert : (w : Participant) (m : Message) (ms : List Message) → (slot_of w m.part).work ≡ Accepted m → AreAccepted w ms → AreAccepted w (insert_by number_before m ms)
 accepted-insert w m [] is all = (is, tt)
-accepted-insert w m (y ∷ ys) is all = one (number_before y m) refl (accepted-insert w m ys is all.1)
-  where
-    one : (b : Bool) → number_before y m ≡ b → AreAccepted w (insert_by number_before m ys) → AreAccepted w (insert_by number_before m (y ∷ ys))
-    one true e later = rw e (all.0, later)
-    one false e later = rw e (is, all)
+accepted-insert w m (y ∷ ys) is all = insert-step (λ ns. AreAccepted w ns) m y ys (all.0, accepted-insert w m ys is all.1) (is, all)
 
 accepted-sort : (w : Participant) (ms : List Message) → AreAccepted w ms → AreAccepted w (sort_by number_before ms)
 accepted-sort w [] all = tt
@@ -139,11 +138,24 @@ module _ {H : Type 0} (k : handler.Ghosts H) (told : Option (List Failure)) wher
       one (Out m b) e fit later = subst (λ (ns : List Message). AreAccepted (behind (x ∷ xs)) ns) (sym (first-idle x xs (ap accepted_of e))) later
 
   -- the messages in order are of parts of their own, and accepted
-  pub spread-all : (xs : List (Slot H)) → AreDistinct (map (λ x. x.part) xs) → All (IsSlot k told) xs → AreSpread (sort_by number_before (filter_map (λ y. accepted_of y.work) xs))
+  spread-all : (xs : List (Slot H)) → AreDistinct (map (λ x. x.part) xs) → All (IsSlot k told) xs → AreSpread (sort_by number_before (filter_map (λ y. accepted_of y.work) xs))
   spread-all xs distinct fits = spread-sort (filter_map (λ y. accepted_of y.work) xs) (spread-accepted xs distinct fits)
 
-  pub accepted-sorted : (w : Participant) (xs : List (Slot H)) → w.slots ≡ map (plain_slot k) xs → AreDistinct (map (λ x. x.part) xs) → All (IsSlot k told) xs → AreAccepted w (sort_by number_before (filter_map (λ y. accepted_of y.work) xs))
+  accepted-sorted : (w : Participant) (xs : List (Slot H)) → w.slots ≡ map (plain_slot k) xs → AreDistinct (map (λ x. x.part) xs) → All (IsSlot k told) xs → AreAccepted w (sort_by number_before (filter_map (λ y. accepted_of y.work) xs))
   unfolding behind
   accepted-sorted w xs is distinct fits =
       AreAccepted-same (behind xs) w (sort_by number_before (filter_map (λ y. accepted_of y.work) xs)) (λ p. ap (λ ss. (slot_in ss p).work) is)
       (accepted-sort (behind xs) (filter_map (λ y. accepted_of y.work) xs) (all-accepted xs distinct fits))
+
+-- the accepted messages, by number
+pub record AreSorted (w : Participant) (ms : List Message) : Type 0 where
+  pub all : accepted_all w ≡ ms
+  pub spread : AreSpread ms
+  pub accepted : AreAccepted w ms
+
+pub sorted-all : {H : Type 0} {k : handler.Ghosts H} {told : Option (List Failure)} {xs : List (Slot H)} {made retired : ℕ} → IsLaidOut k told xs made retired → (w : Participant) (ms : List Message) → w.slots ≡ map (plain_slot k) xs → ms ≡ sort_by number_before (filter_map (λ y. accepted_of y.work) xs) → AreSorted w ms
+sorted-all {k = k} {told = told} {xs = xs} laid w ms is sorted = record {
+  all = rw (is, accepted-plain k xs) (sym sorted);
+  spread = rw sorted (spread-all k told xs laid.distinct laid.fits);
+  accepted = rw sorted (accepted-sorted k told w xs is laid.distinct laid.fits);
+}

@@ -9,7 +9,7 @@ use Rattle.hx_cluster.specs.declared.description.Failure.{Failure}
 use Rattle.hx_lists.specs.Counts.{Rose}
 use Rattle.hx_handler.specs.Makings.{tried_of, tried_up}
 use Rattle.hx_replicas.specs.declared.slots.Work.TheVariants.{Accepted}
-use Rattle.hx_replicas.specs.Participants.{Participant, Slot, slot_in, slot_of, put_slot, makes, made_ready, emptied_for, readied, readied_all, given, given_all}
+use Rattle.hx_replicas.specs.Participants.{Participant, Slot, slot_in, slot_of, put_slot, makes, made_ready, emptied_for, readied, readied_all, given, given_all, hand_out, hand_out_all}
 use Rattle.hx_replicas.specs.Jobs.{ParticipantState, IsMaking, AreAnswered, KeepsRest, Held, Job, runs_of, IsHanded}
 use Rattle.hx_replicas.specs.Batches.{AreApart, AreSpread, AreAccepted, AreShown, IsReadied, AreGiven}
 use Rattle.hx_replicas.proofs.Parts.{part_same, part_eq-same}
@@ -77,7 +77,7 @@ apart-at p (m ∷ ms) zero d apart lt = part_eq-flip m.part p apart.0
 apart-at p (m ∷ ms) (suc i) d apart lt = apart-at p ms i d apart.1 (omega arith)
 
 -- a message that isn't reached keeps its slot and its makings
-pub slot-left : (w : Participant) (ms : List Message) (fs : List Bool) (i : ℕ) (d : Message) → AreSpread ms → i < length ms → length fs ≤ i → slot_of (readied_all w ms fs) (get_or ms i d).part ≡ slot_of w (get_or ms i d).part
+slot-left : (w : Participant) (ms : List Message) (fs : List Bool) (i : ℕ) (d : Message) → AreSpread ms → i < length ms → length fs ≤ i → slot_of (readied_all w ms fs) (get_or ms i d).part ≡ slot_of w (get_or ms i d).part
 slot-left w [] fs i d spread lt le = absurd (omega arith)
 slot-left w (m ∷ ms) [] i d spread lt le = refl
 slot-left w (m ∷ ms) (f ∷ fs) zero d spread lt le = absurd (omega arith)
@@ -146,7 +146,7 @@ KeepsRest-then a b c was now = record {
   listed = now.listed ∙ was.listed;
 }
 
-pub accepted-at : (w : Participant) (ms : List Message) (i : ℕ) (d : Message) → AreAccepted w ms → i < length ms → (slot_of w (get_or ms i d).part).work ≡ Accepted (get_or ms i d)
+accepted-at : (w : Participant) (ms : List Message) (i : ℕ) (d : Message) → AreAccepted w ms → i < length ms → (slot_of w (get_or ms i d).part).work ≡ Accepted (get_or ms i d)
 accepted-at w [] i d all lt = absurd (omega arith)
 accepted-at w (m ∷ ms) zero d all lt = all.0
 accepted-at w (m ∷ ms) (suc i) d all lt = accepted-at w ms i d all.1 (omega arith)
@@ -207,7 +207,7 @@ reached-from w v n g (m ∷ ms) [] apart all = tt
 reached-from w v n g (m ∷ ms) (f ∷ fs) apart all =
     (all.0 ∙ ap (λ x. made_ready x m f) (readied-other w n g m.part (part_eq-flip m.part n.part apart.0)), reached-from w v n g ms fs apart.1 all.1)
 
-pub all-reached : (w : Participant) (ms : List Message) (fs : List Bool) → AreSpread ms → AreReached w (readied_all w ms fs) ms fs
+all-reached : (w : Participant) (ms : List Message) (fs : List Bool) → AreSpread ms → AreReached w (readied_all w ms fs) ms fs
 all-reached w [] fs spread = tt
 all-reached w (m ∷ ms) [] spread = tt
 all-reached w (m ∷ ms) (f ∷ fs) spread = (
@@ -222,6 +222,9 @@ work-readied w m f p = one (part_eq m.part p) refl
     one : (b : Bool) → part_eq m.part p ≡ b → (slot_of (readied w m f) p).work ≡ (slot_of w p).work
     one true e = subst (λ (q : PartId). (slot_of (readied w m f) q).work ≡ (slot_of w q).work) (part_same m.part p e) (ap (λ (x : Slot). x.work) (readied-own w m f))
     one false e = ap (λ (x : Slot). x.work) (readied-other w m f p e)
+
+pub stays-accepted : (w v : Participant) (m : Message) (f : Bool) → v ≡ readied w m f → (slot_of w m.part).work ≡ Accepted m → (slot_of v m.part).work ≡ Accepted m
+stays-accepted w v m f is stands = ap (λ (u : Participant). (slot_of u m.part).work) is ∙ work-readied w m f m.part ∙ stands
 
 work-readied_all : (w : Participant) (ms : List Message) (fs : List Bool) (p : PartId) → (slot_of (readied_all w ms fs) p).work ≡ (slot_of w p).work
 work-readied_all w [] fs p = refl
@@ -241,7 +244,7 @@ given-other w m p other =
     let own : (slot_of w m.part).part ≡ m.part = part-slot_in w.slots m.part in
     slot_in-put_other w.slots (emptied_for (slot_of w m.part) m) p (subst (λ (q : PartId). part_eq q p ≡ false) (sym own) other)
 
-pub slot-ungiven : (w : Participant) (ms : List Message) (i : ℕ) (d : Message) → AreSpread ms → i < length ms → slot_of (given_all w (take i ms)) (get_or ms i d).part ≡ slot_of w (get_or ms i d).part
+slot-ungiven : (w : Participant) (ms : List Message) (i : ℕ) (d : Message) → AreSpread ms → i < length ms → slot_of (given_all w (take i ms)) (get_or ms i d).part ≡ slot_of w (get_or ms i d).part
 slot-ungiven w [] i d spread lt = absurd (omega arith)
 slot-ungiven w (m ∷ ms) zero d spread lt = refl
 slot-ungiven w (m ∷ ms) (suc i) d spread lt =
@@ -261,6 +264,17 @@ AreGiven-more a (m ∷ ms) (h ∷ js) j zero d lt len message runs listed was = 
 AreGiven-more a (m ∷ ms) (h ∷ js) j (suc i) d lt len message runs listed was =
     (was.0, was.1, was.2, AreGiven-more a ms js j i d (omega arith) (omega arith) message runs listed was.3)
 
+-- the next message to be handed out stands as it did
+pub next-unready : (w v : Participant) (ms : List Message) (fs : List Bool) (i : ℕ) (d : Message) → AreSpread ms → AreAccepted w ms → i < length ms → length fs ≤ i → v ≡ readied_all w ms fs → (slot_of v (get_or ms i d).part).work ≡ Accepted (get_or ms i d)
+next-unready w v ms fs i d spread accepted lt len is =
+    ap (λ u. (slot_of u (get_or ms i d).part).work) is ∙ ap (λ x. x.work) (slot-left w ms fs i d spread lt len) ∙ accepted-at w ms i d accepted lt
+
+pub next-ungiven : (w v : Participant) (ms : List Message) (i : ℕ) (d : Message) → AreSpread ms → i < length ms → v ≡ given_all w (take i ms) → slot_of v (get_or ms i d).part ≡ slot_of w (get_or ms i d).part
+next-ungiven w v ms i d spread lt is = ap (λ u. slot_of u (get_or ms i d).part) is ∙ slot-ungiven w ms i d spread lt
+
+pub next-accepted : (w v : Participant) (ms : List Message) (i : ℕ) (d : Message) → AreSpread ms → AreAccepted w ms → i < length ms → v ≡ given_all w (take i ms) → (slot_of v (get_or ms i d).part).work ≡ Accepted (get_or ms i d)
+next-accepted w v ms i d spread accepted lt is = ap (λ x. x.work) (next-ungiven w v ms i d spread lt is) ∙ accepted-at w ms i d accepted lt
+
 all-first : {X : Type 0} (P : X → Type 0) (x : X) (xs : List X) → P x → All P xs → All P (x ∷ xs)
 all-first P x xs p ps zero d lt = p
 all-first P x xs p ps (suc k) d lt = ps k d (omega arith)
@@ -269,13 +283,13 @@ is_none-runs : (h : Option Held) → is_none h ≡ is_none (runs_of h)
 is_none-runs None = refl
 is_none-runs (Some x) = refl
 
-pub record AreHanded (a c : ParticipantState) (ms : List Message) (fs : List Bool) (js : List Job) : Type 0 where
+record AreHanded (a c : ParticipantState) (ms : List Message) (fs : List Bool) (js : List Job) : Type 0 where
   pub messages : map (λ j. j.message) js ≡ ms
   pub answers : map (λ j. is_none j.handler) js ≡ fs
   pub handed : All (IsHanded a c) js
 
 -- jobs of all messages, with what their handlers' makings answered
-pub all-handed : (a b c : ParticipantState) (ms : List Message) (fs : List Bool) (js : List Job) → b.listed ≡ a.listed → AreReached a.plain b.plain ms fs → AreShown a.plain ms fs → AreAnswered a c ms fs → AreGiven b ms js → length fs ≡ length ms → length js ≡ length ms → AreHanded a c ms fs js
+all-handed : (a b c : ParticipantState) (ms : List Message) (fs : List Bool) (js : List Job) → b.listed ≡ a.listed → AreReached a.plain b.plain ms fs → AreShown a.plain ms fs → AreAnswered a c ms fs → AreGiven b ms js → length fs ≡ length ms → length js ≡ length ms → AreHanded a c ms fs js
 all-handed a b c [] [] [] tells reached shown answered given len lens = record { messages = refl; answers = refl; handed = λ k d lt. absurd (omega arith) }
 all-handed a b c [] [] (j ∷ js) tells reached shown answered given len lens = absurd (omega arith)
 all-handed a b c [] (f ∷ fs) js tells reached shown answered given len lens = absurd (omega arith)
@@ -296,4 +310,59 @@ all-handed a b c (m ∷ ms) (f ∷ fs) (j ∷ js) tells reached shown answered g
             answer = rw (same, answer) answered.0;
           })
           rest.handed;
+    }
+
+-- what stays while messages go out
+KeepsRest-given : (a b d : ParticipantState) → KeepsRest a b → d ≡ record b { plain = d.plain } → KeepsRest a d
+KeepsRest-given a b d was stays = record {
+  instance = ap (λ (s : ParticipantState). s.instance) stays ∙ was.instance;
+  spare = ap (λ (s : ParticipantState). s.spare) stays ∙ was.spare;
+  retired = ap (λ (s : ParticipantState). s.retired) stays ∙ was.retired;
+  faults = (let same : d.faults ≡ b.faults = ap (λ (s : ParticipantState). s.faults) stays in omega (arith, same, was.faults));
+  listed = ap (λ (s : ParticipantState). s.listed) stays ∙ was.listed;
+}
+
+-- all messages went out, after their handlers were made, and a single one did
+pub record AreOut (a d : ParticipantState) (ms : List Message) (js : List Job) : Type 0 where
+  pub asked : map (λ j. j.message) js ≡ ms
+  pub plain : d.plain ≡ hand_out_all a.plain ms (map (λ j. is_none j.handler) js)
+  pub handed : All (IsHanded a d) js
+  pub rest : KeepsRest a d
+
+pub all-out : (a b d : ParticipantState) (ms : List Message) (fs : List Bool) (js : List Job) → AreSpread ms → IsReadied a b ms fs → length fs ≡ length ms → d ≡ record b { plain = d.plain } → d.plain ≡ given_all b.plain ms → AreGiven b ms js → length js ≡ length ms → AreOut a d ms js
+all-out a b d ms fs js spread was len stays out gives lens =
+    let faults : d.faults ≡ b.faults = ap (λ (s : ParticipantState). s.faults) stays in
+    let made : d.made ≡ b.made = ap (λ (s : ParticipantState). s.made) stays in
+    let answered : AreAnswered a d ms fs = AreAnswered-later a b d ms fs was.answered (omega (arith, faults)) (omega (arith, made)) in
+    let reached : AreReached a.plain b.plain ms fs = rw was.plain (all-reached a.plain ms fs spread) in
+    let handed : AreHanded a d ms fs js = all-handed a b d ms fs js was.rest.listed reached was.shown answered gives len lens in
+    record {
+      asked = handed.messages;
+      plain = rw handed.answers (out ∙ ap (λ w. given_all w ms) was.plain);
+      handed = handed.handed;
+      rest = KeepsRest-given a b d was.rest stays;
+    }
+
+pub record IsOne (a d : ParticipantState) (j : Job) : Type 0 where
+  pub plain : d.plain ≡ hand_out a.plain j.message (is_none j.handler)
+  pub handed : IsHanded a d j
+  pub rest : KeepsRest a d
+
+pub one-out : (a b d : ParticipantState) (m : Message) (j : Job) → b.plain ≡ readied a.plain m (is_none (slot_of b.plain m.part).handler) → (makes (slot_of a.plain m.part) m ≡ true → IsMaking a.faults b.faults b.made a.listed a.plain.tried m.part (is_none (slot_of b.plain m.part).handler)) → KeepsRest a b → d.plain ≡ given b.plain m → j.message ≡ m → runs_of j.handler ≡ (slot_of b.plain m.part).handler → ForSome j.handler (λ h. h.listed ≡ b.listed) → d ≡ record b { plain = d.plain } → IsOne a d j
+one-out a b d m j plain answer kept out same runs listed stays =
+    let f = is_none (slot_of b.plain m.part).handler in
+    let ended : is_none j.handler ≡ f = is_none-runs j.handler ∙ ap (λ (h : Option ℕ). is_none h) runs in
+    let reached : slot_of b.plain m.part ≡ made_ready (slot_of a.plain m.part) m f = ap (λ w. slot_of w m.part) plain ∙ readied-own a.plain m f in
+    let faults : d.faults ≡ b.faults = ap (λ (s : ParticipantState). s.faults) stays in
+    let made : d.made ≡ b.made = ap (λ (s : ParticipantState). s.made) stays in
+    let answered : makes (slot_of a.plain m.part) m ≡ true → IsMaking a.faults d.faults d.made a.listed a.plain.tried m.part f =
+    λ e. rw (faults, made) (answer e) in
+    record {
+      plain = rw (same, ended) (out ∙ ap (λ w. given w m) plain);
+      handed = record {
+        runs = rw (same, ended) (runs ∙ ap (λ (x : Slot). x.handler) reached);
+        listed = rw kept.listed at listed;
+        answer = rw (same, ended) answered;
+      };
+      rest = KeepsRest-given a b d kept stays;
     }

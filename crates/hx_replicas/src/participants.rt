@@ -15,7 +15,6 @@ ghost use Rattle.hx_replicas.specs.Participants.{hand_out, hand_out_all, end_of}
 ghost use Rattle.hx_replicas.specs.Participants.{finish as finish_of, adopt as adopt_of};
 ghost use Rattle.hx_replicas.specs.Jobs.{ParticipantState, IsHanded, IsMaking, AreAnswered};
 ghost use Rattle.hx_replicas.specs.Jobs.{KeepsRest, runs_of};
-ghost use Rattle.hx_replicas.specs.Layout.{IsUnused};
 ghost use Rattle.hx_replicas.specs.Batches.{AreSpread, AreAccepted, IsReadied, AreGiven};
 
 use crate::DeliverFault;
@@ -180,7 +179,19 @@ impl<F: Factory> Participant<F> {
             return Err(DeliverFault::OtherSession { mine: self.session });
         }
         let Some(place) = place_of(&self.slots, message.part) else {
-            return self.accept_new(message);
+            if let Some(fault) = refusal(Work::Idle, DROPPED, MsgId(0), None, message) {
+                return Err(fault);
+            }
+            self.slots.push_reserved(Slot {
+                part: message.part,
+                state: message.from,
+                last: message.id,
+                initial: Some(message.initial),
+                work: Work::Accepted(*message),
+                handler: None,
+            });
+            self.spare -= 1;
+            return Ok(());
         };
         let slot = &mut self.slots[place];
         if let Some(fault) = refusal(slot.work, slot.state, slot.last, slot.initial, message) {
@@ -210,12 +221,11 @@ impl<F: Factory> Participant<F> {
         let Some(place) = accepted_place(&self.slots, id) else {
             return Ok(None);
         };
-        let slot = &mut self.slots[place];
-        let Work::Accepted(message) = slot.work else {
+        let Work::Accepted(message) = self.slots[place].work else {
             unreachable!()
         };
-        ready(slot, &message, &mut self.factory)?;
-        Ok(Some(give(slot, &message)))
+        self.ready_one(&message)?;
+        Ok(Some(self.give_one(&message)))
     }
 
     /// Hands out all accepted messages by their numbers, as `job_of` does. It makes the handlers
@@ -380,39 +390,6 @@ impl<F: Factory> Participant<F> {
         for message in messages {
             jobs.push_reserved(self.give_one(message));
         }
-    }
-
-    // Accepts a message of a part that wasn't used yet, or says why not.
-    fn accept_new(&mut self, message: &Message) -> Result<(), DeliverFault>
-        requires spare { 0 < self.old.spare }
-        requires session { is_session self.old.plain.session message.now.session ≡ true }
-        requires fits { Fits self.old.plain message.now }
-        requires unused { IsUnused message.now.part self.old.plain }
-        requires ledger { IsBalanced self.old.made self.old.retired self.old.plain }
-        ensures decides { MatchResult result
-            (λ _. deliver_fault self.old.plain message.now ≡ None)
-            (λ e. deliver_fault self.old.plain message.now ≡ Some e) }
-        ensures ok { OnOk result (self.new ≡ record self.old {
-          plain = accept self.old.plain message.now;
-          spare = self.new.spare;
-        }) }
-        ensures spare { OnOk result (self.new.spare + 1 ≡ self.old.spare) }
-        ensures err { OnErr result (self.new ≡ self.old) }
-        ensures ledger { IsBalanced self.new.made self.new.retired self.new.plain }
-    {
-        if let Some(fault) = refusal(Work::Idle, DROPPED, MsgId(0), None, message) {
-            return Err(fault);
-        }
-        self.slots.push_reserved(Slot {
-            part: message.part,
-            state: message.from,
-            last: message.id,
-            initial: Some(message.initial),
-            work: Work::Accepted(*message),
-            handler: None,
-        });
-        self.spare -= 1;
-        Ok(())
     }
 }
 

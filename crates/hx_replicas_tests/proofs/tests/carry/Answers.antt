@@ -1,5 +1,4 @@
 use Rattle.std.proofs.Common.{◌≡◌, is_some}
-use Rattle.std.specs.Option.{ForSome}
 use Rattle.hx_replicas.proofs.Outs.{out-job, run-held, run-listed}
 use Rattle.hx_replicas_tests.proofs.tests.carry.Goals as goal
 

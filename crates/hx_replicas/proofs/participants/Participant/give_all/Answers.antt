@@ -4,7 +4,7 @@ use Rattle.std.proofs.lemmas.Grind.{common_steps}
 use Rattle.hx_cluster.specs.declared.state.Message.{Message}
 use Rattle.hx_replicas.specs.Participants.{slot_of, given, given_all}
 use Rattle.hx_replicas.specs.Jobs.{ParticipantState, runs_of}
-use Rattle.hx_replicas.proofs.Together.{accepted-at, slot-ungiven, given_all-more, AreGiven-more}
+use Rattle.hx_replicas.proofs.Together.{next-ungiven, next-accepted, given_all-more, AreGiven-more}
 use Rattle.hx_replicas.proofs.participants.Participant.give_all.Goals as goal
 
 first : Message
@@ -23,16 +23,7 @@ loop-message-init g c = record {
 pub give_one-requires : goal.give_one-requires
 unfolding first
 give_one-requires g c =
-    let a = c.args.self.now in
-    let b = c.loop-message.self in
-    let ms = c.args.messages.now in
-    let i = c.loop-message.message-index in
-    let m = get_or ms i first in
-    let lt : i < length ms = c.loop-message-test.true in
-    let stays : slot_of b.plain m.part ≡ slot_of a.plain m.part =
-    ap (λ w. slot_of w m.part) c.loop-message.invariant.plain ∙ slot-ungiven a.plain ms i first c.requires.spread lt in
-    let stands = accepted-at a.plain ms i first c.requires.accepted lt in
-    (search rules, (search rules, ap (λ x. x.work) stays ∙ stands))
+    (search rules, (search rules, next-accepted c.args.self.now.plain c.loop-message.self.plain c.args.messages.now c.loop-message.message-index first c.requires.spread c.requires.accepted c.loop-message-test.true c.loop-message.invariant.plain))
 
 pub push_reserved-requires : goal.push_reserved-requires
 push_reserved-requires g c = omega (arith, c.loop-message.invariant.room, c.loop-message-test.true)
@@ -46,9 +37,8 @@ loop-message-preserved g c =
     let i = c.loop-message.message-index in
     let m = get_or ms i first in
     let lt : i < length ms = c.loop-message-test.true in
-    let stays : slot_of b.plain m.part ≡ slot_of a.plain m.part =
-    ap (λ w. slot_of w m.part) c.loop-message.invariant.plain ∙ slot-ungiven a.plain ms i first c.requires.spread lt in
     let inv = c.loop-message.invariant in
+    let stays = next-ungiven a.plain b.plain ms i first c.requires.spread lt inv.plain in
     let now = c.give_one.ensures in
     let j = c.give_one.result in
     let runs : runs_of j.handler ≡ (slot_of a.plain m.part).handler = now.runs ∙ ap (λ x. x.handler) stays in

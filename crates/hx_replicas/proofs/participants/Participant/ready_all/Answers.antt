@@ -1,10 +1,9 @@
-use Rattle.std.proofs.Common.{◌≡◌, ℕ, ◌<◌, ◌≤◌, length, get_or, arith, rules, refl, ap, ◌∙◌, false, List, [], ◌∷◌, ◌++◌, is_none, length-append}
+use Rattle.std.proofs.Common.{◌≡◌, ℕ, ◌<◌, length, get_or, arith, rules, refl, false, List, [], ◌∷◌, ◌++◌, is_none, length-append}
 use Rattle.std.proofs.lemmas.List.{get_or_default}
 use Rattle.std.proofs.lemmas.Result.{err_from_is_err_and}
 use Rattle.hx_cluster.specs.declared.state.Message.{Message}
 use Rattle.hx_replicas.specs.Participants.{slot_of}
-use Rattle.hx_replicas.specs.Batches.{IsReadied}
-use Rattle.hx_replicas.proofs.Together.{IsReadied-none, IsReadied-still, IsReadied-more, accepted-at, slot-left}
+use Rattle.hx_replicas.proofs.Together.{IsReadied-none, IsReadied-still, IsReadied-more, next-unready}
 use Rattle.hx_replicas.proofs.participants.Participant.ready_all.Goals as goal
 
 first : Message
@@ -19,33 +18,21 @@ loop-message-init g c = ([], IsReadied-none c.args.self.now c.args.messages.now,
 pub ready_one-requires : goal.ready_one-requires
 unfolding first
 ready_one-requires g c =
-    let a = c.args.self.now in
-    let b = c.loop-message.self in
-    let ms = c.args.messages.now in
-    let i = c.loop-message.message-index in
-    let fs = c.loop-message.invariant.0 in
-    let was : IsReadied a b ms fs = c.loop-message.invariant.1 in
-    let lt : i < length ms = c.loop-message-test.true in
-    let len : length fs ≤ i = omega (arith, c.loop-message.invariant.2) in
-    let stays = slot-left a.plain ms fs i first c.requires.spread lt len in
-    let stands = accepted-at a.plain ms i first c.requires.accepted lt in
-    (search rules, (search rules, ap (λ w. (slot_of w (get_or ms i first).part).work) was.plain ∙ ap (λ x. x.work) stays ∙ stands))
+    let inv = c.loop-message.invariant in
+    (search rules, (search rules, next-unready c.args.self.now.plain c.loop-message.self.plain c.args.messages.now inv.0 c.loop-message.message-index first c.requires.spread c.requires.accepted c.loop-message-test.true (omega (arith, inv.2)) inv.1.plain))
 
 pub loop-message-preserved : goal.loop-message-preserved
 unfolding first
 loop-message-preserved g c =
-    let a = c.args.self.now in
-    let b = c.loop-message.self in
+    let inv = c.loop-message.invariant in
     let ms = c.args.messages.now in
     let i = c.loop-message.message-index in
-    let m = get_or ms i first in
-    let fs = c.loop-message.invariant.0 in
-    let was : IsReadied a b ms fs = c.loop-message.invariant.1 in
-    let f = is_none (slot_of c.ready_one.new.self.plain m.part).handler in
+    let lt = c.loop-message-test.true in
+    let more = is_none (slot_of c.ready_one.new.self.plain (get_or ms i first).part).handler ∷ [] in
     let now = c.in_ok-ready_one.ensures in (
-      fs ++ f ∷ [],
-      IsReadied-more a b c.ready_one.new.self ms fs i m c.requires.spread was c.loop-message.invariant.2 c.loop-message-test.true (same-default ms i first c.loop-message-test.true) now.plain now.answer now.made now.rest,
-      rw (length-append fs (f ∷ [])) (omega (arith, c.loop-message.invariant.2)),
+      inv.0 ++ more,
+      IsReadied-more c.args.self.now c.loop-message.self c.ready_one.new.self ms inv.0 i (get_or ms i first) c.requires.spread inv.1 inv.2 lt (same-default ms i first lt) now.plain now.answer now.made now.rest,
+      rw (length-append inv.0 more) (omega (arith, inv.2)),
       now.ledger,
     )
 

@@ -1,205 +1,69 @@
-use Rattle.std.proofs.Common.{◌≡◌, ◌<◌, length, map, set, get_or, arith, refl, sym, ap, ◌∙◌, None, Some, is_none}
-use Rattle.std.specs.List.{position}
+use Rattle.std.proofs.Common.{◌≡◌, set, arith, rules, refl, is_none}
 use Rattle.std.proofs.lemmas.Grind.{common_steps}
 use Rattle.std.proofs.lemmas.Result.{err_from_is_err_and}
-use Rattle.hx_replicas.specs.declared.slots.Work.TheVariants.{Accepted}
-use Rattle.hx_replicas.specs.Participants.{slot_in, made_ready}
-use Rattle.hx_replicas.specs.Layout.{has_part, plain_slot, IsSlot, IsLaidOut}
-use Rattle.hx_replicas.proofs.Searching.{found-in}
+use Rattle.hx_replicas.specs.Participants.{made_ready}
+use Rattle.hx_replicas.specs.Layout.{plain_slot}
 use Rattle.hx_replicas.proofs.Ledgers.{ledger}
-use Rattle.hx_replicas.proofs.Placing.{slot-at, part-found}
-use Rattle.hx_replicas.proofs.Handing.{accepted-found, accepted-work, is_none-map, IsLaidOut-ready, slot-set, readied-plain}
+use Rattle.hx_replicas.proofs.Handing.{accepted-found, slot-held, slot-taken, is_none-map, IsLaidOut-ready, slot-set, readied-plain}
 use Rattle.hx_replicas.proofs.participants.Participant.ready_one.Goals as goal
 
 pub unreachable-requires : goal.unreachable-requires
-unreachable-requires g c =
-    let k = g.F.H.Handler in
-    let xs = c.self.inside.slots.items in
-    let m = c.args.message.now in
-    let is : (slot_in (map (plain_slot k) xs) m.part).work ≡ Accepted m = rw (← c.self.view_is) at c.requires in
-    let none : position (has_part m.part) xs ≡ None = (cc) in
-    accepted-found k xs m.part m is none
+unreachable-requires g c = accepted-found g.F.H.Handler c.self.inside.slots.items c.args.message.now (rw (← c.self.view_is) at c.requires) (cc)
 
 pub ready-requires-clause-fits : goal.ready-requires-clause-fits
 ready-requires-clause-fits g c κs within =
-    let k = g.F.H.Handler in
-    let xs = c.self.inside.slots.items in
-    let m = c.args.message.now in
-    let is : (slot_in (map (plain_slot k) xs) m.part).work ≡ Accepted m = rw (← c.self.view_is) at c.requires in
-    let i = c.in-Some.place in
-    let x = c.index_mut.result.now in
-    let e : position (has_part m.part) xs ≡ Some i = (cc) in
-    let at_i : x ≡ get_or xs i x = c.index_mut.ensures.value in
-    let lt : i < length xs = found-in (has_part m.part) xs i x e in
-    let work : x.work ≡ Accepted m = accepted-work k xs m.part i x m e at_i is in
-    let part : m.part ≡ x.part = sym (part-found xs m.part i x e at_i) in
-    let told = g.F.Factory.listed c.self.inside.factory in
-    let distinct = c.self.invariant.0.distinct in
-    (let f : IsSlot k told (get_or xs i x) = c.self.invariant.0.fits i x lt in rw (← at_i) at f)
+    (slot-held c.self.invariant.0 c.args.message.now c.in-Some.place c.index_mut.result.now (cc) c.index_mut.ensures.value (rw (← c.self.view_is) at c.requires)).fit
 
 pub ready-requires-clause-accepted : goal.ready-requires-clause-accepted
 ready-requires-clause-accepted g c κs within =
-    let k = g.F.H.Handler in
-    let xs = c.self.inside.slots.items in
-    let m = c.args.message.now in
-    let is : (slot_in (map (plain_slot k) xs) m.part).work ≡ Accepted m = rw (← c.self.view_is) at c.requires in
-    let i = c.in-Some.place in
-    let x = c.index_mut.result.now in
-    let e : position (has_part m.part) xs ≡ Some i = (cc) in
-    let at_i : x ≡ get_or xs i x = c.index_mut.ensures.value in
-    let lt : i < length xs = found-in (has_part m.part) xs i x e in
-    let work : x.work ≡ Accepted m = accepted-work k xs m.part i x m e at_i is in
-    let part : m.part ≡ x.part = sym (part-found xs m.part i x e at_i) in
-    let told = g.F.Factory.listed c.self.inside.factory in
-    let distinct = c.self.invariant.0.distinct in
-    work
+    (slot-held c.self.invariant.0 c.args.message.now c.in-Some.place c.index_mut.result.now (cc) c.index_mut.ensures.value (rw (← c.self.view_is) at c.requires)).work
 
 pub invariant_of-self : goal.invariant_of-self
 invariant_of-self g c =
-    let k = g.F.H.Handler in
-    let xs = c.self.inside.slots.items in
-    let m = c.args.message.now in
-    let is : (slot_in (map (plain_slot k) xs) m.part).work ≡ Accepted m = rw (← c.self.view_is) at c.requires in
-    let i = c.in-Some.place in
-    let x = c.index_mut.result.now in
-    let e : position (has_part m.part) xs ≡ Some i = (cc) in
-    let at_i : x ≡ get_or xs i x = c.index_mut.ensures.value in
-    let lt : i < length xs = found-in (has_part m.part) xs i x e in
-    let work : x.work ≡ Accepted m = accepted-work k xs m.part i x m e at_i is in
-    let part : m.part ≡ x.part = sym (part-found xs m.part i x e at_i) in
-    let told = g.F.Factory.listed c.self.inside.factory in
-    let distinct = c.self.invariant.0.distinct in
-    let y = c.ready.new.slot in
-    let same : y.part ≡ x.part = ap (λ s. s.part) c.ready.ensures.slot in
-    let still : y.work ≡ Accepted m = ap (λ s. s.work) c.ready.ensures.slot ∙ work in
-    (rw (c.ready.ensures.listed, c.ready.ensures.retired) (IsLaidOut-ready k told xs m i x y lt at_i work same still c.ready.ensures.fits c.ready.ensures.made c.self.invariant.0), c.self.invariant.1)
-
-pub returns-in_err-ready-clause-err : goal.returns-in_err-ready-clause-err
-returns-in_err-ready-clause-err g c =
-    let k = g.F.H.Handler in
-    let xs = c.self.inside.slots.items in
-    let m = c.args.message.now in
-    let is : (slot_in (map (plain_slot k) xs) m.part).work ≡ Accepted m = rw (← c.self.view_is) at c.requires in
-    let i = c.in-Some.place in
-    let x = c.index_mut.result.now in
-    let e : position (has_part m.part) xs ≡ Some i = (cc) in
-    let at_i : x ≡ get_or xs i x = c.index_mut.ensures.value in
-    let lt : i < length xs = found-in (has_part m.part) xs i x e in
-    let work : x.work ≡ Accepted m = accepted-work k xs m.part i x m e at_i is in
-    let part : m.part ≡ x.part = sym (part-found xs m.part i x e at_i) in
-    let told = g.F.Factory.listed c.self.inside.factory in
-    let distinct = c.self.invariant.0.distinct in
-    let y = c.ready.new.slot in
-    let same : y.part ≡ x.part = ap (λ s. s.part) c.ready.ensures.slot in
-    let still : y.work ≡ Accepted m = ap (λ s. s.work) c.ready.ensures.slot ∙ work in
-    let p = err_from_is_err_and c.from_residual.result c.from_residual.ensures.1 in
-    let kept : set xs i y ≡ xs = rw c.in_err-ready.ensures.err (grind (arith, common_steps)) in
-    rw (p.1, ← c.self.view_is, kept, c.in_err-ready.ensures.not_tried) refl
+    let now = c.ready.ensures in
+    let t = slot-held c.self.invariant.0 c.args.message.now c.in-Some.place c.index_mut.result.now (cc) c.index_mut.ensures.value (rw (← c.self.view_is) at c.requires) in
+    (rw (now.listed, now.retired) (IsLaidOut-ready t c.ready.new.slot now.slot now.fits now.made c.self.invariant.0), c.self.invariant.1)
 
 pub invariant_of-self-2 : goal.invariant_of-self-2
 invariant_of-self-2 g c =
-    let k = g.F.H.Handler in
-    let xs = c.self.inside.slots.items in
-    let m = c.args.message.now in
-    let is : (slot_in (map (plain_slot k) xs) m.part).work ≡ Accepted m = rw (← c.self.view_is) at c.requires in
-    let i = c.in-Some.place in
-    let x = c.index_mut.result.now in
-    let e : position (has_part m.part) xs ≡ Some i = (cc) in
-    let at_i : x ≡ get_or xs i x = c.index_mut.ensures.value in
-    let lt : i < length xs = found-in (has_part m.part) xs i x e in
-    let work : x.work ≡ Accepted m = accepted-work k xs m.part i x m e at_i is in
-    let part : m.part ≡ x.part = sym (part-found xs m.part i x e at_i) in
-    let told = g.F.Factory.listed c.self.inside.factory in
-    let distinct = c.self.invariant.0.distinct in
-    let y = c.ready.new.slot in
-    let same : y.part ≡ x.part = ap (λ s. s.part) c.ready.ensures.slot in
-    let still : y.work ≡ Accepted m = ap (λ s. s.work) c.ready.ensures.slot ∙ work in
-    (rw (c.ready.ensures.listed, c.ready.ensures.retired) (IsLaidOut-ready k told xs m i x y lt at_i work same still c.ready.ensures.fits c.ready.ensures.made c.self.invariant.0), c.self.invariant.1)
+    let now = c.ready.ensures in
+    let t = slot-held c.self.invariant.0 c.args.message.now c.in-Some.place c.index_mut.result.now (cc) c.index_mut.ensures.value (rw (← c.self.view_is) at c.requires) in
+    (rw (now.listed, now.retired) (IsLaidOut-ready t c.ready.new.slot now.slot now.fits now.made c.self.invariant.0), c.self.invariant.1)
 
-pub returns-clause-plain : goal.returns-clause-plain
-returns-clause-plain g c =
+pub returns-in_err-ready : goal.returns-in_err-ready
+returns-in_err-ready g c =
     let k = g.F.H.Handler in
     let xs = c.self.inside.slots.items in
-    let m = c.args.message.now in
-    let is : (slot_in (map (plain_slot k) xs) m.part).work ≡ Accepted m = rw (← c.self.view_is) at c.requires in
-    let i = c.in-Some.place in
-    let x = c.index_mut.result.now in
-    let e : position (has_part m.part) xs ≡ Some i = (cc) in
-    let at_i : x ≡ get_or xs i x = c.index_mut.ensures.value in
-    let lt : i < length xs = found-in (has_part m.part) xs i x e in
-    let work : x.work ≡ Accepted m = accepted-work k xs m.part i x m e at_i is in
-    let part : m.part ≡ x.part = sym (part-found xs m.part i x e at_i) in
-    let told = g.F.Factory.listed c.self.inside.factory in
-    let distinct = c.self.invariant.0.distinct in
     let y = c.ready.new.slot in
-    let same : y.part ≡ x.part = ap (λ s. s.part) c.ready.ensures.slot in
-    let still : y.work ≡ Accepted m = ap (λ s. s.work) c.ready.ensures.slot ∙ work in
+    let t = slot-held c.self.invariant.0 c.args.message.now c.in-Some.place c.index_mut.result.now (cc) c.index_mut.ensures.value (rw (← c.self.view_is) at c.requires) in
+    let p = err_from_is_err_and c.from_residual.result c.from_residual.ensures.1 in
+    let kept : set xs c.in-Some.place y ≡ xs = rw c.in_err-ready.ensures.err (let at_i = t.at_i in let lt = t.lt in grind (arith, common_steps)) in
+    let laid = IsLaidOut-ready t y c.ready.ensures.slot c.ready.ensures.fits c.ready.ensures.made c.self.invariant.0 in
+    record {
+      plain = search rules;
+      answer = search rules;
+      err = rw (p.1, ← c.self.view_is, kept, c.in_err-ready.ensures.not_tried) refl;
+      made = search rules;
+      rest = search rules;
+      ledger = rw c.ready.ensures.retired (ledger k _ _ _ _ laid);
+    }
+
+pub returns : goal.returns
+returns g c =
+    let k = g.F.H.Handler in
+    let m = c.args.message.now in
+    let x = c.index_mut.result.now in
+    let y = c.ready.new.slot in
+    let t = slot-held c.self.invariant.0 m c.in-Some.place x (cc) c.index_mut.ensures.value (rw (← c.self.view_is) at c.requires) in
     let none : is_none (plain_slot k y).handler ≡ is_none y.handler = is_none-map _ y.handler in
     let plain : plain_slot k y ≡ made_ready (plain_slot k x) m (is_none (plain_slot k y).handler) = rw none c.in_ok-ready.ensures.plain in
-    let shown : slot_in (map (plain_slot k) (set xs i y)) m.part ≡ plain_slot k y = slot-set k xs i m.part x y distinct lt at_i part same in
-    rw (← c.self.view_is, shown) (readied-plain k _ xs _ m i x y (is_none (plain_slot k y).handler) refl distinct lt at_i part same plain c.in_ok-ready.ensures.tried)
-
-pub returns-clause-answer : goal.returns-clause-answer
-returns-clause-answer g c =
-    let k = g.F.H.Handler in
-    let xs = c.self.inside.slots.items in
-    let m = c.args.message.now in
-    let is : (slot_in (map (plain_slot k) xs) m.part).work ≡ Accepted m = rw (← c.self.view_is) at c.requires in
-    let i = c.in-Some.place in
-    let x = c.index_mut.result.now in
-    let e : position (has_part m.part) xs ≡ Some i = (cc) in
-    let at_i : x ≡ get_or xs i x = c.index_mut.ensures.value in
-    let lt : i < length xs = found-in (has_part m.part) xs i x e in
-    let work : x.work ≡ Accepted m = accepted-work k xs m.part i x m e at_i is in
-    let part : m.part ≡ x.part = sym (part-found xs m.part i x e at_i) in
-    let told = g.F.Factory.listed c.self.inside.factory in
-    let distinct = c.self.invariant.0.distinct in
-    let y = c.ready.new.slot in
-    let same : y.part ≡ x.part = ap (λ s. s.part) c.ready.ensures.slot in
-    let still : y.work ≡ Accepted m = ap (λ s. s.work) c.ready.ensures.slot ∙ work in
-    let none : is_none (plain_slot k y).handler ≡ is_none y.handler = is_none-map _ y.handler in
-    let plain : plain_slot k y ≡ made_ready (plain_slot k x) m (is_none (plain_slot k y).handler) = rw none c.in_ok-ready.ensures.plain in
-    let shown : slot_in (map (plain_slot k) (set xs i y)) m.part ≡ plain_slot k y = slot-set k xs i m.part x y distinct lt at_i part same in
-    rw (← c.self.view_is, shown, none, slot-at k xs i m.part x distinct lt at_i part) c.in_ok-ready.ensures.answer
-
-pub returns-in_err-ready-clause-ledger : goal.returns-in_err-ready-clause-ledger
-returns-in_err-ready-clause-ledger g c =
-    let k = g.F.H.Handler in
-    let xs = c.self.inside.slots.items in
-    let m = c.args.message.now in
-    let is : (slot_in (map (plain_slot k) xs) m.part).work ≡ Accepted m = rw (← c.self.view_is) at c.requires in
-    let i = c.in-Some.place in
-    let x = c.index_mut.result.now in
-    let e : position (has_part m.part) xs ≡ Some i = (cc) in
-    let at_i : x ≡ get_or xs i x = c.index_mut.ensures.value in
-    let lt : i < length xs = found-in (has_part m.part) xs i x e in
-    let work : x.work ≡ Accepted m = accepted-work k xs m.part i x m e at_i is in
-    let part : m.part ≡ x.part = sym (part-found xs m.part i x e at_i) in
-    let told = g.F.Factory.listed c.self.inside.factory in
-    let distinct = c.self.invariant.0.distinct in
-    let y = c.ready.new.slot in
-    let same : y.part ≡ x.part = ap (λ s. s.part) c.ready.ensures.slot in
-    let still : y.work ≡ Accepted m = ap (λ s. s.work) c.ready.ensures.slot ∙ work in
-    let laid : IsLaidOut k told (set xs i y) (g.F.Factory.made c.ready.new.factory) (g.F.Factory.retired c.self.inside.factory) = IsLaidOut-ready k told xs m i x y lt at_i work same still c.ready.ensures.fits c.ready.ensures.made c.self.invariant.0 in
-    rw c.ready.ensures.retired (ledger k told (set xs i y) _ _ laid)
-
-pub returns-clause-ledger : goal.returns-clause-ledger
-returns-clause-ledger g c =
-    let k = g.F.H.Handler in
-    let xs = c.self.inside.slots.items in
-    let m = c.args.message.now in
-    let is : (slot_in (map (plain_slot k) xs) m.part).work ≡ Accepted m = rw (← c.self.view_is) at c.requires in
-    let i = c.in-Some.place in
-    let x = c.index_mut.result.now in
-    let e : position (has_part m.part) xs ≡ Some i = (cc) in
-    let at_i : x ≡ get_or xs i x = c.index_mut.ensures.value in
-    let lt : i < length xs = found-in (has_part m.part) xs i x e in
-    let work : x.work ≡ Accepted m = accepted-work k xs m.part i x m e at_i is in
-    let part : m.part ≡ x.part = sym (part-found xs m.part i x e at_i) in
-    let told = g.F.Factory.listed c.self.inside.factory in
-    let distinct = c.self.invariant.0.distinct in
-    let y = c.ready.new.slot in
-    let same : y.part ≡ x.part = ap (λ s. s.part) c.ready.ensures.slot in
-    let still : y.work ≡ Accepted m = ap (λ s. s.work) c.ready.ensures.slot ∙ work in
-    let laid : IsLaidOut k told (set xs i y) (g.F.Factory.made c.ready.new.factory) (g.F.Factory.retired c.self.inside.factory) = IsLaidOut-ready k told xs m i x y lt at_i work same still c.ready.ensures.fits c.ready.ensures.made c.self.invariant.0 in
-    rw c.ready.ensures.retired (ledger k told (set xs i y) _ _ laid)
+    let shown = slot-set t y c.ready.ensures.slot in
+    let laid = IsLaidOut-ready t y c.ready.ensures.slot c.ready.ensures.fits c.ready.ensures.made c.self.invariant.0 in
+    record {
+      plain = rw (← c.self.view_is, shown) (readied-plain t _ _ y (is_none (plain_slot k y).handler) refl c.ready.ensures.slot plain c.in_ok-ready.ensures.tried);
+      answer = rw (← c.self.view_is, shown, none, slot-taken t) c.in_ok-ready.ensures.answer;
+      err = search rules;
+      made = search rules;
+      rest = search rules;
+      ledger = rw c.ready.ensures.retired (ledger k _ _ _ _ laid);
+    }

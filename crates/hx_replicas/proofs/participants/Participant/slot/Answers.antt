@@ -1,4 +1,4 @@
-use Rattle.std.proofs.Common.{◌≡◌, get_or, refl, None, Some}
+use Rattle.std.proofs.Common.{◌≡◌, refl, None}
 use Rattle.std.specs.List.{position}
 use Rattle.hx_replicas.specs.Layout.{has_part}
 use Rattle.hx_replicas.proofs.Placing.{slot-found, slot-none}
@@ -16,20 +16,7 @@ returns-in-None-clause-last g c =
     let e : position (has_part c.args.part) xs ≡ None = (cc) in
     rw (← c.self.view_is, slot-none g.F.H.Handler xs c.args.part e) refl
 
-pub returns-in-Some-clause-state : goal.returns-in-Some-clause-state
-returns-in-Some-clause-state g c =
-    let xs = c.self.inside.slots.items in
-    let i = c.in-Some.place in
-    let x = c.index-slot.result.now in
-    let e : position (has_part c.args.part) xs ≡ Some i = (cc) in
-    let at_i : x ≡ get_or xs i x = (cc) in
-    rw (← c.self.view_is, slot-found g.F.H.Handler xs c.args.part i x e at_i) (cc)
-
-pub returns-in-Some-clause-last : goal.returns-in-Some-clause-last
-returns-in-Some-clause-last g c =
-    let xs = c.self.inside.slots.items in
-    let i = c.in-Some.place in
-    let x = c.index-slot.result.now in
-    let e : position (has_part c.args.part) xs ≡ Some i = (cc) in
-    let at_i : x ≡ get_or xs i x = (cc) in
-    rw (← c.self.view_is, slot-found g.F.H.Handler xs c.args.part i x e at_i) refl
+pub returns-in-Some : goal.returns-in-Some
+returns-in-Some g c =
+    let found = slot-found g.F.H.Handler c.self.inside.slots.items c.args.part c.in-Some.place c.index-slot.result.now (cc) (cc) in
+    record { state = rw (← c.self.view_is, found) (cc); last = rw (← c.self.view_is, found) refl }
