@@ -7,11 +7,11 @@ use Rattle.hx_words.specs.declared.Words.TheVariants as asks
 use Rattle.hx_words.specs.declared.WordsFault.{WordsFault}
 use Rattle.hx_words.specs.declared.WordsFault.TheVariants as faults
 use Rattle.hx_words.specs.Tasks.{HoldsOfAsked}
-use Rattle.hx_app.specs.Constants.{most_bytes, no_memory}
-use Rattle.hx_app.specs.Answers.{Answer, answer_of, usage, version, words_refused}
+use Rattle.hx_replies.specs.Constants.{most_bytes, no_memory}
+use Rattle.hx_replies.specs.Answers.{Answer, answer_of, usage, version, words_refused}
 use Rattle.hx_app.specs.Writes.{SinkAt, Writes}
 use Rattle.hx_app.specs.Runs.{SourceAt, Runs, Tells, RunsWords, HoldsOfTold}
-use Rattle.hx_app.proofs.SafeScripts.{run_safe}
+use Rattle.hx_replies.proofs.SafeScripts.{run_safe}
 
 same_answer : (status : ℕ) (text : List ℕ) (a : Answer) → status ≡ a.status → text ≡ a.text → record { status = status; text = text } ≡ a
 same_answer status text a status_is text_is = rw (status_is, text_is) refl

@@ -1,12 +1,2 @@
-pub mod Constants
-pub mod Demo
-pub mod DemoPlan
-pub mod FirstPath
-pub mod Input
-pub mod KindNames
-pub mod History
-pub mod Answers
 pub mod Runs
-pub mod Refusals
 pub mod Writes
-pub mod Brings

@@ -11,9 +11,9 @@ use Rattle.hx_words.specs.declared.Words.TheVariants as asks
 use Rattle.hx_words.specs.declared.WordsFault.{WordsFault}
 use Rattle.hx_words.specs.declared.WordsFault.TheVariants as faults
 use Rattle.hx_words.specs.Tasks.{HoldsOfAsked}
-use Rattle.hx_app.specs.Constants.{most_bytes, no_memory}
-use Rattle.hx_app.specs.History.{IsSafeRun}
-use Rattle.hx_app.specs.Answers.{Answer, answer_of, usage, version, words_refused, read_fault, too_long}
+use Rattle.hx_replies.specs.Constants.{most_bytes, no_memory}
+use Rattle.hx_replies.specs.History.{IsSafeRun}
+use Rattle.hx_replies.specs.Answers.{Answer, answer_of, usage, version, words_refused, read_fault, too_long}
 use Rattle.hx_app.specs.Writes.{SinkAt, Writes}
 
 -- a source at one moment: the bytes that are left, where it tells them, and how many calls have failed

@@ -2,9 +2,8 @@
 use Rattle.std.specs.Prelude.{◌≡◌, ◌⊎◌, ℕ, ◌<◌, ◌≤◌, List, length, take, Option}
 use Rattle.std.specs.Io.KnownBytes.{Appends}
 use Rattle.hx_lists.specs.Counts.{Rose}
-use Rattle.hx_app.specs.declared.program.Reply.{Reply}
-use Rattle.hx_app.specs.Constants.{write_fault}
-use Rattle.hx_app.specs.Answers.{Answer}
+use Rattle.hx_replies.specs.Constants.{write_fault}
+use Rattle.hx_replies.specs.Answers.{Answer}
 
 -- a sink at one moment: the bytes that it took, where it tells them, and how many calls have failed
 pub record SinkAt : Type 0 where
@@ -26,8 +25,3 @@ pub record IsCut (answer : Answer) (old new : SinkAt) (status : ℕ) : Type 0 wh
 pub record Writes (answer : Answer) (old new : SinkAt) (status : ℕ) : Type 0 where
   pub ended : IsWhole answer old new status ⊎ IsCut answer old new status
   pub later : old.faults ≤ new.faults
-
--- a reply is an answer as it is defined
-pub record AnswersAs (wanted : Answer) (reply : Reply) : Type 0 where
-  pub status : reply.status.0 ≡ wanted.status
-  pub text : reply.text ≡ wanted.text

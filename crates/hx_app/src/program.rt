@@ -1,130 +1,20 @@
 //! The run of the program: it reads a description and a script, and writes what comes of them.
-ghost use Rattle.std.specs.Prelude.{◌≡◌, ◌<◌, ◌≤◌, length, map, Err, IfOk, MatchResult};
+ghost use Rattle.std.specs.Prelude.{◌<◌, length, map, Err, MatchResult};
 ghost use Rattle.std.specs.String.{string_bytes};
 ghost use Rattle.std.specs.IoError.{error_kind};
 ghost use Rattle.hx_words.specs.Tasks.{HasRanges, HoldsOfAsked};
-ghost use Rattle.hx_app.specs.Constants.{most_bytes};
-ghost use Rattle.hx_app.specs.Answers.{fault_answer, answer_in, answer_of, words_refused};
-ghost use Rattle.hx_app.specs.Writes.{AnswersAs, Writes};
+ghost use Rattle.hx_replies.specs.Answers.{words_refused};
+ghost use Rattle.hx_app.specs.Writes.{Writes};
 ghost use Rattle.hx_app.specs.Runs.{Runs, RunsWords, HoldsOfTold, untold_by};
 
-use crate::constants::{MOST_BYTES, Status};
-use crate::input::{InputFault, InputRefusal, NotBuilt, read_scenario};
-use crate::kind_names::{desc_kind_name, script_kind_name};
-use crate::script::script_page;
-use hx_desc::DescFault;
 use hx_io::{ReadFault, Sink, Source, read_all, write_all};
-use hx_script::ScriptFault;
-use hx_text::{Page, Piece};
-use hx_words::{RunMode, Task, Words, WordsFault, read_words, usage, version};
+use hx_replies::{MOST_BYTES, Status, answer};
+use hx_words::{Task, Words, WordsFault, read_words, usage, version};
 use std::alloc::{AllocError, Global};
 use std::io;
 use std::io::ErrorKind;
 use std::sync::Wait;
 use std::thread::Threads;
-
-/// A status with its text.
-#[derive(Drop)]
-struct Reply {
-    status: Status,
-    text: Page,
-}
-
-/// The answer to an input that isn't run.
-fn refused(alloc: Global, fault: &InputFault) -> Result<Reply, AllocError>
-    ensures { IfOk result (AnswersAs (fault_answer fault.now)) }
-{
-    match fault {
-        InputFault::Description(fault) => description_refused(alloc, fault),
-        InputFault::Script(fault) => script_refused(alloc, fault),
-        InputFault::NotBuilt(part) => not_built(alloc, *part),
-    }
-}
-
-fn description_refused(alloc: Global, fault: &DescFault) -> Result<Reply, AllocError>
-    ensures { IfOk result (AnswersAs (fault_answer (InputFault.Description fault.now))) }
-{
-    let mut text = Page::new(alloc);
-    text.push_all(&[
-        Piece::Text("description "),
-        Piece::Text(desc_kind_name(fault.kind)),
-        Piece::Text(" "),
-        Piece::Text(fault.path.as_str()),
-        Piece::Text("\n"),
-    ])?;
-    Ok(Reply {
-        status: Status::DESCRIPTION_REFUSED,
-        text,
-    })
-}
-
-fn script_refused(alloc: Global, fault: &ScriptFault) -> Result<Reply, AllocError>
-    ensures { IfOk result (AnswersAs (fault_answer (InputFault.Script fault.now))) }
-{
-    let mut text = Page::new(alloc);
-    text.push_all(&[
-        Piece::Text("script "),
-        Piece::Number(fault.line as u64),
-        Piece::Text(" "),
-        Piece::Text(script_kind_name(fault.kind)),
-        Piece::Text("\n"),
-    ])?;
-    Ok(Reply {
-        status: Status::SCRIPT_REFUSED,
-        text,
-    })
-}
-
-fn not_built(alloc: Global, part: NotBuilt) -> Result<Reply, AllocError>
-    ensures { IfOk result (AnswersAs (fault_answer (InputFault.NotBuilt part))) }
-{
-    let mut text = Page::new(alloc);
-    match part {
-        NotBuilt::Description => {
-            text.push_str("description not-built $\n")?;
-            Ok(Reply {
-                status: Status::DESCRIPTION_REFUSED,
-                text,
-            })
-        }
-        NotBuilt::Line(line) => {
-            text.push_all(&[
-                Piece::Text("script "),
-                Piece::Number(line as u64),
-                Piece::Text(" not-built\n"),
-            ])?;
-            Ok(Reply {
-                status: Status::SCRIPT_REFUSED,
-                text,
-            })
-        }
-    }
-}
-
-/// The answer to an input whose script is run line by line.
-fn simulated(alloc: Global, bytes: &[u8]) -> Result<Reply, AllocError>
-    requires { length bytes.now ≤ most_bytes }
-    ensures { IfOk result (AnswersAs (answer_in RunMode.Sim bytes.now)) }
-{
-    match read_scenario(alloc, bytes) {
-        Ok(scenario) => Ok(Reply {
-            status: Status::DONE,
-            text: script_page(alloc, &scenario.spec, scenario.lines.as_slice())?,
-        }),
-        Err(InputRefusal::Fault(fault)) => refused(alloc, &fault),
-        Err(InputRefusal::OutOfMemory) => Err(AllocError),
-    }
-}
-
-/// The answer to an input, as the task asks.
-fn answer(alloc: Global, task: Task, bytes: &[u8]) -> Result<Reply, AllocError>
-    requires { length bytes.now ≤ most_bytes }
-    ensures { IfOk result (AnswersAs (answer_of task bytes.now)) }
-{
-    match task.mode {
-        RunMode::Sim => simulated(alloc, bytes),
-    }
-}
 
 /// Writes a text for a status. A sink that fails gives another in its place.
 fn write<K: Sink>(status: Status, text: &[u8], out: &mut K) -> Status

@@ -59,6 +59,3 @@ impl From<AllocError> for WordsFault {
         WordsFault::OutOfMemory
     }
 }
-
-#[cfg(test)]
-mod tests;

@@ -1,5 +1,5 @@
 use Rattle.std.proofs.Common.{refl, ◌∙◌, inl, inr}
-use Rattle.hx_app.specs.Answers.{read_fault, too_long}
+use Rattle.hx_replies.specs.Answers.{read_fault, too_long}
 use Rattle.hx_app.specs.Runs.{SourceAt}
 use Rattle.hx_app.specs.Writes.{SinkAt}
 use Rattle.hx_app.proofs.Statuses.{runs_answer}

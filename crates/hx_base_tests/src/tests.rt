@@ -1,0 +1,13 @@
+mod counts;
+mod hops;
+mod ideals;
+mod links;
+mod lists;
+mod models;
+mod names;
+mod pages;
+mod places;
+mod sessions;
+mod store;
+mod streams;
+mod words;

@@ -1,3 +1,0 @@
-mod hops;
-mod ideals;
-mod models;

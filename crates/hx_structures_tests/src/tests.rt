@@ -1,4 +1,0 @@
-mod counts;
-mod links;
-mod sessions;
-mod store;
