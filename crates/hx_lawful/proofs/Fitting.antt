@@ -19,14 +19,14 @@ use Rattle.hx_cluster.specs.declared.state.Message.{Message}
 use Rattle.hx_cluster.specs.declared.planning.View.{View}
 use Rattle.hx_cluster.specs.declared.planning.Target.{Target}
 use Rattle.hx_cluster.specs.declared.planning.Candidate.{Candidate}
-use Rattle.hx_cluster.specs.Ends.{part_eq, is_shown, state_of, message_of, model_of, parts_of}
+use Rattle.hx_cluster.specs.Ends.{is_shown, state_of, message_of, model_of, parts_of}
 use Rattle.hx_cluster.specs.Views.{is_well_formed}
 use Rattle.hx_best.specs.Targets.{all_targets}
-use Rattle.hx_gen.specs.Candidates.{is_at_goal, hop_of, candidate_of, comes_before}
+use Rattle.hx_gen.specs.Candidates.{is_at_goal, candidate_of, comes_before}
 use Rattle.hx_select.specs.Selection.{has_room, accepted_of}
-use Rattle.hx_throttle.specs.Throttle.{is_sent, sent_of}
+use Rattle.hx_throttle.specs.Throttle.{is_sent}
 use Rattle.hx_pass.specs.Plans.{all_candidates, throttled_of}
-use Rattle.hx_safe.proofs.Counting.{and-first, and-second, and-both, and-three, and-six, all-le}
+use Rattle.hx_safe.proofs.Counting.{and-first, and-second, and-three, and-six, all-le}
 use Rattle.hx_safe.proofs.Models.{state_same}
 use Rattle.hx_runs.specs.Calm.{is_same_state}
 use Rattle.hx_covers.specs.Gate.{IsFit, is_for, stands_in}

@@ -1,7 +1,7 @@
 -- The targets of a plan are of shown sessions and of parts that are there, and each replica has at most one.
-use Rattle.std.proofs.Common.{◌≡◌, ℕ, ◌≤◌, ◌&&◌, ◌==◌, Bool, true, false, List, [], ◌∷◌, length, map, filter, Option, Some, None, refl, sym, ap, ◌∙◌, subst, arith}
+use Rattle.std.proofs.Common.{◌≡◌, ℕ, ◌≤◌, ◌&&◌, ◌==◌, Bool, true, false, List, [], ◌∷◌, length, filter, Option, Some, None, refl, ap, ◌∙◌, subst, arith}
 use Rattle.std.specs.Prelude.{nat_lt}
-use Rattle.std.specs.List.{list_any, list_all, flat_map}
+use Rattle.std.specs.List.{list_any, list_all}
 use Rattle.std.specs.Option.{option_map_or}
 use Rattle.std.proofs.lemmas.Bool.Decides.{nat_tests}
 use Rattle.hx_lists.specs.Lists.{count, numbers_below}
@@ -19,7 +19,7 @@ use Rattle.hx_cluster.specs.Reads.{instance_before}
 use Rattle.hx_cluster.specs.Views.{is_good_session, is_well_formed}
 use Rattle.hx_best.specs.Wants.{by_instance}
 use Rattle.hx_best.specs.Targets.{is_target, target, targets_at, targets_in, targets, all_targets}
-use Rattle.hx_safe.proofs.Counting.{and-first, and-second, and-both, and-three, count-filter, count-le, count-map, count-none, all-le, all-filter, all-map, none-from-all}
+use Rattle.hx_safe.proofs.Counting.{and-first, and-both, and-three, count-filter, count-le, count-map, count-none, all-le, all-filter, all-map, none-from-all}
 use Rattle.hx_safe.proofs.Ends.{session_same, same-self}
 use Rattle.hx_runs.specs.Calm.{is_same_state}
 use Rattle.hx_runs.proofs.Waiting.{any-one}
