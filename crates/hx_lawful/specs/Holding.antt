@@ -11,13 +11,13 @@ use Rattle.hx_covers.specs.Covers.{Covers}
 use Rattle.hx_lawful.specs.Unrefused.{IsUnrefused}
 
 -- the cluster is safe, and each message that was taken has one run, legal and alone
-pub record IsSound (spec : Spec) (h : List Event) : Type 0 where
+pub record HoldsOfLegal (spec : Spec) (h : List Event) : Type 0 where
   pub safe : IsSafe (replay (opening spec) h)
   pub runs : IsOneRunEach (opening spec) h
 
 -- and where it is lawful, what each controller was shown covers the board while its epoch and pass
 -- stand, and no dispatch so far was refused a proposal
-pub record IsGuarded (spec : Spec) (h : List Event) : Type 0 where
-  pub sound : IsSound spec h
+pub record HoldsOfLawful (spec : Spec) (h : List Event) : Type 0 where
+  pub legal : HoldsOfLegal spec h
   pub covered : (k : ControllerId) → Covers spec h k
   pub unrefused : IsUnrefused h

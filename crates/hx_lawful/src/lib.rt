@@ -23,7 +23,7 @@ ghost use Rattle.hx_pass.specs.Lawful.{IsLawful};
 ghost use Rattle.hx_covers.specs.Gate.{Shows, IsWithin};
 ghost use Rattle.hx_lawful.specs.Fitting.{AreFit};
 ghost use Rattle.hx_lawful.specs.Unrefused.{is_sent_or_gone, IsUnrefused};
-ghost use Rattle.hx_lawful.specs.Holding.{IsSound, IsGuarded};
+ghost use Rattle.hx_lawful.specs.Holding.{HoldsOfLegal, HoldsOfLawful};
 
 /// What a plan sends fits the view that the plan was made of: each candidate is of a shown session
 /// and a part that is there, where no message was shown, and goes on from where its replica was
@@ -60,14 +60,14 @@ pub fn lawful_dispatches_are_never_refused()
 
 /// At each place of a legal history the cluster is safe, and each message that was taken so far has
 /// one run, legal and alone.
-pub fn legal_histories_are_sound()
+pub fn what_holds_of_legal_histories()
     ensures { (spec : Spec) (h more : List Event) → IsValid spec
-        → IsLegal (opening spec) (h ++ more) → IsSound spec h }
+        → IsLegal (opening spec) (h ++ more) → HoldsOfLegal spec h }
 {}
 
 /// At each place of a lawful one what each controller was shown covers the board too, while its
 /// epoch and pass stand, and no dispatch was refused a proposal.
-pub fn lawful_histories_are_guarded()
+pub fn what_holds_of_lawful_histories()
     ensures { (spec : Spec) (h more : List Event) → IsValid spec → IsLawful spec (h ++ more)
-        → IsGuarded spec h }
+        → HoldsOfLawful spec h }
 {}
