@@ -205,11 +205,7 @@ legal_at c [] e more legal = legal.0
 legal_at c (x ∷ h) e more legal = legal_at (next c x) h e more legal.1
 
 proper_at : (spec : Spec) (before h : List Event) (e : Event) (more : List Event) → IsProperAlong spec before (h ++ e ∷ more) → IsProper spec (before ++ h) e
-proper_at spec before [] e more proper = subst (λ (g : List Event). IsProper spec g e) (sym (append_none before)) proper.0
-  where
-    append_none : (h : List Event) → h ++ [] ≡ h
-    append_none [] = refl
-    append_none (x ∷ xs) = ap (λ (ys : List Event). x ∷ ys) (append_none xs)
+proper_at spec before [] e more proper = subst (λ (g : List Event). IsProper spec g e) (sym (append-nil before)) proper.0
 proper_at spec before (x ∷ h) e more proper = subst (λ (g : List Event). IsProper spec g e) (append_assoc before (x ∷ []) h) (proper_at spec (before ++ x ∷ []) h e more proper.1)
 
 event_unrefused : (spec : Spec) (before : List Event) (e : Event) → IsValid spec → IsLawful spec before → IsStep (replay (opening spec) before) e → IsProper spec before e → is_unrefused e ≡ true
