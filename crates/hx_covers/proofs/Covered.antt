@@ -407,7 +407,7 @@ coverage_opening spec valid =
     }
 
 -- one event more
-replay_more : (c : Cluster) (h : List Event) (e : Event) → replay c (h ++ e ∷ []) ≡ next (replay c h) e
+pub replay_more : (c : Cluster) (h : List Event) (e : Event) → replay c (h ++ e ∷ []) ≡ next (replay c h) e
 replay_more c [] e = refl
 replay_more c (x ∷ h) e = replay_more (next c x) h e
 
@@ -455,11 +455,11 @@ pub lawful_covers : (spec : Spec) → IsValid spec → (h : List Event) → IsLa
 lawful_covers spec valid h lawful k = (covers_along spec [] h (coverage_opening spec valid) lawful.0 lawful.1).covered k
 
 -- a front of a lawful history is lawful
-legal_front : (c : Cluster) (h more : List Event) → IsLegal c (h ++ more) → IsLegal c h
+pub legal_front : (c : Cluster) (h more : List Event) → IsLegal c (h ++ more) → IsLegal c h
 legal_front c [] more legal = tt
 legal_front c (e ∷ es) more legal = (legal.0, legal_front (next c e) es more legal.1)
 
-proper_front : (spec : Spec) (before h more : List Event) → IsProperAlong spec before (h ++ more) → IsProperAlong spec before h
+pub proper_front : (spec : Spec) (before h more : List Event) → IsProperAlong spec before (h ++ more) → IsProperAlong spec before h
 proper_front spec before [] more proper = tt
 proper_front spec before (e ∷ es) more proper = (proper.0, proper_front spec (before ++ e ∷ []) es more proper.1)
 

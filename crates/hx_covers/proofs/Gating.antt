@@ -29,7 +29,7 @@ use Rattle.hx_covers.proofs.Fits.{front-part}
 use Rattle.hx_covers.proofs.Covering.{shown_message, state_alike}
 
 -- its replica has no message on the board
-idle_there : (b d : Cluster) (view : View) (before : List Candidate) (models : List ModelParts) (x : Candidate) → Shows b view → IsWithin view b d before → IsFit models view x
+pub idle_there : (b d : Cluster) (view : View) (before : List Candidate) (models : List ModelParts) (x : Candidate) → Shows b view → IsWithin view b d before → IsFit models view x
     → list_any (is_for x.session x.part) before ≡ false → message_of d.mail x.session x.part ≡ None
 idle_there b d view before models x shows within fit nobody = within.messages x.session x.part nobody ∙ one (message_of b.mail x.session x.part) refl
   where
@@ -45,7 +45,7 @@ idle_there b d view before models x shows within fit nobody = within.messages x.
         clash there.0 there.1 fit.idle m
 
 -- and stands where it was shown
-same_state_there : (b d : Cluster) (view : View) (before : List Candidate) (models : List ModelParts) (x : Candidate) → Shows b view → IsWithin view b d before → IsFit models view x
+pub same_state_there : (b d : Cluster) (view : View) (before : List Candidate) (models : List ModelParts) (x : Candidate) → Shows b view → IsWithin view b d before → IsFit models view x
     → is_live d.live x.session ≡ true → state_of d.rows x.session x.part ≡ state_of view.rows x.session x.part
 same_state_there b d view before models x shows within fit live =
     let here : is_live b.live x.session ≡ true = ap (λ (ls : List Live). is_live ls x.session) (sym within.live) ∙ live in
@@ -59,7 +59,7 @@ same_state_there b d view before models x shows within fit live =
     first true e = refl
     first false e = e
 
-same_model_there : (b d : Cluster) (view : View) (before : List Candidate) (models : List ModelParts) (x : Candidate) → Shows b view → IsWithin view b d before → IsFit models view x → d.models ≡ models
+pub same_model_there : (b d : Cluster) (view : View) (before : List Candidate) (models : List ModelParts) (x : Candidate) → Shows b view → IsWithin view b d before → IsFit models view x → d.models ≡ models
     → model_of d.models d.resources x.part.resource ≡ model_of models view.ideals.resources x.part.resource
 same_model_there b d view before models x shows within fit same =
     ap (λ (ms : List ModelParts). model_of ms d.resources x.part.resource) same
@@ -87,7 +87,7 @@ placed_same d q (Some m) is = ap (λ o. if not (is_live d.live q.session) then p
 
 -- so nothing but a bound, a throttle, the end of its session or a drop of its resource refuses it
 pub first_tests : (models : List ModelParts) (view : View) (b d : Cluster) (before : List Candidate) (x : Candidate) → d.models ≡ models → Shows b view → IsWithin view b d before → IsFit models view x
-    → list_any (is_for x.session x.part) before ≡ false → is_live d.live x.session ≡ true → is_dropped d.resources x.part.resource ≡ false
+    → list_any (is_for x.session x.part) before ≡ false → is_live d.live x.session ≡ true → (is_dropped d.resources x.part.resource && is_none (state_of d.rows x.session x.part)) ≡ false
     → placed_of d (proposal x) ≡ bounded d (proposal x) (limit_at d x.part x.to)
 first_tests models view b d before x same shows within fit nobody live there =
     let idle = idle_there b d view before models x shows within fit nobody in
@@ -101,8 +101,4 @@ first_tests models view b d before x same shows within fit nobody live there =
     placed_same d (proposal x) None idle
     ∙ by_tests d (proposal x) (is_live d.live x.session) (is_dropped d.resources x.part.resource && is_none (state_of d.rows x.session x.part)) None
     ((standing_of d x.session x.part).0 == x.from.0) (is_legal (model_of d.models d.resources x.part.resource) x.from x.to)
-    live (out (is_dropped d.resources x.part.resource) (is_none (state_of d.rows x.session x.part)) there) refl at legal
-  where
-    out : (a b : Bool) → a ≡ false → (a && b) ≡ false
-    out true b e = cc
-    out false b e = refl
+    live there refl at legal

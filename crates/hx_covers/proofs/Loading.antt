@@ -44,7 +44,7 @@ apart_mail (x ∷ xs) once =
     few n false e = e
 
 -- a shown session has the same key there
-key_alike : (scope : Scope) (old new : List (SessionId × InstanceId)) (s : SessionId) (p : PartId) → instance_in old s ≡ instance_in new s → key_of scope old s p ≡ key_of scope new s p
+pub key_alike : (scope : Scope) (old new : List (SessionId × InstanceId)) (s : SessionId) (p : PartId) → instance_in old s ≡ instance_in new s → key_of scope old s p ≡ key_of scope new s p
 key_alike scopes.Cluster old new s p same = refl
 key_alike scopes.Instance old new s p same = ap (λ (o : Option InstanceId). option_map_or (λ i. i.0) o 0) same
 key_alike scopes.Resource old new s p same = refl

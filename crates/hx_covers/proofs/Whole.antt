@@ -124,7 +124,7 @@ turn_along c k t [] w ranged legal at = at
 turn_along c k t (e ∷ es) w ranged legal at =
     turn_along (next c e) k (turn_after c k t e) es (whole_next c e w legal.0) (ranged_next c e ranged legal.0) legal.1 (turn_next c k t e w ranged legal.0 at)
 
-fixed_along : (c : Cluster) (h : List Event) → IsFixed c (replay c h)
+pub fixed_along : (c : Cluster) (h : List Event) → IsFixed c (replay c h)
 fixed_along c [] = fixed_self c
 fixed_along c (e ∷ es) = fixed_both (fixed_next c e) (fixed_along (next c e) es)
 

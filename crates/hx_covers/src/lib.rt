@@ -2,7 +2,8 @@
 //! over the definitions alone.
 #![tactic(auto)]
 
-ghost use Rattle.std.specs.Prelude.{◌≡◌, ◌≤◌, ◌++◌, ℕ, true, false, List, Some, length};
+ghost use Rattle.std.specs.Prelude.{◌≡◌, ◌≤◌, ◌++◌, ◌&&◌, ℕ, true, false, List, Some, is_none};
+ghost use Rattle.std.specs.Prelude.{length};
 ghost use Rattle.std.specs.List.{list_any};
 ghost use Rattle.hx_ids.specs.declared.ControllerId.{ControllerId};
 ghost use Rattle.hx_ids.specs.declared.PartId.{PartId};
@@ -10,7 +11,8 @@ ghost use Rattle.hx_ids.specs.declared.StateId.{StateId};
 ghost use Rattle.hx_cluster.specs.declared.state.Cluster.{Cluster};
 ghost use Rattle.hx_cluster.specs.declared.planning.View.{View};
 ghost use Rattle.hx_cluster.specs.declared.planning.Candidate.{Candidate};
-ghost use Rattle.hx_cluster.specs.Ends.{is_live, count_over, count_of, limit_at, load_over, load_of};
+ghost use Rattle.hx_cluster.specs.Ends.{is_live, state_of, count_over, count_of, limit_at};
+ghost use Rattle.hx_cluster.specs.Ends.{load_over, load_of};
 ghost use Rattle.hx_cluster.specs.Messages.{bounded, placed_of};
 ghost use Rattle.hx_cluster.specs.Safe.{IsSafe};
 ghost use Rattle.hx_cluster.specs.Ranged.{IsRanged};
@@ -69,12 +71,14 @@ pub fn lawful_views_show_the_board()
 {}
 
 /// Where a view shows the board, nothing but a bound or a throttle refuses a candidate that fits
-/// the view: its replica has no message, stands where it was shown, and the transition is legal.
+/// the view: its replica has no message, stands where it was shown, and the transition is legal. It
+/// is of a live session, and where its resource is dropped it has a row.
 pub fn fit_candidates_pass_the_first_tests()
     ensures { (view : View) (b d : Cluster) (before : List Candidate) (x : Candidate) → Shows b view
         → IsWithin view b d before → IsFit d.models view x
         → list_any (is_for x.session x.part) before ≡ false → is_live d.live x.session ≡ true
-        → is_dropped d.resources x.part.resource ≡ false
+        → (is_dropped d.resources x.part.resource && is_none (state_of d.rows x.session x.part))
+        ≡ false
         → placed_of d (proposal x) ≡ bounded d (proposal x) (limit_at d x.part x.to) }
 {}
 

@@ -1,0 +1,8 @@
+pub mod Choosing
+pub mod Targeted
+pub mod Fitting
+pub mod Placing
+pub mod Comparing
+pub mod Unrefused
+pub mod Holding
+mod Examples

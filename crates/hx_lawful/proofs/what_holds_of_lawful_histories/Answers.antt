@@ -1,0 +1,5 @@
+use Rattle.hx_lawful.proofs.Holding.{holds_of_lawful}
+use Rattle.hx_lawful.proofs.what_holds_of_lawful_histories.Goals as goal
+
+pub returns : goal.returns
+returns c = holds_of_lawful
