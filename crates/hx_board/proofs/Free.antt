@@ -15,7 +15,7 @@ use Rattle.hx_cluster.specs.Steps.{is_leader, refusal_of}
 use Rattle.hx_cluster.specs.Weight.{step_weight}
 use Rattle.hx_cluster.specs.Reads.{pass_of}
 use Rattle.hx_board.specs.Board.{Held, most, weight_at, next_line_of}
-use Rattle.hx_board.specs.Refusals.{full, is_old, line_fault, line_refusal, step_refusal, begin_refusal, read_refusal, dispatch_refusal, post_refusal}
+use Rattle.hx_board.specs.Refusals.{full, line_fault, line_refusal, step_refusal, begin_refusal, read_refusal, dispatch_refusal, post_refusal}
 use Rattle.hx_board.specs.declared.faults.RoomFault.TheVariants as rooms
 use Rattle.hx_board.specs.declared.faults.BoardFault.TheVariants as steps
 use Rattle.hx_board.specs.declared.faults.BeginFault.TheVariants as begins

@@ -8,7 +8,6 @@ use Rattle.hx_ids.specs.declared.MsgId.{MsgId}
 use Rattle.hx_ids.specs.declared.PassNo.{PassNo}
 use Rattle.hx_ids.specs.declared.ResourceId.{ResourceId}
 use Rattle.hx_ids.specs.declared.ControllerId.{ControllerId}
-use Rattle.hx_ids.specs.declared.PartId.{PartId}
 use Rattle.hx_ids.specs.declared.Live.{Live}
 use Rattle.hx_cluster.specs.declared.description.Spec.{Spec}
 use Rattle.hx_cluster.specs.declared.description.Resource.{Resource}
@@ -25,13 +24,13 @@ use Rattle.hx_cluster.specs.declared.happenings.Event.{Event}
 use Rattle.hx_cluster.specs.declared.happenings.Event.TheVariants as events
 use Rattle.hx_ideal.specs.IdealState.{put_list, put_map}
 use Rattle.hx_cluster.specs.Ends.{resource_at, is_live, is_session}
-use Rattle.hx_cluster.specs.Steps.{opening, after, live_of, without, without_all, ended_of, ended_by, beaten_of, changed_at, with_resource, asked_of, marked_down, with_down, without_leader, is_leader, refusal_of, not_live, did_of, with_mode}
+use Rattle.hx_cluster.specs.Steps.{opening, after, live_of, without, without_all, ended_of, ended_by, beaten_of, changed_at, with_resource, asked_of, marked_down, with_down, is_leader, refusal_of, not_live, did_of, with_mode}
 use Rattle.hx_cluster.specs.declared.happenings.WriteRefusal.TheVariants as writes
 use Rattle.hx_cluster.specs.Messages.{placed_of, after_placed, after_proposal, after_proposals, raised_pass, next_pass, after_dispatch, pending_of, as_written, after_take, written_of, after_write, after_ack}
 use Rattle.hx_cluster.specs.Marks.{take_refusal, write_fault, write_refusal, ack_refusal}
 use Rattle.hx_cluster.specs.Events.{next, replay, is_later, IsStep, IsLegal}
 use Rattle.hx_cluster.specs.Weight.{step_weight, weight_of, weight_of_all, owed_in, owed_of}
-use Rattle.hx_cluster.specs.Numbered.{IsNumbered, is_end}
+use Rattle.hx_cluster.specs.Numbered.{is_end}
 use Rattle.hx_cluster.specs.Room.{half, HasRoom}
 use Rattle.hx_safe.specs.Weighed.{IsWeighed}
 use Rattle.hx_cluster.specs.Ranged.{IsRanged}
@@ -41,18 +40,18 @@ use Rattle.hx_safe.proofs.Counting.{all-le}
 use Rattle.hx_safe.proofs.Whole.{reached_ranged}
 use Rattle.hx_safe.proofs.Weighing.{reached_weighed, found-live, owed_proposals, paid_without, paid_take, paid_write, paid_ack}
 use Rattle.hx_board.specs.declared.board.Board.TheInside.{Inside}
-use Rattle.hx_board.specs.Board.{lines_in, opens, most, IsBoard}
+use Rattle.hx_board.specs.Board.{lines_in, opens, IsBoard}
 
 -- histories with one event more
-replay-more : (c : Cluster) (h : List Event) (e : Event) → replay c (h ++ e ∷ []) ≡ next (replay c h) e
+pub replay-more : (c : Cluster) (h : List Event) (e : Event) → replay c (h ++ e ∷ []) ≡ next (replay c h) e
 replay-more c [] e = refl
 replay-more c (x ∷ h) e = replay-more (next c x) h e
 
-legal-more : (c : Cluster) (h : List Event) (e : Event) → IsLegal c h → IsStep (replay c h) e → IsLegal c (h ++ e ∷ [])
+pub legal-more : (c : Cluster) (h : List Event) (e : Event) → IsLegal c h → IsStep (replay c h) e → IsLegal c (h ++ e ∷ [])
 legal-more c [] e legal step = (step, tt)
 legal-more c (x ∷ h) e legal step = (legal.0, legal-more (next c x) h e legal.1 step)
 
-weight-more : (h : List Event) (e : Event) → weight_of_all (h ++ e ∷ []) ≡ weight_of_all h + weight_of e
+pub weight-more : (h : List Event) (e : Event) → weight_of_all (h ++ e ∷ []) ≡ weight_of_all h + weight_of e
 weight-more [] e = omega arith
 weight-more (x ∷ h) e = omega (arith, weight-more h e)
 
@@ -71,11 +70,11 @@ lines-front (events.Take s id) h k same = same
 lines-front (events.Write s id outcome) h k same = same
 lines-front (events.Ack s id) h k same = same
 
-lines-more : (h : List Event) (e : Event) → lines_in (h ++ e ∷ []) ≡ lines_in h ++ lines_in (e ∷ [])
+pub lines-more : (h : List Event) (e : Event) → lines_in (h ++ e ∷ []) ≡ lines_in h ++ lines_in (e ∷ [])
 lines-more [] e = refl
 lines-more (x ∷ h) e = lines-front x h (e ∷ []) (lines-more h e)
 
-append-none : {X : Type 0} (xs : List X) → xs ++ [] ≡ xs
+pub append-none : {X : Type 0} (xs : List X) → xs ++ [] ≡ xs
 append-none [] = refl
 append-none (x ∷ xs) = ap (λ ys. x ∷ ys) (append-none xs)
 
@@ -262,7 +261,7 @@ owed_down c k down = one (slice_get c.controllers k.0)
     one None = omega arith
     one (Some d) = omega arith
 
-push-length : {X : Type 0} (xs : List X) (x : X) → length (xs ++ x ∷ []) ≡ length xs + 1
+pub push-length : {X : Type 0} (xs : List X) (x : X) → length (xs ++ x ∷ []) ≡ length xs + 1
 push-length [] x = refl
 push-length (y ∷ xs) x = grind (arith, push-length xs x)
 

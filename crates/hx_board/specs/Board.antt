@@ -50,6 +50,20 @@ abbrev pub line_taken : Held → Option ℕ → Held
 line_taken b None = b
 line_taken b (Some n) = happened b (events.Line n)
 
+-- an event takes no line, or the next one
+abbrev pub IsInOrder : Held → Event → Type 0
+IsInOrder b (events.Line n) = next_line_of b ≡ Some n
+IsInOrder b e = Unit {0}
+
+-- what happened on a board: it is legal from the opening of a valid description, and the cluster is what it made; the lines that were
+-- taken are the first ones; and with the charges it weighs no more than the limit
+pub record HasHistory (b : Held) : Type 0 where
+  pub valid : IsValid b.spec
+  pub legal : IsLegal (opening b.spec) b.history
+  pub replays : replay (opening b.spec) b.history ≡ b.cluster
+  pub lines : lines_in b.history ≡ take (length (lines_in b.history)) b.lines
+  pub weight : weight_at b ≤ b.limit
+
 -- a charge is no event
 abbrev pub charged : Held → ℕ → Held
 charged b n = record b { charges = b.charges + n }

@@ -3,10 +3,14 @@
 
 mod board;
 mod dispatches;
+mod equality;
 mod faults;
+pub mod laws;
 mod messages;
 mod opening;
 mod passes;
+mod posts;
+mod ranges;
 mod readers;
 mod steps;
 

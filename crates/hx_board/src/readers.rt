@@ -1,10 +1,10 @@
 //! What stands on a board. No reader takes memory.
-ghost use Rattle.std.specs.Prelude.{◌≡◌, ◌+◌, ◌≤◌, length, take, option_copied};
+ghost use Rattle.std.specs.Prelude.{◌≡◌, option_copied};
 ghost use Rattle.hx_cluster.specs.Ends.{state_of, message_of, resource_at};
 ghost use Rattle.hx_cluster.specs.Steps.{opening, session_of, is_drained, newest, refusal_of};
-ghost use Rattle.hx_cluster.specs.Events.{replay, IsLegal};
 ghost use Rattle.hx_cluster.specs.Safe.{SafeAlong};
-ghost use Rattle.hx_board.specs.Board.{weight_at, lines_in};
+ghost use Rattle.hx_cluster.specs.Runs.{IsOneRunEach};
+ghost use Rattle.hx_board.specs.Board.{weight_at, HasHistory};
 
 use crate::board::Board;
 use hx_cluster::{Admin, History, Message, Resource, Seen, StepFault};
@@ -74,16 +74,14 @@ impl Board {
         self.records.refuses(step)
     }
 
-    /// What has happened. It is legal, the cluster is what it makes of the opening, and each cluster
-    /// along it is safe; the lines that it took are the first ones; and with the charges it weighs
-    /// no more than the limit.
+    /// What has happened, with the facts of every board: it is legal, the cluster is what it makes of
+    /// the opening, the lines that it took are the first ones, and with the charges it weighs no more
+    /// than the limit. Each cluster along it is safe, and each message in it runs once.
     pub fn history(&self) -> &History
         ensures value { result.now.entries.items ≡ self.now.history }
-        ensures legal { IsLegal (opening self.now.spec) self.now.history }
-        ensures replays { replay (opening self.now.spec) self.now.history ≡ self.now.cluster }
+        ensures history { HasHistory self.now }
         ensures safe { SafeAlong (opening self.now.spec) self.now.history }
-        ensures lines { lines_in self.now.history ≡ take (length (lines_in self.now.history)) self.now.lines }
-        ensures weight { weight_at self.now ≤ self.now.limit }
+        ensures runs { IsOneRunEach (opening self.now.spec) self.now.history }
     {
         &self.history
     }

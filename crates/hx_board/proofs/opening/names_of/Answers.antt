@@ -1,4 +1,4 @@
-use Rattle.std.proofs.Common.{◌≡◌, ℕ, List, ap, ◌∙◌}
+use Rattle.std.proofs.Common.{ℕ, List, ap, ◌∙◌}
 use Rattle.hx_ids.specs.Names.{interned}
 use Rattle.hx_board.proofs.Copies.{interned-next}
 use Rattle.hx_board.proofs.opening.names_of.Goals as goal

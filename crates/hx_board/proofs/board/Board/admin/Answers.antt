@@ -1,13 +1,9 @@
-use Rattle.std.proofs.Common.{◌≡◌, ℕ, ◌+◌, ◌≤◌, true, None, refl, sym, ap, ◌∙◌, ◌∷◌, [], ◌++◌, List, length, subst, rules, arith}
-use Rattle.hx_cluster.specs.declared.happenings.Event.{Event}
+use Rattle.std.proofs.Common.{◌≡◌, ℕ, ◌+◌, true, None, refl, sym, ap, ◌∙◌, ◌∷◌, [], ◌++◌, subst, arith}
 use Rattle.hx_cluster.specs.declared.happenings.Event.TheVariants as events
-use Rattle.hx_cluster.specs.declared.state.Cluster.{Cluster}
-use Rattle.hx_cluster.specs.declared.happenings.Admin.{Admin}
-use Rattle.hx_cluster.specs.declared.happenings.Did.{Did}
-use Rattle.hx_cluster.specs.Steps.{refusal_of, did_of, after, is_in_range}
+use Rattle.hx_cluster.specs.Steps.{did_of, is_in_range}
 use Rattle.hx_board.specs.Board.{Held, held, happened}
 use Rattle.hx_board.specs.Refusals.{step_refusal}
-use Rattle.hx_board.proofs.Free.{IsFreeStep, step_free}
+use Rattle.hx_board.proofs.Free.{step_free}
 use Rattle.hx_board.proofs.Growing.{room_of, opens_paid, opens_one, owed_step, grown}
 use Rattle.hx_board.proofs.board.Board.admin.Goals as goal
 

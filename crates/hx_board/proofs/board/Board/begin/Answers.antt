@@ -1,6 +1,4 @@
 use Rattle.std.proofs.Common.{◌≡◌, true, None, refl, sym, ap, ◌∙◌, ◌∷◌, [], ◌++◌, List, subst, arith}
-use Rattle.hx_ids.specs.declared.ControllerId.{ControllerId}
-use Rattle.hx_cluster.specs.declared.state.Cluster.{Cluster}
 use Rattle.hx_cluster.specs.declared.happenings.Event.{Event}
 use Rattle.hx_cluster.specs.declared.happenings.Event.TheVariants as events
 use Rattle.hx_cluster.specs.Steps.{has_controller}

@@ -1,8 +1,5 @@
-use Rattle.std.proofs.Common.{◌≡◌, ℕ, ◌+◌, ◌≤◌, true, None, refl, sym, ap, ◌∙◌, ◌∷◌, [], ◌++◌, List, length, subst, arith}
+use Rattle.std.proofs.Common.{◌≡◌, ℕ, ◌+◌, true, None, refl, sym, ap, ◌∙◌, ◌∷◌, [], ◌++◌, subst, arith}
 use Rattle.std.specs.List.{list_all}
-use Rattle.hx_cluster.specs.declared.happenings.Proposal.{Proposal}
-use Rattle.hx_cluster.specs.declared.happenings.Dispatched.{Dispatched}
-use Rattle.hx_cluster.specs.declared.happenings.Event.{Event}
 use Rattle.hx_cluster.specs.declared.happenings.Event.TheVariants as events
 use Rattle.hx_cluster.specs.Steps.{has_controller}
 use Rattle.hx_cluster.specs.Events.{is_proposable, is_pass, dispatched_of}

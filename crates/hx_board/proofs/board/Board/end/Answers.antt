@@ -1,8 +1,7 @@
-use Rattle.std.proofs.Common.{◌≡◌, true, None, refl, sym, ap, ◌∙◌, ◌∷◌, [], ◌++◌, List, subst, arith}
-use Rattle.hx_cluster.specs.declared.happenings.Event.{Event}
+use Rattle.std.proofs.Common.{◌≡◌, true, None, refl, sym, subst, arith}
 use Rattle.hx_cluster.specs.declared.happenings.Event.TheVariants as events
 use Rattle.hx_cluster.specs.declared.happenings.Did.TheVariants as dids
-use Rattle.hx_cluster.specs.Steps.{refusal_of, is_in_range}
+use Rattle.hx_cluster.specs.Steps.{is_in_range}
 use Rattle.hx_board.specs.Board.{Held, held}
 use Rattle.hx_board.specs.Refusals.{step_refusal}
 use Rattle.hx_board.proofs.Free.{step_free}

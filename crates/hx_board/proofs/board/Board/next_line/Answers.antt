@@ -1,8 +1,8 @@
-use Rattle.std.proofs.Common.{◌≡◌, Option, None, Some, refl, sym, ap, ◌∙◌, ◌∷◌, [], ◌++◌, List, length, subst, arith}
+use Rattle.std.proofs.Common.{◌≡◌, None, Some, refl, sym, ap, ◌∙◌, ◌∷◌, [], ◌++◌, List, subst, arith}
 use Rattle.std.specs.Prelude.{slice_get}
 use Rattle.hx_cluster.specs.declared.happenings.Event.{Event}
 use Rattle.hx_cluster.specs.declared.happenings.Event.TheVariants as events
-use Rattle.hx_board.specs.Board.{Held, held, next_line_of, lines_in}
+use Rattle.hx_board.specs.Board.{Held, held, next_line_of}
 use Rattle.hx_board.specs.Refusals.{line_refusal}
 use Rattle.hx_board.proofs.Free.{line_free}
 use Rattle.hx_board.proofs.Growing.{lined}

@@ -1,4 +1,4 @@
-use Rattle.std.proofs.Common.{◌≡◌, ◌+◌, ◌≤◌, true, None, refl, sym, ap, ◌∙◌, ◌∷◌, [], ◌++◌, List, length, subst, rules, arith}
+use Rattle.std.proofs.Common.{◌≡◌, true, None, refl, sym, ap, ◌∙◌, ◌∷◌, [], ◌++◌, List, subst, arith}
 use Rattle.hx_cluster.specs.declared.happenings.Event.{Event}
 use Rattle.hx_cluster.specs.declared.happenings.Event.TheVariants as events
 use Rattle.std.specs.List.{list_all}

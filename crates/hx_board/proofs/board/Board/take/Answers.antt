@@ -1,5 +1,4 @@
-use Rattle.std.proofs.Common.{◌≡◌, ℕ, ◌+◌, ◌≤◌, true, None, refl, sym, ap, ◌∙◌, ◌∷◌, [], ◌++◌, List, arith}
-use Rattle.hx_cluster.specs.declared.happenings.Event.{Event}
+use Rattle.std.proofs.Common.{◌≡◌, ◌+◌, ◌≤◌, None, refl, arith}
 use Rattle.hx_cluster.specs.declared.happenings.Event.TheVariants as events
 use Rattle.hx_cluster.specs.Marks.{take_refusal}
 use Rattle.hx_cluster.specs.Events.{next}
