@@ -62,9 +62,12 @@ impl Board {
     ) -> Result<Dispatched, DispatchRefusal>
         requires controller { has_controller self.old.cluster c ≡ true }
         requires proposals { list_all (is_proposable self.old.cluster) proposals.now ≡ true }
-        ensures refused { RefusedBy DispatchRefusal.OutOfMemory (dispatch_refusal self.old c epoch pass proposals.now) result }
-        ensures answer { IfOk result (λ answer. answer ≡ dispatched_of self.old.cluster c proposals.now) }
-        ensures ok { IfOk result (λ answer. self.new ≡ happened self.old (Event.Dispatch c epoch pass proposals.now answer)) }
+        ensures refused { RefusedBy DispatchRefusal.OutOfMemory
+            (dispatch_refusal self.old c epoch pass proposals.now) result }
+        ensures answer { IfOk result (λ answer.
+            answer ≡ dispatched_of self.old.cluster c proposals.now) }
+        ensures ok { IfOk result (λ answer.
+            self.new ≡ happened self.old (Event.Dispatch c epoch pass proposals.now answer)) }
         ensures err { OnErr result (self.new ≡ self.old) }
     {
         let weight = self.sendable(c, epoch, pass, proposals)?;

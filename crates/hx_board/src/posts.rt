@@ -35,7 +35,8 @@ impl Board {
     ) -> Result<(), PostRefusal>
         requires controller { has_controller self.old.cluster c ≡ true }
         requires rows { list_all (is_postable self.old.cluster) rows.now ≡ true }
-        ensures refused { RefusedBy PostRefusal.OutOfMemory (post_refusal self.old epoch rows.now) result }
+        ensures refused { RefusedBy PostRefusal.OutOfMemory (post_refusal self.old epoch rows.now)
+            result }
         ensures ok { OnOk result (self.new ≡ happened self.old (Event.Post c epoch rows.now)) }
         ensures err { OnErr result (self.new ≡ self.old) }
     {
@@ -62,7 +63,9 @@ impl Board {
         requires { has_instance self.old.cluster instance ≡ true }
         ensures refused { RefusedBy RoomFault.OutOfMemory (fetch_refusal self.old) result }
         ensures mail { IfOk result (λ mail. mail ≡ fetched self.old.cluster instance) }
-        ensures ok { IfOk result (λ mail. self.new ≡ happened self.old (Event.Fetch instance mail.session (length mail.messages))) }
+        ensures ok { IfOk result (λ mail.
+            self.new
+            ≡ happened self.old (Event.Fetch instance mail.session (length mail.messages))) }
         ensures err { OnErr result (self.new ≡ self.old) }
     {
         if let Some(weight) = self.full(1) {

@@ -74,9 +74,9 @@ impl Board {
         self.records.refuses(step)
     }
 
-    /// What has happened, with the facts of every board: it is legal, the cluster is what it makes of
-    /// the opening, the lines that it took are the first ones, and with the charges it weighs no more
-    /// than the limit. Each cluster along it is safe, and each message in it runs once.
+    /// What has happened, with the facts of every board: it is legal, the cluster is what it makes
+    /// of the opening, the lines that it took are the first ones, and with the charges it weighs no
+    /// more than the limit. Each cluster along it is safe, and each message in it runs once.
     pub fn history(&self) -> &History
         ensures value { result.now.entries.items ≡ self.now.history }
         ensures history { HasHistory self.now }

@@ -4,7 +4,8 @@ ghost use Rattle.hx_lists.specs.Answers.{RefusedAs, RefusedBy};
 ghost use Rattle.hx_cluster.specs.Steps.{did_of, is_in_range};
 ghost use Rattle.hx_cluster.specs.Numbered.{is_end};
 ghost use Rattle.hx_cluster.specs.Weight.{step_weight as step_weight_of};
-ghost use Rattle.hx_board.specs.Board.{happened, charged, next_line_of, line_taken, opens as opens_of, IsNumber};
+ghost use Rattle.hx_board.specs.Board.{happened, charged, next_line_of, line_taken};
+ghost use Rattle.hx_board.specs.Board.{opens as opens_of, IsNumber};
 ghost use Rattle.hx_board.specs.Refusals.{charge_refusal, line_refusal, step_refusal};
 
 use crate::board::{Board, make_room, record};
@@ -81,7 +82,9 @@ impl Board {
         requires { is_in_range self.old.cluster step.now ≡ true }
         ensures refused { RefusedBy BoardFault.OutOfMemory (step_refusal self.old step.now) result }
         ensures did { IfOk result (λ did. did ≡ did_of self.old.cluster step.now) }
-        ensures ok { OnOk result (self.new ≡ happened self.old (Event.Admin step.now (did_of self.old.cluster step.now))) }
+        ensures ok { OnOk result (
+            self.new
+            ≡ happened self.old (Event.Admin step.now (did_of self.old.cluster step.now))) }
         ensures err { OnErr result (self.new ≡ self.old) }
         ensures memory { IsErrOf result BoardFault.OutOfMemory → is_end step.now ≡ false }
     {
