@@ -20,6 +20,16 @@ fn lead(rt: &impl Abort, board: &mut Board) {
     );
 }
 
+fn movable<T: Send>(value: T) -> T {
+    value
+}
+
+#[test]
+fn boards_go_to_other_threads(rt: HostRuntime) {
+    let board = movable(small(&rt, rt.alloc(), 1));
+    assert_eq!(rt; (board.weight(), board.charged()), (0, 0));
+}
+
 #[test]
 fn passes_begin_and_read(rt: HostRuntime) -> Result<(), Fail> {
     let mut board = small(&rt, rt.alloc(), 1000);
