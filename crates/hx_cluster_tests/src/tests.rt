@@ -1,5 +1,0 @@
-mod calls;
-mod fixtures;
-mod proposals;
-mod runs;
-mod steps;
