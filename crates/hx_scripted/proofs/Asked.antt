@@ -1,6 +1,6 @@
 -- What a line asks for is in range for a cluster of its description.
-use Rattle.std.proofs.Common.{◌≡◌, ℕ, zero, suc, ◌+◌, ◌-◌, ◌^◌, ◌≤◌, ◌<◌, ◌&&◌, ◌==◌, Bool, true, false, List, [], ◌∷◌, length, Option, Some, None, refl, sym, ap, ◌∙◌, subst, arith}
-use Rattle.std.specs.Prelude.{nat_lt, nat_le, is_some, option_map, replicate}
+use Rattle.std.proofs.Common.{◌≡◌, ℕ, zero, suc, ◌+◌, ◌<◌, ◌&&◌, ◌==◌, Bool, true, false, List, [], ◌∷◌, length, Option, Some, None, refl, sym, ap, ◌∙◌, arith}
+use Rattle.std.specs.Prelude.{nat_lt, is_some, option_map, replicate}
 use Rattle.std.specs.List.{list_all}
 use Rattle.std.proofs.lemmas.Bool.Decides.{nat_tests}
 use Rattle.hx_ids.specs.declared.InstanceId.{InstanceId}
@@ -98,10 +98,10 @@ add-there spec c name model replicas parts mode valid same is =
     let two = and-second (Ranges.has_model spec model) (is_within 1 MOST_REPLICAS replicas && (is_within 1 MOST_PARTS parts && is_some (mode_numbered mode))) one in
     let three = and-second (is_within 1 MOST_REPLICAS replicas) (is_within 1 MOST_PARTS parts && is_some (mode_numbered mode)) two in
     let named : nat_lt name c.resource_names ≡ true =
-            ap (nat_lt name) same.resource_names ∙ and-first (Ranges.has_resource_name spec name) (Ranges.has_model spec model && (is_within 1 MOST_REPLICAS replicas && (is_within 1 MOST_PARTS parts && is_some (mode_numbered mode)))) is in
+    ap (nat_lt name) same.resource_names ∙ and-first (Ranges.has_resource_name spec name) (Ranges.has_model spec model && (is_within 1 MOST_REPLICAS replicas && (is_within 1 MOST_PARTS parts && is_some (mode_numbered mode)))) is in
     let models : length c.models ≡ length spec.model_names = ap length same.models ∙ sym valid.each_named in
     let modelled : nat_lt model.0 (length c.models) ≡ true =
-            ap (nat_lt model.0) models ∙ and-first (Ranges.has_model spec model) (is_within 1 MOST_REPLICAS replicas && (is_within 1 MOST_PARTS parts && is_some (mode_numbered mode))) one in
+    ap (nat_lt model.0) models ∙ and-first (Ranges.has_model spec model) (is_within 1 MOST_REPLICAS replicas && (is_within 1 MOST_PARTS parts && is_some (mode_numbered mode))) one in
     and-both (nat_lt name c.resource_names && nat_lt model.0 (length c.models)) (is_bare (bare_ideal replicas parts mode))
     (and-both (nat_lt name c.resource_names) (nat_lt model.0 (length c.models)) named modelled)
     (bare-ideal replicas parts mode

@@ -1,8 +1,8 @@
 -- What lines of a script, and whole scripts, do keeps what holds of a world. So their histories are lawful.
-use Rattle.std.proofs.Common.{◌≡◌, ℕ, zero, suc, ◌+◌, ◌&&◌, ◌==◌, Bool, true, false, List, [], ◌∷◌, ◌++◌, map, length, refl, sym, ap, ◌∙◌, subst, arith}
+use Rattle.std.proofs.Common.{◌≡◌, ℕ, zero, suc, ◌+◌, ◌==◌, Bool, true, false, List, [], ◌∷◌, ◌++◌, map, length, refl, sym, ap, ◌∙◌, subst, arith}
 use Rattle.std.specs.Prelude.{Option, None, Some, not, nat_lt, if◌then◌else◌, slice_index_or, replicate}
 use Rattle.std.specs.List.{list_all}
-use Rattle.hx_lists.specs.Lists.{numbers_from, numbers_below}
+use Rattle.hx_lists.specs.Lists.{numbers_from}
 use Rattle.hx_ids.specs.declared.InstanceId.{InstanceId}
 use Rattle.hx_ids.specs.declared.ControllerId.{ControllerId}
 use Rattle.hx_ids.specs.declared.SessionId.{SessionId}
@@ -38,7 +38,7 @@ use Rattle.hx_script.specs.Asked.{step_asked}
 use Rattle.hx_script.specs.Ranges as Ranges
 use Rattle.hx_control.specs.declared.PassOutcome.{PassOutcome}
 use Rattle.hx_control.specs.declared.PassOutcome.TheVariants as ends
-use Rattle.hx_control.specs.Controllers.{Controller, idle_controller}
+use Rattle.hx_control.specs.Controllers.{idle_controller}
 use Rattle.hx_sim.specs.World.{State, Job, participant_of, with_participant}
 use Rattle.hx_sim.specs.Runs.{Run, Deed, state_of, Voice, Quiet, Loud, done, gives, and_then, happened, for_each}
 use Rattle.hx_sim.specs.Jobs
@@ -48,7 +48,10 @@ use Rattle.hx_sim.proofs.BroughtByLines.{prints_its_history}
 use Rattle.hx_safe.proofs.Counting.{and-first, and-second, all-map, all-le, all-find}
 use Rattle.hx_safe.proofs.Whole.{length-replicate}
 use Rattle.hx_covers.proofs.Sorting.{all-sort}
-use Rattle.hx_scripted.proofs.Standing.{is_fetched, has_fetched, IsTurnOf, IsScripted, ranged_there, fixed_there, idle_there, scripted_other}
+use Rattle.hx_lawful.specs.Holding.{HoldsOfLawful}
+use Rattle.hx_lawful.proofs.Holding.{holds_of_lawful}
+use Rattle.hx_scripted.specs.OfHistory.{is_fetched, has_fetched, IsTurnOf, IsOfItsHistory}
+use Rattle.hx_scripted.proofs.Standing.{ranged_there, fixed_there, idle_there, scripted_other}
 use Rattle.hx_scripted.proofs.Lines.{step-line, write-line}
 use Rattle.hx_scripted.proofs.Asked.{IsAskedWell, instance_there, asked_well}
 use Rattle.hx_scripted.proofs.Keeping.{Keeps, keeps_on, keeps_then, keeps_each, keeps_those, keeps_gives, keeps_more, keeps_after, happens, happens_then, makes_then, done_then, line_then, choice}
@@ -79,10 +82,10 @@ module _ (spec : Spec) (valid : IsValid spec) (last : Option ℕ) where
 
   mail_fetched : (i : InstanceId) (x : State) → Stands spec last x
       → list_all (is_fetched spec (x.world.history ++ events.Fetch i (session_of x.world.cluster i) (length (messages_for x.world.cluster (session_of x.world.cluster i))) ∷ []))
-        (messages_for x.world.cluster (session_of x.world.cluster i)) ≡ true
+      (messages_for x.world.cluster (session_of x.world.cluster i)) ≡ true
   mail_fetched i x s =
       subst (λ (c : Cluster). list_all (is_fetched spec (x.world.history ++ events.Fetch i (session_of c i) (length (messages_for c (session_of c i))) ∷ [])) (messages_for c (session_of c i)) ≡ true)
-      (sym s.cluster)
+      (sym s.of.cluster)
       (let c = replay (opening spec) x.world.history in fetch_fetched spec x.world.history i (session_of c i) (length (messages_for c (session_of c i))))
 
   fetched_then : (i : InstanceId) (x : State) (g : State → Deed) → Ranges.has_instance spec i ≡ true → Stands spec last x
@@ -115,7 +118,7 @@ module _ (spec : Spec) (valid : IsValid spec) (last : Option ℕ) where
 
   from_bag : (v : Voice) (i : InstanceId) (id : MsgId) (o : Option Message) (x : State) → Stands spec last x → Jobs.in_bag id x ≡ o → Keeps (Stands spec last) (Jobs.deliver_from_bag v i o x)
   from_bag v i id None x s is = keeps_note spec valid last v _ x s
-  from_bag v i id (Some m) x s is = delivered v i m _ x s (all-find (is_fetched spec x.world.history) (λ m. m.id.0 == id.0) x.world.bag m s.bag is)
+  from_bag v i id (Some m) x s is = delivered v i m _ x s (all-find (is_fetched spec x.world.history) (λ m. m.id.0 == id.0) x.world.bag m s.of.bag is)
 
   delivered_then : (i : InstanceId) (m : Message) (f : Option DeliverFault) (x : State) (g : State → Deed) → Stands spec last x → is_fetched spec x.world.history m ≡ true
       → ((y : State) → y.world.history ≡ x.world.history → Stands spec last y → Keeps (Stands spec last) (g y)) → Keeps (Stands spec last) (and_then (Jobs.delivered Quiet i m f x) g)
@@ -176,8 +179,10 @@ module _ (spec : Spec) (valid : IsValid spec) (last : Option ℕ) where
       choice (Stands spec last) j.is_written _ _ (λ is. keeps_note spec valid last v _ x s)
       (λ is. choice (Stands spec last) (can_write x.world.cluster j.message.session j.message.id) _ _
       (λ can. makes_then (Stands spec last) e x (λ y. done (Jobs.with_written j.instance j.message.id y))
-      (record { left = jobs_there spec last y.world (map (Jobs.as_written_job j.instance j.message.id) y.world.jobs)
-          (scripted_other spec last last x.world e y.world.weight s can tt (write-line x.world.cluster j.message.session j.message.id j.outcome ∙ s.line) (λ k. refl)) }))
+      (record {
+        left = jobs_there spec last y.world (map (Jobs.as_written_job j.instance j.message.id) y.world.jobs)
+            (scripted_other spec last last x.world e y.world.weight s can tt (write-line x.world.cluster j.message.session j.message.id j.outcome ∙ s.line) (λ k. refl));
+      }))
       (λ can. keeps_note spec valid last v notes.SessionEnded (Jobs.end_job j x) (job_ended spec last j x s)))
 
   acked : (v : Voice) (j : Option Job) (x : State) → Stands spec last x → Keeps (Stands spec last) (Jobs.ack_job v j x)
@@ -213,7 +218,7 @@ module _ (spec : Spec) (valid : IsValid spec) (last : Option ℕ) where
       ∙ all-sort (λ (e : SessionId × InstanceId). Ranges.has_instance spec e.1) instance_before (shown_of c.live)
       ∙ all-map (λ (e : SessionId × InstanceId). Ranges.has_instance spec e.1) (λ (l : Live). (l.session, l.instance)) c.live
       ∙ all-le (λ (l : Live). has_instance c l.instance) (λ (l : Live). Ranges.has_instance spec l.instance) (λ (l : Live) (is : has_instance c l.instance ≡ true). ap (nat_lt l.instance.0) (sym instances) ∙ is) c.live
-        (ranged_there spec last x.world valid s).live
+      (ranged_there spec last x.world valid s).live
 
   all_worked : (x : State) → Stands spec last x → Keeps (Stands spec last) (Settles.work_all x)
   all_worked x s = keeps_those (Stands spec last) (Ranges.has_instance spec) Jobs.do_work (λ i y there here. work_done i y there here) (map (λ e. e.1) (live_shown x.world.cluster)) x (live_instances x s) s
@@ -341,14 +346,16 @@ none_accepted spec (suc n) = none_accepted spec n
 
 opening_stands : (spec : Spec) → Stands spec None (Scripts.opening_state spec)
 opening_stands spec = record {
-  given = refl;
-  cluster = refl;
-  lawful = (tt, tt);
+  of = record {
+    given = refl;
+    lawful = (tt, tt);
+    cluster = refl;
+    controllers = many_listed 0 spec.controllers;
+    turns = λ k. subst (IsTurnOf spec [] k) (sym (idle_listed 0 spec.controllers k.0 k.0 (omega arith))) (idle_there spec [] k);
+    bag = refl;
+    accepted = none_accepted spec (length spec.instances);
+  };
   line = refl;
-  controllers = many_listed 0 spec.controllers;
-  turns = λ k. subst (IsTurnOf spec [] k) (sym (idle_listed 0 spec.controllers k.0 k.0 (omega arith))) (idle_there spec [] k);
-  bag = refl;
-  accepted = none_accepted spec (length spec.instances);
 }
 
 -- a whole script
@@ -358,6 +365,27 @@ script_done spec valid lines all =
     (lines_done spec valid None lines (Scripts.opening_state spec) all (opening_stands spec))
     (λ y there. keeps_more (Stands spec there.last) (HasStood spec) (Scripts.do_view y) (view_done spec valid there.last y there.stands) (λ z here. record { last = there.last; stands = here }))
 
+-- what a script, a line and a settle leave
 pub lawful_scripts : (spec : Spec) (lines : List Line) → IsValid spec → Scripts.are_next_lines spec None lines ≡ true → IsLawful spec (Scripts.sim_history spec lines)
 lawful_scripts spec lines valid all =
-    subst (λ (h : List Event). IsLawful spec h) (prints_its_history spec lines) (script_done spec valid lines all).left.stands.lawful
+    subst (λ (h : List Event). IsLawful spec h) (prints_its_history spec lines) (script_done spec valid lines all).left.stands.of.lawful
+
+pub line_left : (spec : Spec) (l : Line) (x : State) → IsValid spec → IsOfItsHistory spec x.world → Scripts.is_next_line spec x.world.cluster.line l ≡ true
+    → IsOfItsHistory spec (state_of (Scripts.do_line l x)).world
+line_left spec l x valid of next =
+    let last = x.world.cluster.line in
+    let s : Stands spec last x = record { of = of; line = refl } in
+    let later = and-first (is_later last l.number) (Ranges.is_line_in_range spec l) next in
+    let ranged = and-second (is_later last l.number) (Ranges.is_line_in_range spec l) next in
+    let k = what_done spec valid (Some l.number) (Loud l.number) l.what (happened (events.Line l.number) x) ranged (line_happens spec last l x later s) in
+    (happens_then (HasStood spec) (events.Line l.number) x (λ y. Scripts.do_what (Loud l.number) l.what y) (record { last = last; stands = s })
+    (keeps_more (Stands spec (Some l.number)) (HasStood spec) (Scripts.do_what (Loud l.number) l.what (happened (events.Line l.number) x)) k (λ y there. record { last = Some l.number; stands = there }))).left.stands.of
+
+pub settle_left : (spec : Spec) (x : State) → IsValid spec → IsOfItsHistory spec x.world → IsOfItsHistory spec (state_of (Settles.settle x)).world
+settle_left spec x valid of = (settled spec valid x.world.cluster.line x.world.cluster.leader x (record { of = of; line = refl })).left.of
+
+-- and what holds at each place of a script's history
+pub holds_of_scripts : (spec : Spec) (lines : List Line) (h more : List Event) → IsValid spec → Scripts.are_next_lines spec None lines ≡ true → Scripts.sim_history spec lines ≡ h ++ more
+    → HoldsOfLawful spec h
+holds_of_scripts spec lines h more valid all is =
+    holds_of_lawful spec h more valid (subst (λ (es : List Event). IsLawful spec es) is (lawful_scripts spec lines valid all))

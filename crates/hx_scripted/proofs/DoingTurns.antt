@@ -1,5 +1,5 @@
 -- What controllers do in a world keeps what holds of it.
-use Rattle.std.proofs.Common.{◌≡◌, ℕ, Bool, true, false, List, [], ◌∷◌, refl}
+use Rattle.std.proofs.Common.{ℕ, Bool, true, false, List, [], ◌∷◌}
 use Rattle.std.specs.Prelude.{Option, None, Some}
 use Rattle.hx_ids.specs.declared.ControllerId.{ControllerId}
 use Rattle.hx_cluster.specs.declared.description.Spec.{Spec}
@@ -20,7 +20,7 @@ use Rattle.hx_control.specs.declared.ControlFault.TheVariants as faults
 use Rattle.hx_control.specs.Controllers.{Controller, idle_controller}
 use Rattle.hx_control.specs.Steps.{Step, Calls, Plans, Refuses, step_of, after_step}
 use Rattle.hx_sim.specs.World.{State, controller_of, with_controller}
-use Rattle.hx_sim.specs.Runs.{Run, Deed, Voice, Loud, Quiet, done, gives, happened, charged, say, note, say_if_loud, for_each}
+use Rattle.hx_sim.specs.Runs.{Run, Deed, Voice, Loud, Quiet, done, gives, happened, charged, say, note, say_if_loud}
 use Rattle.hx_sim.specs.Turns
 use Rattle.hx_scripted.proofs.Standing.{IsScripted}
 use Rattle.hx_scripted.proofs.Keeping.{Keeps, keeps_on, keeps_then, keeps_each, keeps_gives, happens_then, says}

@@ -1,17 +1,17 @@
 -- A plan proposes, and a post shows, what the cluster has: instances, parts and states with names.
-use Rattle.std.proofs.Common.{◌≡◌, ℕ, zero, suc, ◌+◌, ◌≤◌, ◌<◌, ◌||◌, ◌&&◌, ◌==◌, Bool, true, false, List, [], ◌∷◌, map, length, find, Option, Some, None, refl, sym, ap, ◌∙◌, subst, arith}
+use Rattle.std.proofs.Common.{◌≡◌, ℕ, zero, suc, ◌+◌, ◌≤◌, ◌<◌, ◌||◌, ◌&&◌, ◌==◌, Bool, true, false, List, [], ◌∷◌, map, length, find, Option, Some, None, refl, ◌∙◌, subst, arith}
 use Rattle.std.specs.Prelude.{nat_lt, nat_le, slice_get, unwrap_or, option_map}
-use Rattle.std.specs.List.{All, list_any, list_all}
+use Rattle.std.specs.List.{list_any, list_all}
 use Rattle.std.specs.Option.{option_map_or}
 use Rattle.std.proofs.lemmas.Bool.Decides.{nat_tests}
-use Rattle.hx_lists.specs.Lists.{numbers_from, numbers_below, sort_by, count}
+use Rattle.hx_lists.specs.Lists.{numbers_from, numbers_below, count}
 use Rattle.hx_ids.specs.declared.InstanceId.{InstanceId}
 use Rattle.hx_ids.specs.declared.StateId.{StateId}
 use Rattle.hx_ids.specs.declared.SessionId.{SessionId}
 use Rattle.hx_ids.specs.declared.ResourceId.{ResourceId}
 use Rattle.hx_ids.specs.declared.PartId.{PartId}
 use Rattle.hx_model.specs.declared.ModelParts.{ModelParts}
-use Rattle.hx_model.specs.Model.{is_legal, has_state, states_of}
+use Rattle.hx_model.specs.Model.{has_state, states_of}
 use Rattle.hx_model.specs.declared.Bound.{Bound}
 use Rattle.hx_cluster.specs.declared.description.Resource.{Resource}
 use Rattle.hx_cluster.specs.declared.description.Spec.{Spec}
@@ -28,7 +28,7 @@ use Rattle.hx_pass.specs.Plans.{throttled_of, proposal, plan}
 use Rattle.hx_pass.specs.Turns.{seen_of, seen_before, posted_of}
 use Rattle.hx_control.specs.Steps.{has_parts_of, is_of_cluster}
 use Rattle.hx_safe.proofs.Counting.{and-first, and-second, and-both, and-six, all-le, all-map, all-find}
-use Rattle.hx_safe.proofs.Models.{IsGood, good_model}
+use Rattle.hx_safe.proofs.Models.{good_model}
 use Rattle.hx_covers.proofs.Sorting.{all-sort}
 use Rattle.hx_covers.specs.Gate.{IsFit}
 use Rattle.hx_lawful.proofs.Fitting.{fits, fits_all, fit_from}
@@ -93,7 +93,7 @@ part-there c view p all is =
     let low : p.resource.0 < length view.ideals.resources = low-part view.ideals.resources p.resource.0 p.index is in
     let less : p.resource.0 < 0 + length view.ideals.resources = omega arith in
     let most : nat_le (parts_of view.ideals.resources p.resource) (parts_of c.resources p.resource) ≡ true =
-            number-from (has_parts_of c view) 0 (length view.ideals.resources) p.resource.0 all (omega arith) less in
+    number-from (has_parts_of c view) 0 (length view.ideals.resources) p.resource.0 all (omega arith) less in
     grind (arith, nat_tests, is, most)
 
 -- a candidate that fits
@@ -102,9 +102,9 @@ fit-proposable : (spec : Spec) (c : Cluster) (view : View) (x : Candidate) → H
 fit-proposable spec c view x g parts fit =
     let good = good_model spec.models view.ideals.resources x.part.resource (all-le (is_valid_model c.states) has_no_fault sound spec.models g.models) in
     let from : nat_lt x.from.0 c.states ≡ true =
-            named-there c.states spec.models view.ideals.resources x.part.resource x.from g.models g.states (first x.from (has_state (model_of spec.models view.ideals.resources x.part.resource) x.from) (good.starts x.from x.to fit.legal)) in
+    named-there c.states spec.models view.ideals.resources x.part.resource x.from g.models g.states (first x.from (has_state (model_of spec.models view.ideals.resources x.part.resource) x.from) (good.starts x.from x.to fit.legal)) in
     let to : nat_lt x.to.0 c.states ≡ true =
-            named-there c.states spec.models view.ideals.resources x.part.resource x.to g.models g.states (last x.to (has_state (model_of spec.models view.ideals.resources x.part.resource) x.to) (good.leads x.from x.to fit.legal)) in
+    named-there c.states spec.models view.ideals.resources x.part.resource x.to g.models g.states (last x.to (has_state (model_of spec.models view.ideals.resources x.part.resource) x.to) (good.leads x.from x.to fit.legal)) in
     and-both (has_part c x.part && has_state_name c x.from) (has_state_name c x.to)
     (and-both (has_part c x.part) (has_state_name c x.from) (part-there c view x.part parts fit.part) from) to
   where
@@ -121,11 +121,11 @@ pub proposed : (spec : Spec) (c : Cluster) (view : View) → HasGiven spec c →
     → list_all (is_proposable c) (plan spec.models spec.rules view).proposals ≡ true
 proposed spec c view g of =
     let parts : list_all (has_parts_of c view) (numbers_below (length view.ideals.resources)) ≡ true =
-            and-second (is_well_formed spec.models (length c.instances) view) (list_all (has_parts_of c view) (numbers_below (length view.ideals.resources))) of in
+    and-second (is_well_formed spec.models (length c.instances) view) (list_all (has_parts_of c view) (numbers_below (length view.ideals.resources))) of in
     let sent : List Candidate = (throttled_of spec.models spec.rules view).sent in
     all-map (is_proposable c) proposal sent
     ∙ all-le (fits spec.models view) (λ (x : Candidate). is_proposable c (proposal x))
-      (λ (x : Candidate) (is : fits spec.models view x ≡ true). fit-proposable spec c view x g parts (fit_from spec.models view x is)) sent (fits_all spec.models spec.rules view)
+    (λ (x : Candidate) (is : fits spec.models view x ≡ true). fit-proposable spec c view x g parts (fit_from spec.models view x is)) sent (fits_all spec.models spec.rules view)
 
 -- rows that were shown
 instance-there : (n : ℕ) (all live : List (SessionId × InstanceId)) (s : SessionId) → 1 ≤ n → list_all (is_good_session n all) live ≡ true
@@ -148,8 +148,8 @@ row-postable spec c view r g parts sessions good =
     let state = and-second (is_good_part view r.session r.part) (is_good_state spec.models view r.part r.state) both in
     let index = and-second (is_shown view.live r.session) (nat_lt r.part.index (parts_of view.ideals.resources r.part.resource)) first in
     let named : nat_lt r.state.0 c.states ≡ true =
-            named-there c.states spec.models view.ideals.resources r.part.resource r.state g.models g.states
-            (low r.state (has_state (model_of spec.models view.ideals.resources r.part.resource) r.state) state) in
+    named-there c.states spec.models view.ideals.resources r.part.resource r.state g.models g.states
+    (low r.state (has_state (model_of spec.models view.ideals.resources r.part.resource) r.state) state) in
     and-both (has_instance c (seen_of view r).instance && has_part c r.part) (has_state_name c r.state)
     (and-both (has_instance c (seen_of view r).instance) (has_part c r.part)
     (instance-there (length c.instances) view.live view.live r.session g.instances sessions) (part-there c view r.part parts index)) named
@@ -160,12 +160,12 @@ row-postable spec c view r g parts sessions good =
 pub posted : (spec : Spec) (c : Cluster) (view : View) → HasGiven spec c → is_of_cluster spec c view ≡ true → list_all (is_postable c) (posted_of view) ≡ true
 posted spec c view g of =
     let formed : is_well_formed spec.models (length c.instances) view ≡ true =
-            and-first (is_well_formed spec.models (length c.instances) view) (list_all (has_parts_of c view) (numbers_below (length view.ideals.resources))) of in
+    and-first (is_well_formed spec.models (length c.instances) view) (list_all (has_parts_of c view) (numbers_below (length view.ideals.resources))) of in
     let parts : list_all (has_parts_of c view) (numbers_below (length view.ideals.resources)) ≡ true =
-            and-second (is_well_formed spec.models (length c.instances) view) (list_all (has_parts_of c view) (numbers_below (length view.ideals.resources))) of in
+    and-second (is_well_formed spec.models (length c.instances) view) (list_all (has_parts_of c view) (numbers_below (length view.ideals.resources))) of in
     let six = and-six (list_all (is_good_session (length c.instances) view.live) view.live) (list_all (is_good_message spec.models view) view.mail)
-            (list_all (is_good_row spec.models view) view.rows) (nat_le (length view.ideals.resources) 256) (length view.ideals.drained == length c.instances)
-            (list_all (is_good_resource spec.models (length c.instances)) view.ideals.resources) formed in
+    (list_all (is_good_row spec.models view) view.rows) (nat_le (length view.ideals.resources) 256) (length view.ideals.drained == length c.instances)
+    (list_all (is_good_resource spec.models (length c.instances)) view.ideals.resources) formed in
     all-sort (is_postable c) seen_before (map (seen_of view) view.rows)
     ∙ all-map (is_postable c) (seen_of view) view.rows
     ∙ all-le (is_good_row spec.models view) (λ (r : Row). is_postable c (seen_of view r)) (λ (r : Row) (good : is_good_row spec.models view r ≡ true). row-postable spec c view r g parts six.0 good) view.rows six.2

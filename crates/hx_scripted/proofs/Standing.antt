@@ -1,6 +1,6 @@
 -- What holds of a world along a script: its history is lawful, led to its cluster and to the turns of its controllers, and its participants
 -- have accepted only what was fetched.
-use Rattle.std.proofs.Common.{◌≡◌, ℕ, zero, suc, ◌+◌, ◌||◌, ◌&&◌, ◌==◌, Bool, true, false, List, [], ◌∷◌, ◌++◌, append_assoc, append-nil, map, length, Option, Some, None, refl, sym, ap, ◌∙◌, subst, inl, inr, arith}
+use Rattle.std.proofs.Common.{◌≡◌, ℕ, zero, suc, ◌||◌, ◌==◌, Bool, true, false, List, [], ◌∷◌, ◌++◌, append_assoc, append-nil, length, Option, refl, sym, ap, ◌∙◌, subst, inl, arith}
 use Rattle.std.specs.Prelude.{slice_set, slice_index_or}
 use Rattle.std.specs.List.{list_any, list_all}
 use Rattle.std.proofs.lemmas.Bool.Decides.{nat_tests}
@@ -14,56 +14,32 @@ use Rattle.hx_cluster.specs.Messages.{has_id}
 use Rattle.hx_cluster.specs.Events.{next, replay, IsStep, IsLegal}
 use Rattle.hx_cluster.specs.Valid.{IsValid}
 use Rattle.hx_cluster.specs.Ranged.{IsRanged}
-use Rattle.hx_pass.specs.Lawful.{shown_by, fetched_from, IsProper, IsProperAlong, IsLawful}
+use Rattle.hx_pass.specs.Lawful.{shown_by, fetched_from, IsProper, IsProperAlong}
 use Rattle.hx_replicas.specs.declared.slots.Work.{Work}
 use Rattle.hx_replicas.specs.declared.slots.Work.TheVariants.{Idle, Accepted, Out}
-use Rattle.hx_replicas.specs.Participants.{Participant, Slot, new_participant}
+use Rattle.hx_replicas.specs.Participants.{Participant, Slot}
 use Rattle.hx_control.specs.Controllers.{Controller, idle_controller}
 use Rattle.hx_control.specs.OfBoard.{OfBoard, is_own}
 use Rattle.hx_control.proofs.KeepsTurns.{others_keep}
-use Rattle.hx_sim.specs.World.{World, State, controller_of, participant_of}
+use Rattle.hx_sim.specs.World.{World, controller_of}
+use Rattle.hx_scripted.specs.OfHistory.{is_fetched, is_work_fetched, is_slot_fetched, has_fetched, IsTurnOf, IsOfItsHistory}
 use Rattle.hx_safe.proofs.Counting.{any-append, all-le}
-use Rattle.hx_safe.proofs.Ends.{same-self}
 use Rattle.hx_safe.proofs.Fixed.{IsFixed}
 use Rattle.hx_safe.proofs.Whole.{reached_ranged}
 use Rattle.hx_covers.proofs.Covered.{replay_more}
 use Rattle.hx_covers.proofs.Whole.{fixed_along}
 
--- a message was fetched, and so was what a slot has accepted
-abbrev pub is_fetched : Spec → List Event → Message → Bool
-is_fetched spec h m = list_any (has_id m.session m.id) (fetched_from (opening spec) h)
-
-abbrev pub is_work_fetched : Spec → List Event → Work → Bool
-is_work_fetched spec h (Accepted m) = is_fetched spec h m
-is_work_fetched spec h _ = true
-
-abbrev pub is_slot_fetched : Spec → List Event → Slot → Bool
-is_slot_fetched spec h x = is_work_fetched spec h x.work
-
-abbrev pub has_fetched : Spec → List Event → Participant → Bool
-has_fetched spec h w = list_all (is_slot_fetched spec h) w.slots
-
--- a controller has its number, and its turn is one of the board
-pub record IsTurnOf (spec : Spec) (h : List Event) (k : ControllerId) (x : Controller) : Type 0 where
-  pub id : x.id ≡ k
-  pub of_board : OfBoard spec h x
-
+-- a world is of its history, and its last line has a number
 pub record IsScripted (spec : Spec) (last : Option ℕ) (w : World) : Type 0 where
-  pub given : w.spec ≡ spec
-  pub cluster : w.cluster ≡ replay (opening spec) w.history
-  pub lawful : IsLawful spec w.history
+  pub of : IsOfItsHistory spec w
   pub line : w.cluster.line ≡ last
-  pub controllers : length w.controllers ≡ spec.controllers
-  pub turns : (k : ControllerId) → IsTurnOf spec w.history k (controller_of w k)
-  pub bag : list_all (is_fetched spec w.history) w.bag ≡ true
-  pub accepted : list_all (has_fetched spec w.history) w.participants ≡ true
 
 -- its cluster is in range, and has what the description has
 pub ranged_there : (spec : Spec) (last : Option ℕ) (w : World) → IsValid spec → IsScripted spec last w → IsRanged w.cluster
-ranged_there spec last w valid s = subst IsRanged (sym s.cluster) (reached_ranged spec valid w.history s.lawful.0)
+ranged_there spec last w valid s = subst IsRanged (sym s.of.cluster) (reached_ranged spec valid w.history s.of.lawful.0)
 
 pub fixed_there : (spec : Spec) (last : Option ℕ) (w : World) → IsScripted spec last w → IsFixed (opening spec) w.cluster
-fixed_there spec last w s = subst (λ (c : Cluster). IsFixed (opening spec) c) (sym s.cluster) (fixed_along (opening spec) w.history)
+fixed_there spec last w s = subst (λ (c : Cluster). IsFixed (opening spec) c) (sym s.of.cluster) (fixed_along (opening spec) w.history)
 
 -- a lawful history with one event more
 legal_more : (c : Cluster) (h : List Event) (e : Event) → IsLegal c h → IsStep (replay c h) e → IsLegal c (h ++ e ∷ [])
@@ -160,16 +136,19 @@ pub scripted_next : (spec : Spec) (last later : Option ℕ) (w : World) (e : Eve
     → ((k : ControllerId) → IsTurnOf spec (w.history ++ e ∷ []) k (slice_index_or cs k.0 (idle_controller k)))
     → IsScripted spec later (record w { cluster = next w.cluster e; history = w.history ++ e ∷ []; weight = weight; controllers = cs })
 scripted_next spec last later w e cs weight s step proper line few turns = record {
-  given = s.given;
-  cluster = ap (λ (c : Cluster). next c e) s.cluster ∙ sym (replay_more (opening spec) w.history e);
-  lawful = (
-      legal_more (opening spec) w.history e s.lawful.0 (subst (λ (c : Cluster). IsStep c e) s.cluster step),
-      proper_more spec [] w.history e s.lawful.1 proper);
+  of = record {
+    given = s.of.given;
+    lawful = (
+      legal_more (opening spec) w.history e s.of.lawful.0 (subst (λ (c : Cluster). IsStep c e) s.of.cluster step),
+      proper_more spec [] w.history e s.of.lawful.1 proper,
+    );
+    cluster = ap (λ (c : Cluster). next c e) s.of.cluster ∙ sym (replay_more (opening spec) w.history e);
+    controllers = few;
+    turns = turns;
+    bag = all-le (is_fetched spec w.history) (is_fetched spec (w.history ++ e ∷ [])) (still_fetched spec w.history e) w.bag s.of.bag;
+    accepted = all-le (has_fetched spec w.history) (has_fetched spec (w.history ++ e ∷ [])) (still_accepted spec w.history e) w.participants s.of.accepted;
+  };
   line = line;
-  controllers = few;
-  turns = turns;
-  bag = all-le (is_fetched spec w.history) (is_fetched spec (w.history ++ e ∷ [])) (still_fetched spec w.history e) w.bag s.bag;
-  accepted = all-le (has_fetched spec w.history) (has_fetched spec (w.history ++ e ∷ [])) (still_accepted spec w.history e) w.participants s.accepted;
 }
 
 -- one that is no controller's own
@@ -177,5 +156,5 @@ pub scripted_other : (spec : Spec) (last later : Option ℕ) (w : World) (e : Ev
     → IsStep w.cluster e → IsProper spec w.history e → (next w.cluster e).line ≡ later → ((k : ControllerId) → is_own k e ≡ false)
     → IsScripted spec later (record w { cluster = next w.cluster e; history = w.history ++ e ∷ []; weight = weight })
 scripted_other spec last later w e weight s step proper line other =
-    scripted_next spec last later w e w.controllers weight s step proper line s.controllers
-    (λ k. turn_other spec w.history e k (controller_of w k) (other k) (s.turns k))
+    scripted_next spec last later w e w.controllers weight s step proper line s.of.controllers
+    (λ k. turn_other spec w.history e k (controller_of w k) (other k) (s.of.turns k))

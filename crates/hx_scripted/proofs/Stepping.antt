@@ -1,21 +1,19 @@
 -- A step of a controller's turn may happen and is proper.
-use Rattle.std.proofs.Common.{◌≡◌, ℕ, zero, suc, ◌+◌, ◌≤◌, ◌<◌, ◌&&◌, ◌==◌, not, Bool, true, false, List, [], ◌∷◌, ◌++◌, length, take, length-take, Option, Some, None, ◌⊎◌, inl, inr, refl, sym, ap, ◌∙◌, subst, arith}
+use Rattle.std.proofs.Common.{◌≡◌, ℕ, zero, suc, ◌==◌, not, Bool, true, false, List, [], ◌∷◌, ◌++◌, length, take, length-take, Option, Some, None, ◌⊎◌, inl, inr, refl, sym, ap, ◌∙◌, subst, arith}
 use Rattle.std.specs.Prelude.{if◌then◌else◌, nat_lt, slice_set, slice_index_or}
 use Rattle.std.specs.List.{list_all}
 use Rattle.std.specs.Option.{option_map_or}
 use Rattle.std.proofs.lemmas.Bool.Decides.{nat_tests}
 use Rattle.std.proofs.lemmas.List.{append-nil}
 use Rattle.hx_ids.specs.declared.ControllerId.{ControllerId}
-use Rattle.hx_ids.specs.declared.SessionId.{SessionId}
 use Rattle.hx_cluster.specs.declared.description.Spec.{Spec}
 use Rattle.hx_cluster.specs.declared.state.Cluster.{Cluster}
 use Rattle.hx_cluster.specs.declared.planning.Plan.{Plan}
-use Rattle.hx_cluster.specs.declared.happenings.Dispatched.{Dispatched}
 use Rattle.hx_cluster.specs.declared.happenings.Event.{Event}
 use Rattle.hx_cluster.specs.declared.happenings.Event.TheVariants as events
 use Rattle.hx_cluster.specs.Steps.{opening, is_leader, has_controller}
 use Rattle.hx_cluster.specs.Reads.{pass_of}
-use Rattle.hx_cluster.specs.Events.{next, replay, begun_of, dispatched_of, is_proposable, is_epoch, is_pass, IsStep}
+use Rattle.hx_cluster.specs.Events.{next, begun_of, dispatched_of, is_proposable, is_epoch, is_pass, IsStep}
 use Rattle.hx_cluster.specs.Valid.{is_valid_model, IsValid}
 use Rattle.hx_cluster.specs.Ranged.{IsRanged}
 use Rattle.hx_pass.specs.Plans.{plan}
@@ -25,16 +23,16 @@ use Rattle.hx_control.specs.declared.PassOutcome.{PassOutcome}
 use Rattle.hx_control.specs.declared.ControlFault.{ControlFault}
 use Rattle.hx_control.specs.declared.ControlFault.TheVariants as faults
 use Rattle.hx_control.specs.Controllers.{Controller, idle_controller}
-use Rattle.hx_control.specs.Steps.{Step, Calls, Plans, Refuses, outcome_of, is_of_cluster, begin_step, read_step, dispatch_step, planned_step, post_step, of_cluster, step_at, step_of, after_step}
+use Rattle.hx_control.specs.Steps.{Step, Calls, Plans, Refuses, outcome_of, is_of_cluster, begin_step, read_step, planned_step, post_step, of_cluster, step_at, step_of, after_step}
 use Rattle.hx_control.specs.OfBoard.{IsPlanOf, OfBoard, calls_of, is_own}
 use Rattle.hx_control.proofs.KeepsTurns.{step_keeps}
 use Rattle.hx_sim.specs.World.{World, State, controller_of, with_controller}
 use Rattle.hx_sim.specs.Runs.{happened}
-use Rattle.hx_safe.proofs.Counting.{and-first, and-both}
+use Rattle.hx_safe.proofs.Counting.{and-both}
 use Rattle.hx_safe.proofs.Ends.{same-self}
 use Rattle.hx_safe.proofs.Fixed.{IsFixed}
 use Rattle.hx_safe.proofs.Ideals.{length-put}
-use Rattle.hx_scripted.proofs.Standing.{IsTurnOf, IsScripted, ranged_there, fixed_there, turn_put, turn_called, scripted_next}
+use Rattle.hx_scripted.proofs.Standing.{IsScripted, ranged_there, fixed_there, turn_put, turn_called, scripted_next}
 use Rattle.hx_scripted.proofs.Proposed.{HasGiven, proposed, posted}
 use Rattle.hx_scripted.proofs.Lines.{pass-line, dispatch-line}
 use Rattle.hx_scripted.proofs.Asked.{controller_there}
@@ -113,14 +111,16 @@ module _ (spec : Spec) (c : Cluster) (h : List Event) (x : Controller) where
       (Some (outcome_of x.turn p (dispatched_of c x.id p.proposals))) (faults.Fenced c.epoch) (faults.OldPass (pass_of c x.id))
       (λ epoch pass. record {
         step = (
-            subst (λ (q : Plan). list_all (is_proposable c) q.proposals ≡ true) (sym planned.1) (proposed spec c x.turn.view g of),
-            epoch,
-            pass,
-            refl);
+          subst (λ (q : Plan). list_all (is_proposable c) q.proposals ≡ true) (sym planned.1) (proposed spec c x.turn.view g of),
+          epoch,
+          pass,
+          refl,
+        );
         proper = (
-            due_now Send rest same refl told,
-            of_epoch_now told,
-            ap (λ (q : Plan). q.proposals) planned.1 ∙ ap (λ (t : Turn). (plan spec.models spec.rules t.view).proposals) told);
+          due_now Send rest same refl told,
+          of_epoch_now told,
+          ap (λ (q : Plan). q.proposals) planned.1 ∙ ap (λ (t : Turn). (plan spec.models spec.rules t.view).proposals) told,
+        );
         own = λ j. refl;
         line = dispatch-line c x.id p.proposals;
       })
@@ -132,9 +132,10 @@ module _ (spec : Spec) (c : Cluster) (h : List Event) (x : Controller) where
       (λ epoch. record {
         step = (there, posted spec c x.turn.view g of, epoch);
         proper = (
-            subst (λ (t : Turn). is_first Post t.left ≡ true) told (ap (is_first Post) (sym same)),
-            of_epoch_now told,
-            ap (λ (t : Turn). posted_of t.view) told);
+          subst (λ (t : Turn). is_first Post t.left ≡ true) told (ap (is_first Post) (sym same)),
+          of_epoch_now told,
+          ap (λ (t : Turn). posted_of t.view) told,
+        );
         own = λ j. refl;
         line = refl;
       })
@@ -179,28 +180,30 @@ next_there spec last w k valid s =
     let x = controller_of w k in
     let ranged = ranged_there spec last w valid s in
     let fixed = fixed_there spec last w s in
-    let turn = s.turns k in
+    let turn = s.of.turns k in
     let there : (call : Call) (rest : List Call) → (call ∷ rest) ≡ x.turn.left → has_controller w.cluster x.id ≡ true = λ call rest left.
-            subst (λ (j : ControllerId). has_controller w.cluster j ≡ true) (sym turn.id)
-            (controller_there spec w.cluster k fixed (ap (nat_lt k.0) (sym s.controllers) ∙ listed_there w.controllers k.0 (idle_controller k) call rest refl left)) in
-    subst (λ (given : Spec). IsNext spec w x (step_of given w.cluster x)) (sym s.given)
+    subst (λ (j : ControllerId). has_controller w.cluster j ≡ true) (sym turn.id)
+    (controller_there spec w.cluster k fixed (ap (nat_lt k.0) (sym s.of.controllers) ∙ listed_there w.controllers k.0 (idle_controller k) call rest refl left)) in
+    subst (λ (given : Spec). IsNext spec w x (step_of given w.cluster x)) (sym s.of.given)
     (record {
       called = called spec w.cluster w.history x x.turn.left refl ranged (given_there spec w.cluster valid ranged fixed) there turn.of_board;
-      keeps = subst (λ (c : Cluster). OfBoard spec (w.history ++ calls_of (step_of spec c x)) (after_step c x (step_of spec c x))) (sym s.cluster) (step_keeps spec w.history x turn.of_board);
+      keeps = subst (λ (c : Cluster). OfBoard spec (w.history ++ calls_of (step_of spec c x)) (after_step c x (step_of spec c x))) (sym s.of.cluster) (step_keeps spec w.history x turn.of_board);
     })
 
 -- the world with a controller put, where nothing happens, and where a call of its happens
 pub put_there : (spec : Spec) (last : Option ℕ) (w : World) (y : Controller) → IsScripted spec last w → OfBoard spec w.history y
     → IsScripted spec last (record w { controllers = slice_set w.controllers y.id.0 y })
 put_there spec last w y s board = record {
-  given = s.given;
-  cluster = s.cluster;
-  lawful = s.lawful;
+  of = record {
+    given = s.of.given;
+    lawful = s.of.lawful;
+    cluster = s.of.cluster;
+    controllers = length-put w.controllers y.id.0 y ∙ s.of.controllers;
+    turns = λ k. turn_put spec w.history w.controllers y k board (s.of.turns k);
+    bag = s.of.bag;
+    accepted = s.of.accepted;
+  };
   line = s.line;
-  controllers = length-put w.controllers y.id.0 y ∙ s.controllers;
-  turns = λ k. turn_put spec w.history w.controllers y k board (s.turns k);
-  bag = s.bag;
-  accepted = s.accepted;
 }
 
 pub call_there : (spec : Spec) (last : Option ℕ) (x : State) (k : Controller) (e : Event) (outcome : Option PassOutcome) → IsScripted spec last x.world
@@ -209,7 +212,7 @@ call_there spec last x k e outcome s n =
     let w = x.world in
     let y = after_step w.cluster k (Calls e outcome) in
     scripted_next spec last last w e (slice_set w.controllers k.id.0 y) (happened e x).world.weight s n.called.step n.called.proper (n.called.line ∙ s.line)
-    (length-put w.controllers k.id.0 y ∙ s.controllers) (λ j. turn_called spec w.history e w.controllers y j n.called.own n.keeps (s.turns j))
+    (length-put w.controllers k.id.0 y ∙ s.of.controllers) (λ j. turn_called spec w.history e w.controllers y j n.called.own n.keeps (s.of.turns j))
 
 pub plan_there : (spec : Spec) (last : Option ℕ) (x : State) (k : Controller) (p : Plan) → IsScripted spec last x.world
     → IsNext spec x.world k (Plans p) → IsScripted spec last (with_controller (after_step x.world.cluster k (Plans p)) x).world

@@ -1,6 +1,6 @@
 -- What is done to participants, their jobs and the bag keeps what holds of a world, where what is accepted was fetched.
-use Rattle.std.proofs.Common.{◌≡◌, ℕ, ◌+◌, ◌||◌, ◌&&◌, ◌==◌, Bool, true, false, List, [], ◌∷◌, ◌++◌, map, length, find, Option, Some, None, refl, sym, ap, ◌∙◌, subst, arith}
-use Rattle.std.specs.Prelude.{if◌then◌else◌, unwrap_or, slice_set, is_some}
+use Rattle.std.proofs.Common.{◌≡◌, ℕ, Bool, true, List, [], ◌∷◌, ◌++◌, map, find, Option, Some, None, refl, ap, ◌∙◌, subst, arith}
+use Rattle.std.specs.Prelude.{unwrap_or, slice_set}
 use Rattle.std.specs.List.{list_any, list_all}
 use Rattle.hx_ids.specs.declared.InstanceId.{InstanceId}
 use Rattle.hx_ids.specs.declared.SessionId.{SessionId}
@@ -10,7 +10,6 @@ use Rattle.hx_cluster.specs.declared.description.Spec.{Spec}
 use Rattle.hx_cluster.specs.declared.state.Message.{Message}
 use Rattle.hx_cluster.specs.declared.happenings.Event.{Event}
 use Rattle.hx_cluster.specs.declared.happenings.Event.TheVariants as events
-use Rattle.hx_cluster.specs.declared.happenings.Mail.{Mail}
 use Rattle.hx_cluster.specs.declared.happenings.Outcome.{Outcome}
 use Rattle.hx_cluster.specs.Ends.{part_eq}
 use Rattle.hx_cluster.specs.Steps.{opening}
@@ -20,67 +19,76 @@ use Rattle.hx_cluster.specs.Events.{replay}
 use Rattle.hx_pass.specs.Lawful.{fetched_from}
 use Rattle.hx_replicas.specs.declared.slots.Work.{Work}
 use Rattle.hx_replicas.specs.declared.slots.Work.TheVariants.{Idle, Accepted, Out}
-use Rattle.hx_replicas.specs.Participants.{Participant, Slot, new_participant, new_slot, slot_in, slot_of, put_slot, accepted, accept, accepted_of, has_accepted, accepted_in, accepted_by, makes, made_ready, readied, emptied_for, hand_out, end_of, brought, finish, emptied, adopt}
-use Rattle.hx_sim.specs.World.{World, Job, State, participant_of, with_participant, with_jobs, with_bag}
+use Rattle.hx_replicas.specs.Participants.{Participant, Slot, new_participant, new_slot, slot_in, slot_of, put_slot, accepted, accept, accepted_of, has_accepted, accepted_in, accepted_by, made_ready, readied, emptied_for, hand_out, end_of, brought, finish, emptied, adopt}
+use Rattle.hx_sim.specs.World.{World, Job, State, participant_of, with_participant}
 use Rattle.hx_sim.specs.Jobs
 use Rattle.hx_safe.proofs.Counting.{and-first, and-second, any-append, all-le, all-find}
 use Rattle.hx_safe.proofs.Ends.{same-self}
 use Rattle.hx_safe.proofs.Ideals.{all-put}
-use Rattle.hx_scripted.proofs.Standing.{is_fetched, is_work_fetched, is_slot_fetched, has_fetched, IsScripted, fetched_more, or-second, item_at}
+use Rattle.hx_scripted.specs.OfHistory.{is_fetched, is_work_fetched, is_slot_fetched, has_fetched}
+use Rattle.hx_scripted.proofs.Standing.{IsScripted, fetched_more, or-second, item_at}
 
 -- worlds that differ in what the history doesn't tell
 pub weighed_there : (spec : Spec) (last : Option ℕ) (w : World) (weight : ℕ) → IsScripted spec last w → IsScripted spec last (record w { weight = weight })
 weighed_there spec last w weight s = record {
-  given = s.given;
-  cluster = s.cluster;
-  lawful = s.lawful;
+  of = record {
+    given = s.of.given;
+    lawful = s.of.lawful;
+    cluster = s.of.cluster;
+    controllers = s.of.controllers;
+    turns = s.of.turns;
+    bag = s.of.bag;
+    accepted = s.of.accepted;
+  };
   line = s.line;
-  controllers = s.controllers;
-  turns = s.turns;
-  bag = s.bag;
-  accepted = s.accepted;
 }
 
 pub jobs_there : (spec : Spec) (last : Option ℕ) (w : World) (jobs : List Job) → IsScripted spec last w → IsScripted spec last (record w { jobs = jobs })
 jobs_there spec last w jobs s = record {
-  given = s.given;
-  cluster = s.cluster;
-  lawful = s.lawful;
+  of = record {
+    given = s.of.given;
+    lawful = s.of.lawful;
+    cluster = s.of.cluster;
+    controllers = s.of.controllers;
+    turns = s.of.turns;
+    bag = s.of.bag;
+    accepted = s.of.accepted;
+  };
   line = s.line;
-  controllers = s.controllers;
-  turns = s.turns;
-  bag = s.bag;
-  accepted = s.accepted;
 }
 
 bag_there : (spec : Spec) (last : Option ℕ) (w : World) (bag : List Message) → IsScripted spec last w → list_all (is_fetched spec w.history) bag ≡ true
     → IsScripted spec last (record w { bag = bag })
 bag_there spec last w bag s all = record {
-  given = s.given;
-  cluster = s.cluster;
-  lawful = s.lawful;
+  of = record {
+    given = s.of.given;
+    lawful = s.of.lawful;
+    cluster = s.of.cluster;
+    controllers = s.of.controllers;
+    turns = s.of.turns;
+    bag = all;
+    accepted = s.of.accepted;
+  };
   line = s.line;
-  controllers = s.controllers;
-  turns = s.turns;
-  bag = all;
-  accepted = s.accepted;
 }
 
 pub participant_put : (spec : Spec) (last : Option ℕ) (w : World) (i : InstanceId) (p : Participant) → IsScripted spec last w → has_fetched spec w.history p ≡ true
     → IsScripted spec last (record w { participants = slice_set w.participants i.0 p })
 participant_put spec last w i p s is = record {
-  given = s.given;
-  cluster = s.cluster;
-  lawful = s.lawful;
+  of = record {
+    given = s.of.given;
+    lawful = s.of.lawful;
+    cluster = s.of.cluster;
+    controllers = s.of.controllers;
+    turns = s.of.turns;
+    bag = s.of.bag;
+    accepted = all-put (has_fetched spec w.history) w.participants i.0 p s.of.accepted is;
+  };
   line = s.line;
-  controllers = s.controllers;
-  turns = s.turns;
-  bag = s.bag;
-  accepted = all-put (has_fetched spec w.history) w.participants i.0 p s.accepted is;
 }
 
 pub participant_there : (spec : Spec) (last : Option ℕ) (w : World) (i : InstanceId) → IsScripted spec last w → has_fetched spec w.history (participant_of w i) ≡ true
-participant_there spec last w i s = item_at (has_fetched spec w.history) w.participants i.0 new_participant s.accepted refl
+participant_there spec last w i s = item_at (has_fetched spec w.history) w.participants i.0 new_participant s.of.accepted refl
 
 -- slots
 put-slot : (p : Slot → Bool) (xs : List Slot) (y : Slot) → list_all p xs ≡ true → p y ≡ true → list_all p (put_slot xs y) ≡ true
@@ -163,7 +171,7 @@ put-messages p bag (m ∷ ms) all more =
 pub bagged_there : (spec : Spec) (last : Option ℕ) (ms : List Message) (x : State) → IsScripted spec last x.world → list_all (is_fetched spec x.world.history) ms ≡ true
     → IsScripted spec last (Jobs.bagged ms x).world
 bagged_there spec last ms x s more =
-    bag_there spec last x.world (Jobs.put_all x.world.bag ms) s (put-messages (is_fetched spec x.world.history) x.world.bag ms s.bag more)
+    bag_there spec last x.world (Jobs.put_all x.world.bag ms) s (put-messages (is_fetched spec x.world.history) x.world.bag ms s.of.bag more)
 
 -- what a fetch shows is fetched
 has-self : (m : Message) → has_id m.session m.id m ≡ true

@@ -1,16 +1,46 @@
-//! What holds of the histories of scripts. The contract of each function is a law over the
-//! definitions alone.
+//! What holds of the histories of scripts, and of the worlds in which they are done. The contract
+//! of each function is a law over the definitions alone.
 #![tactic(auto)]
 
-ghost use Rattle.std.specs.Prelude.{◌≡◌, true, List, None};
+ghost use Rattle.std.specs.Prelude.{◌≡◌, ◌++◌, true, List, None};
 ghost use Rattle.hx_cluster.specs.declared.description.Spec.{Spec};
+ghost use Rattle.hx_cluster.specs.declared.happenings.Event.{Event};
 ghost use Rattle.hx_cluster.specs.Valid.{IsValid};
 ghost use Rattle.hx_script.specs.declared.Line.{Line};
 ghost use Rattle.hx_pass.specs.Lawful.{IsLawful};
-ghost use Rattle.hx_sim.specs.Scripts.{are_next_lines, sim_history};
+ghost use Rattle.hx_sim.specs.World.{State};
+ghost use Rattle.hx_sim.specs.Runs.{state_of};
+ghost use Rattle.hx_sim.specs.Settles.{settle};
+ghost use Rattle.hx_sim.specs.Scripts.{do_line, is_next_line, are_next_lines, sim_history};
+ghost use Rattle.hx_lawful.specs.Holding.{HoldsOfLawful};
+ghost use Rattle.hx_scripted.specs.OfHistory.{IsOfItsHistory};
+
+/// A line that a world can be given next leaves it one of its history, whatever handlers answer,
+/// and also where the history has no room: the history stays lawful.
+pub fn lines_keep_worlds_of_their_histories()
+    ensures { (spec : Spec) (line : Line) (x : State) → IsValid spec → IsOfItsHistory spec x.world
+        → is_next_line spec x.world.cluster.line line ≡ true
+        → IsOfItsHistory spec (state_of (do_line line x)).world }
+{}
+
+/// So does a settle by itself.
+pub fn settles_keep_worlds_of_their_histories()
+    ensures { (spec : Spec) (x : State) → IsValid spec → IsOfItsHistory spec x.world
+        → IsOfItsHistory spec (state_of (settle x)).world }
+{}
 
 /// The history of a script is lawful, if a world can be given its lines in turn.
 pub fn scripts_are_lawful()
     ensures { (spec : Spec) (lines : List Line) → IsValid spec
         → are_next_lines spec None lines ≡ true → IsLawful spec (sim_history spec lines) }
+{}
+
+/// So at each place of it the cluster is safe: no state's bound is exceeded, counting both ends of
+/// transitions in flight, and no throttle is passed. Each message that was taken has one run, legal
+/// and alone; and no dispatch was refused a proposal by a bound, a throttle, or for what its
+/// replica did meanwhile.
+pub fn what_holds_of_scripts()
+    ensures { (spec : Spec) (lines : List Line) (h more : List Event) → IsValid spec
+        → are_next_lines spec None lines ≡ true → sim_history spec lines ≡ h ++ more
+        → HoldsOfLawful spec h }
 {}
