@@ -7,3 +7,4 @@ pub mod Taking
 pub mod Stepping
 pub mod DoingTurns
 pub mod DoingLines
+pub mod ReadScripts

@@ -2,11 +2,12 @@
 //! of each function is a law over the definitions alone.
 #![tactic(auto)]
 
-ghost use Rattle.std.specs.Prelude.{◌≡◌, ◌++◌, true, List, None};
+ghost use Rattle.std.specs.Prelude.{◌≡◌, ◌++◌, ℕ, true, List, None, Ok};
 ghost use Rattle.hx_cluster.specs.declared.description.Spec.{Spec};
 ghost use Rattle.hx_cluster.specs.declared.happenings.Event.{Event};
 ghost use Rattle.hx_cluster.specs.Valid.{IsValid};
 ghost use Rattle.hx_script.specs.declared.Line.{Line};
+ghost use Rattle.hx_script.specs.Grammar.{script_of};
 ghost use Rattle.hx_pass.specs.Lawful.{IsLawful};
 ghost use Rattle.hx_sim.specs.World.{State};
 ghost use Rattle.hx_sim.specs.Runs.{state_of};
@@ -43,4 +44,19 @@ pub fn what_holds_of_scripts()
     ensures { (spec : Spec) (lines : List Line) (h more : List Event) → IsValid spec
         → are_next_lines spec None lines ≡ true → sim_history spec lines ≡ h ++ more
         → HoldsOfLawful spec h }
+{}
+
+/// The lines of a script that is read can be given in turn, and the description, with the names
+/// that they bring, is valid.
+pub fn read_scripts_can_be_given()
+    ensures { (lines : List (List ℕ)) (spec later : Spec) (script : List Line) → IsValid spec
+        → script_of lines spec ≡ Ok (script, later)
+        → IsValid later × (are_next_lines later None script ≡ true) }
+{}
+
+/// So a script that is read has a lawful history.
+pub fn read_scripts_are_lawful()
+    ensures { (lines : List (List ℕ)) (spec later : Spec) (script : List Line) → IsValid spec
+        → script_of lines spec ≡ Ok (script, later)
+        → IsLawful later (sim_history later script) }
 {}
