@@ -8,3 +8,4 @@ pub mod Stepping
 pub mod DoingTurns
 pub mod DoingLines
 pub mod ReadScripts
+mod Examples
