@@ -38,8 +38,9 @@ pub fn scripts_are_lawful()
 
 /// So at each place of it the cluster is safe: no state's bound is exceeded, counting both ends of
 /// transitions in flight, and no throttle is passed. Each message that was taken has one run, legal
-/// and alone; and no dispatch was refused a proposal by a bound, a throttle, or for what its
-/// replica did meanwhile.
+/// and alone. What each controller was shown covers the board, while its epoch and pass stand; and
+/// no dispatch was refused a proposal for a pending message, for where its replica stands, for its
+/// transition, nor by a bound or a throttle.
 pub fn what_holds_of_scripts()
     ensures { (spec : Spec) (lines : List Line) (h more : List Event) → IsValid spec
         → are_next_lines spec None lines ≡ true → sim_history spec lines ≡ h ++ more
