@@ -1,4 +1,4 @@
 mod calls;
 mod fixtures;
-mod messages;
 mod steps;
+mod tables;

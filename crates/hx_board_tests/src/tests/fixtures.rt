@@ -1,15 +1,13 @@
-//! A small board, and its calls where their conditions hold.
+//! A small board, and the names of what stands in it.
 ghost use Rattle.std.specs.Prelude.{◌≡◌, true, nat_lt};
 ghost use Rattle.hx_safe.specs.Ordered.{rises};
 ghost use Rattle.hx_cluster.specs.Valid.{IsValid};
 
-use hx_board::{
-    BeginFault, Board, BoardFault, DispatchRefusal, PostRefusal, ReadRefusal, RoomFault,
-};
-use hx_cluster::{Admin, Begun, Did, Dispatched, Mail, Proposal, Seen, Spec, StepFault};
+use hx_board::Board;
+use hx_cluster::Spec;
 use hx_desc::read;
 use hx_ids::{
-    ControllerId, Epoch, InstanceId, ModelId, PartId, PassNo, ResourceId, SessionId, StateId,
+    ControllerId, Epoch, InstanceId, MsgId, PartId, PassNo, ResourceId, SessionId, StateId,
 };
 use std::alloc::Global;
 use std::process::Abort;
@@ -30,6 +28,18 @@ pub const S2: SessionId = SessionId(2);
 
 pub const S3: SessionId = SessionId(3);
 
+pub const S9: SessionId = SessionId(9);
+
+pub const M1: MsgId = MsgId(1);
+
+pub const M2: MsgId = MsgId(2);
+
+pub const M9: MsgId = MsgId(9);
+
+pub const E1: Epoch = Epoch(1);
+
+pub const P1: PassNo = PassNo(1);
+
 pub const MASTER: StateId = StateId(2);
 
 pub const SLAVE: StateId = StateId(3);
@@ -37,8 +47,6 @@ pub const SLAVE: StateId = StateId(3);
 pub const OFFLINE: StateId = StateId(4);
 
 pub const ONLINE: StateId = StateId(5);
-
-pub const ONLINE_OFFLINE: ModelId = ModelId(1);
 
 /// Its one partition has a list.
 pub const DB: ResourceId = ResourceId(0);
@@ -89,137 +97,4 @@ pub fn opened(rt: &impl Abort, spec: &Spec, lines: Vec<u32>, limit: u32) -> Boar
 pub fn small(rt: &impl Abort, alloc: Global, limit: u32) -> Board {
     let spec = described(rt, alloc, SMALL);
     opened(rt, &spec, Vec::new(alloc), limit)
-}
-
-pub fn step(rt: &impl Abort, board: &mut Board, step: &Admin) -> Result<Did, BoardFault> {
-    if !board.is_in_range(step) {
-        panic!(rt; "an id out of range");
-    }
-    board.admin(step)
-}
-
-/// A step is made, and answers so.
-pub fn does(rt: &impl Abort, board: &mut Board, asked: &Admin, did: Did) {
-    assert_eq!(rt; step(rt, board, asked), Ok(did), "of {asked:?}");
-}
-
-/// A step is refused, as it was told before.
-pub fn refuses(rt: &impl Abort, board: &mut Board, asked: &Admin, fault: StepFault) {
-    assert_eq!(rt; board.refuses(asked), Some(fault), "of {asked:?}");
-    assert_eq!(rt;
-        step(rt, board, asked),
-        Err(BoardFault::Step(fault)),
-        "of {asked:?}"
-    );
-}
-
-pub fn begin(rt: &impl Abort, board: &mut Board, c: ControllerId) -> Result<Begun, BeginFault> {
-    if !board.has_controller(c) {
-        panic!(rt; "no such controller");
-    }
-    board.begin(c)
-}
-
-/// What each read answers, as numbers of items.
-pub fn read_all(
-    rt: &impl Abort,
-    board: &mut Board,
-    c: ControllerId,
-    pass: PassNo,
-    session: SessionId,
-) -> [Result<usize, ReadRefusal>; 4] {
-    [
-        read_live(rt, board, c, pass),
-        read_mail(rt, board, c, pass, session),
-        read_states(rt, board, c, pass, session),
-        read_ideals(rt, board, c, pass),
-    ]
-}
-
-fn read_live(
-    rt: &impl Abort,
-    board: &mut Board,
-    c: ControllerId,
-    pass: PassNo,
-) -> Result<usize, ReadRefusal> {
-    if !board.has_controller(c) {
-        panic!(rt; "no such controller");
-    }
-    Ok(board.read_live(c, pass)?.len())
-}
-
-fn read_mail(
-    rt: &impl Abort,
-    board: &mut Board,
-    c: ControllerId,
-    pass: PassNo,
-    session: SessionId,
-) -> Result<usize, ReadRefusal> {
-    if !board.has_controller(c) {
-        panic!(rt; "no such controller");
-    }
-    Ok(board.read_mail(c, pass, session)?.len())
-}
-
-fn read_states(
-    rt: &impl Abort,
-    board: &mut Board,
-    c: ControllerId,
-    pass: PassNo,
-    session: SessionId,
-) -> Result<usize, ReadRefusal> {
-    if !board.has_controller(c) {
-        panic!(rt; "no such controller");
-    }
-    Ok(board.read_states(c, pass, session)?.len())
-}
-
-fn read_ideals(
-    rt: &impl Abort,
-    board: &mut Board,
-    c: ControllerId,
-    pass: PassNo,
-) -> Result<usize, ReadRefusal> {
-    if !board.has_controller(c) {
-        panic!(rt; "no such controller");
-    }
-    Ok(board.read_ideals(c, pass)?.resources.len())
-}
-
-pub fn dispatch(
-    rt: &impl Abort,
-    board: &mut Board,
-    epoch: Epoch,
-    pass: PassNo,
-    proposals: &[Proposal],
-) -> Result<Dispatched, DispatchRefusal> {
-    if !board.has_controller(C1) {
-        panic!(rt; "no such controller");
-    }
-    if !board.are_proposable(proposals) {
-        panic!(rt; "an id out of range");
-    }
-    board.dispatch(C1, epoch, pass, proposals)
-}
-
-pub fn publish(
-    rt: &impl Abort,
-    board: &mut Board,
-    epoch: Epoch,
-    rows: &[Seen],
-) -> Result<(), PostRefusal> {
-    if !board.has_controller(C1) {
-        panic!(rt; "no such controller");
-    }
-    if !board.are_postable(rows) {
-        panic!(rt; "an id out of range");
-    }
-    board.publish(C1, epoch, rows)
-}
-
-pub fn fetch(rt: &impl Abort, board: &mut Board, instance: InstanceId) -> Result<Mail, RoomFault> {
-    if !board.has_instance(instance) {
-        panic!(rt; "no such instance");
-    }
-    board.fetch(instance)
 }
