@@ -1,4 +1,0 @@
-mod calls;
-mod fixtures;
-mod steps;
-mod tables;
