@@ -1,4 +1,5 @@
 mod calls;
 mod fixtures;
+mod proposals;
+mod runs;
 mod steps;
-mod tables;

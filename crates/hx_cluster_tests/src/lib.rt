@@ -1,0 +1,5 @@
+//! Tests of the plain cluster and of the calls on it, by their public functions.
+#![tactic(auto)]
+
+#[cfg(test)]
+mod tests;
