@@ -4,6 +4,8 @@
 mod fates;
 mod places;
 
+pub use fates::Fates;
+
 ghost use Rattle.std.specs.Prelude.{◌≡◌, IfOk};
 ghost use Rattle.hx_report.specs.Findings.{report, is_failed, finding_of};
 
