@@ -9,7 +9,6 @@ pub use fates::Fates;
 ghost use Rattle.std.specs.Prelude.{◌≡◌, IfOk};
 ghost use Rattle.hx_report.specs.Findings.{report, is_failed, finding_of};
 
-use crate::fates::Fates;
 use hx_cluster::{Entry, Finding, Report, Selection, Target, Throttled, View};
 use hx_lists::Seq;
 use hx_model::ERROR;

@@ -1,9 +1,15 @@
 //! Two live instances, of which the first has a MASTER and is to become another one.
-use hx_cluster::{Candidate, Ideals, Message, Resource, Row, Rule, Scope, Spec, Target, View};
+use hx_cluster::{
+    Candidate, Full, Held, Ideals, Message, Report, Resource, Row, Rule, Scope, Selection, Spec,
+    Target, Throttled, View,
+};
 use hx_ideal::{Ideal, Mode};
 use hx_ids::{Epoch, InstanceId, ModelId, MsgId, Names, PartId, ResourceId, SessionId, StateId};
 use hx_lists::Seq;
 use hx_model::{Bound, DROPPED, ERROR, Model, ModelParts};
+use hx_report::report;
+use hx_select::select;
+use hx_throttle::throttle;
 use std::alloc::{AllocError, Global};
 use std::test::Fail;
 
@@ -47,14 +53,15 @@ fn master_slave(alloc: Global) -> Result<Model, Fail> {
 }
 
 /// One model, and two messages at a time to each instance.
-pub fn spec(alloc: Global) -> Result<Spec, Fail> {
-    let mut models = Seq::new(alloc);
-    models.push(master_slave(alloc)?)?;
+fn spec(alloc: Global) -> Result<Spec, Fail> {
     let rule = Rule {
         scope: Scope::Instance,
         transition: None,
         limit: 2,
     };
+    let rules = Seq::from_slice(alloc, &[rule])?;
+    let mut models = Seq::new(alloc);
+    models.push(master_slave(alloc)?)?;
     Ok(Spec {
         instances: Names::new(alloc),
         states: Names::new(alloc),
@@ -63,7 +70,7 @@ pub fn spec(alloc: Global) -> Result<Spec, Fail> {
         models,
         controllers: 1,
         timeout: 30,
-        rules: Seq::from_slice(alloc, &[rule])?,
+        rules,
         resources: Seq::new(alloc),
         failures: Seq::new(alloc),
     })
@@ -77,14 +84,7 @@ fn row(session: SessionId, index: u32, state: StateId) -> Row {
     }
 }
 
-/// The first session is a MASTER of part 0, becomes one of part 2, and failed with part 3; the
-/// second is a SLAVE of the first two parts.
-pub fn view(alloc: Global) -> Result<View, Fail> {
-    let ideal = Ideal::check(2, 4, Mode::Full, 2, &[])
-        .ok()
-        .ok_or("a fault")?;
-    let mut resources = Seq::new(alloc);
-    resources.push(Resource::new(0, ModelId(0), ideal))?;
+fn rows(alloc: Global) -> Result<Seq<Row>, AllocError> {
     let rows = [
         row(S1, 0, MASTER),
         row(S1, 2, SLAVE),
@@ -92,6 +92,10 @@ pub fn view(alloc: Global) -> Result<View, Fail> {
         row(S2, 0, SLAVE),
         row(S2, 1, SLAVE),
     ];
+    Seq::from_slice(alloc, &rows)
+}
+
+fn mail(alloc: Global) -> Result<Seq<Message>, AllocError> {
     let coming = Message {
         id: MsgId(7),
         session: S1,
@@ -103,16 +107,88 @@ pub fn view(alloc: Global) -> Result<View, Fail> {
         taken: false,
         written: false,
     };
-    Ok(View {
-        live: Seq::from_slice(alloc, &[(S1, InstanceId(0)), (S2, InstanceId(1))])?,
-        mail: Seq::from_slice(alloc, &[coming])?,
-        rows: Seq::from_slice(alloc, &rows)?,
-        ideals: Ideals {
-            resources,
-            drained: Seq::from_slice(alloc, &[false, false])?,
-            resets: Seq::new(alloc),
-        },
+    Seq::from_slice(alloc, &[coming])
+}
+
+fn ideals(alloc: Global) -> Result<Ideals, Fail> {
+    let ideal = Ideal::check(2, 4, Mode::Full, 2, &[])
+        .ok()
+        .ok_or("a fault")?;
+    let mut resources = Seq::new(alloc);
+    resources.push(Resource::new(0, ModelId(0), ideal))?;
+    Ok(Ideals {
+        resources,
+        drained: Seq::new(alloc),
+        resets: Seq::new(alloc),
     })
+}
+
+/// The first session is a MASTER of part 0, becomes one of part 2, and failed with part 3; the
+/// second is a SLAVE of the first two parts.
+fn view(alloc: Global) -> Result<View, Fail> {
+    let ideals = ideals(alloc)?;
+    let live = Seq::from_slice(alloc, &[(S1, InstanceId(0)), (S2, InstanceId(1))])?;
+    let mail = mail(alloc)?;
+    let rows = rows(alloc)?;
+    Ok(View {
+        live,
+        mail,
+        rows,
+        ideals,
+    })
+}
+
+/// What the bounds make of candidates.
+pub fn selected(alloc: Global, candidates: &[Candidate]) -> Result<Selection, Fail> {
+    let spec = spec(alloc)?;
+    let view = view(alloc)?;
+    Ok(select(alloc, &spec, &view, candidates)?)
+}
+
+/// What the throttles make of candidates.
+pub fn throttled(alloc: Global, accepted: &[Candidate]) -> Result<Throttled, Fail> {
+    let spec = spec(alloc)?;
+    let view = view(alloc)?;
+    Ok(throttle(alloc, &spec, &view, accepted)?)
+}
+
+/// A candidate that finds the rule at its limit.
+pub fn held_one() -> Held {
+    Held {
+        candidate: candidate(S1, 1, OFFLINE, SLAVE),
+        rule: 0,
+        load: 2,
+        limit: 2,
+    }
+}
+
+/// A candidate whose state has its one replica.
+pub fn full_one(alloc: Global) -> Result<Full, AllocError> {
+    Ok(Full {
+        candidate: candidate(S2, 0, SLAVE, MASTER),
+        count: 1,
+        bound: 1,
+        holders: Seq::from_slice(alloc, &[S1])?,
+    })
+}
+
+fn selection(alloc: Global) -> Result<Selection, AllocError> {
+    let mut full = Seq::new(alloc);
+    full.push(full_one(alloc)?)?;
+    Ok(Selection {
+        accepted: Seq::new(alloc),
+        full,
+    })
+}
+
+/// What is found of targets, where one candidate is sent, one held and one full.
+pub fn found_of(alloc: Global, targets: &[Target]) -> Result<Report, Fail> {
+    let sent = Seq::from_slice(alloc, &[candidate(S2, 1, SLAVE, MASTER)])?;
+    let held = Seq::from_slice(alloc, &[held_one()])?;
+    let throttled = Throttled { sent, held };
+    let selection = selection(alloc)?;
+    let view = view(alloc)?;
+    Ok(report(alloc, targets, &view, &selection, &throttled)?)
 }
 
 /// A candidate of a session: from one state to another.
@@ -137,9 +213,4 @@ pub fn target(session: SessionId, index: u32, state: Option<StateId>, goal: Stat
         goal,
         place: 0,
     }
-}
-
-/// A list of candidates.
-pub fn listed(alloc: Global, candidates: &[Candidate]) -> Result<Seq<Candidate>, AllocError> {
-    Seq::from_slice(alloc, candidates)
 }
