@@ -3,4 +3,3 @@ mod PreferenceList
 mod BoundReached
 mod ThrottledParts
 mod FirstPass
-pub mod Modelled

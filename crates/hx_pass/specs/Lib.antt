@@ -3,4 +3,3 @@ pub mod Turns
 pub mod Lawful
 pub mod Explained
 pub mod Left
-pub mod Modelled
