@@ -1,2 +1,47 @@
-//! The transitions that bring replicas nearer to their goals, in the order in which a pass makes them.
+//! The transitions that bring replicas nearer to their goals, in the order in which a pass makes
+//! them.
 #![tactic(auto)]
+
+mod order;
+mod steps;
+
+ghost use Rattle.std.specs.Prelude.{◌≡◌, true, IfOk};
+ghost use Rattle.std.specs.List.{list_all};
+ghost use Rattle.hx_gen.specs.Stage.{has_model};
+ghost use Rattle.hx_gen.specs.Candidates.{candidates as candidates_of};
+
+use hx_cluster::{Candidate, Target, View};
+use hx_hops::Hops;
+use hx_model::Model;
+use order::in_order;
+use std::alloc::{AllocError, Global};
+use steps::Stage;
+
+/// A candidate, with the rank of its transition.
+#[derive(Clone, Copy, Debug, PartialEq, Eq)]
+pub struct Ranked {
+    pub rank: u32,
+    pub candidate: Candidate,
+}
+
+/// The next transition of each replica that isn't at its goal and has no message, in the order of
+/// resource, partition, rank, place and instance. `hops` are those of the models.
+pub fn candidates(
+    alloc: Global,
+    models: &[Model],
+    hops: &[Hops],
+    view: &View,
+    targets: &[Target],
+) -> Result<Vec<Candidate>, AllocError>
+    requires hops { hops.now ≡ models.now }
+    requires models { list_all
+        (λ t. has_model models.now view.now.ideals.resources t.part.resource) targets.now
+        ≡ true }
+    ensures { IfOk result (λ found.
+        found.items ≡ candidates_of models.now view.now targets.now) }
+{
+    let stage = Stage::of(alloc, models, hops, view)?;
+    let ranked = stage.ranked(alloc, targets)?;
+    let found = in_order(alloc, ranked)?;
+    Ok(found)
+}

@@ -1,2 +1,74 @@
 //! Why each replica is where it is.
 #![tactic(auto)]
+
+mod fates;
+mod places;
+
+pub use fates::Fates;
+
+ghost use Rattle.std.specs.Prelude.{◌≡◌, IfOk};
+ghost use Rattle.hx_report.specs.Findings.{report, is_failed, finding_of};
+
+use hx_cluster::{Entry, Finding, Report, Selection, Target, Throttled, View};
+use hx_lists::Seq;
+use hx_model::ERROR;
+use hx_views::ViewIndex;
+use std::alloc::{AllocError, Global};
+
+/// What a pass finds of each target, in their order, by what it was shown and what it selected and
+/// throttled.
+pub fn report(
+    alloc: Global,
+    targets: &[Target],
+    view: &View,
+    selection: &Selection,
+    throttled: &Throttled,
+) -> Result<Report, AllocError>
+    ensures { IfOk result (λ all.
+        all ≡ report targets.now view.now selection.now throttled.now) }
+{
+    let index = ViewIndex::new(alloc, view)?;
+    let fates = Fates::new(alloc, selection, throttled)?;
+    report_on(alloc, targets, &index, &fates)
+}
+
+/// The same by the index of a view.
+pub fn report_on(
+    alloc: Global,
+    targets: &[Target],
+    index: &ViewIndex,
+    fates: &Fates,
+) -> Result<Report, AllocError>
+    ensures { IfOk result (λ all. all ≡ report targets.now index.now fates.now.0 fates.now.1) }
+{
+    let mut entries = Seq::new(alloc);
+    for target in targets {
+        let finding = finding_of(index, fates, target)?;
+        entries.push(Entry {
+            target: *target,
+            finding,
+        })?;
+    }
+    Ok(Report { entries })
+}
+
+/// The first finding that fits a target.
+fn finding_of(index: &ViewIndex, fates: &Fates, target: &Target) -> Result<Finding, AllocError>
+    ensures { IfOk result (λ finding.
+        finding ≡ finding_of index.now fates.now.0 fates.now.1 target.now) }
+{
+    if is_failed(index, target) {
+        return Ok(Finding::Failed);
+    }
+    match index.message_of(target.session, target.part) {
+        Some(message) => Ok(Finding::Pending(message.id)),
+        None => fates.of(target),
+    }
+}
+
+/// Whether a replica is in ERROR and nobody asked for a reset.
+fn is_failed(index: &ViewIndex, target: &Target) -> bool
+    ensures { result ≡ is_failed index.now target.now }
+{
+    target.state == Some(ERROR) && !index.is_asked(target.session, target.part)
+}

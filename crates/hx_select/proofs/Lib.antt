@@ -1,1 +1,3 @@
 pub mod OneSelection
+pub mod Filling
+pub mod Walk

@@ -1,1 +1,4 @@
 pub mod OneSending
+pub mod Finding
+pub mod Counting
+pub mod Walk

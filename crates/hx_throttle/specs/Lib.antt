@@ -1,1 +1,3 @@
 pub mod Throttle
+pub mod Index
+pub mod Loads

@@ -1,12 +1,60 @@
 //! The candidates that the throttles allow.
 #![tactic(auto)]
 
-ghost use Rattle.std.specs.Prelude.{◌≡◌, List, Bool};
+mod loads;
+mod shown;
+
+ghost use Rattle.std.specs.Prelude.{◌≡◌, List, Bool, IfOk};
 ghost use Rattle.std.specs.List.{items_where_true};
 ghost use Rattle.hx_cluster.specs.declared.description.Rule.{Rule};
 ghost use Rattle.hx_cluster.specs.declared.planning.View.{View};
 ghost use Rattle.hx_cluster.specs.declared.planning.Candidate.{Candidate};
-ghost use Rattle.hx_throttle.specs.Throttle.{sent_of, IsSending};
+ghost use Rattle.hx_throttle.specs.Loads.{transition_of};
+ghost use Rattle.hx_throttle.specs.Throttle.{sent_of, throttled, IsSending};
+
+use crate::loads::{count, held_by, shown_loads};
+use crate::shown::Shown;
+use hx_cluster::{Candidate, Proposal, Spec, Throttled, View};
+use hx_lists::Seq;
+use std::alloc::{AllocError, Global};
+
+/// The accepted candidates that the throttles of a description allow, and those that they hold
+/// back, in their order.
+pub fn throttle(
+    alloc: Global,
+    spec: &Spec,
+    view: &View,
+    accepted: &[Candidate],
+) -> Result<Throttled, AllocError>
+    ensures { IfOk result (λ all. all ≡ throttled spec.now.rules view.now accepted.now) }
+{
+    let rules = spec.rules.as_slice();
+    let shown = Shown::new(alloc, view.live.as_slice())?;
+    let mut loads = shown_loads(alloc, rules, &shown, view.mail.as_slice())?;
+    let mut sent = Seq::new(alloc);
+    let mut held = Seq::new(alloc);
+    for candidate in accepted {
+        match held_by(&loads, rules, &shown, candidate)? {
+            Some(entry) => held.push(entry)?,
+            None => {
+                count(&mut loads, rules, &shown, &transition(candidate))?;
+                sent.push(*candidate)?;
+            }
+        }
+    }
+    Ok(Throttled { sent, held })
+}
+
+fn transition(candidate: &Candidate) -> Proposal
+    ensures { result ≡ transition_of candidate.now }
+{
+    Proposal {
+        session: candidate.session,
+        part: candidate.part,
+        from: candidate.from,
+        to: candidate.to,
+    }
+}
 
 /// The throttles name exactly one list of candidates, the sent ones.
 #[tactic(auto, using(crate::proofs::OneSending::some_sending))]

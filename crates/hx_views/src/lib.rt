@@ -1,0 +1,149 @@
+//! A view in order of part, so that what it shows of a part is found at once.
+#![tactic(auto)]
+
+ghost use Rattle.std.specs.Prelude.{◌≡◌, ◌^◌, ◌<◌, length, IfOk, unwrap_or, option_copied};
+ghost use Rattle.std.specs.List.{list_any};
+ghost use Rattle.hx_cluster.specs.declared.planning.View.{View};
+ghost use Rattle.hx_cluster.specs.Ends.{state_of, message_of, has_end, limit_over, shown_of};
+ghost use Rattle.hx_cluster.specs.Ends.{replicas_of, model_of, no_model};
+ghost use Rattle.hx_cluster.specs.Lookups.{model_in};
+ghost use Rattle.hx_cluster.specs.Steps.{is_flag};
+ghost use Rattle.hx_views.specs.Index.{count_in};
+
+use hx_cluster::{Message, Row, View, has_end, is_flag_of, message_on, state_on};
+use hx_ids::{PartId, ResourceId, SessionId, StateId};
+use hx_model::{Model, limit};
+use hx_parts::ByPart;
+use std::alloc::{AllocError, Global};
+
+/// A view, with its rows, messages and reset flags in order of part. Contracts see the view.
+#[derive(Drop)]
+pub struct ViewIndex<'a> {
+    view: &'a View,
+    rows: ByPart<Row>,
+    mail: ByPart<Message>,
+    resets: ByPart<(SessionId, PartId)>,
+}
+
+impl<'a> std::marker::Model for ViewIndex<'a> {
+    ghost use Rattle.hx_cluster.specs.declared.planning.View.{View};
+
+    ghost Value = { View };
+
+    ghost use Rattle.hx_views.specs.Index.{IsIndex};
+
+    ghost view = { λ a. a.view.now };
+
+    ghost invariant = { λ a. IsIndex a.view.now a.rows a.mail a.resets };
+}
+
+fn has_flag(flags: &[(SessionId, PartId)], session: SessionId, part: PartId) -> bool
+    ensures { result ≡ list_any (is_flag session part) flags.now }
+{
+    flags.iter().any(|f| is_flag_of(f, session, part))
+}
+
+impl<'a> ViewIndex<'a> {
+    /// The index of a view. More than 4,294,967,295 live sessions are want of memory.
+    pub fn new(alloc: Global, view: &'a View) -> Result<ViewIndex<'a>, AllocError>
+        ensures { IfOk result (λ index. index ≡ view.now) }
+    {
+        if view.live.len() > u32::MAX as usize {
+            return Err(AllocError);
+        }
+        Ok(ViewIndex {
+            view,
+            rows: ByPart::new(alloc, view.rows.as_slice())?,
+            mail: ByPart::new(alloc, view.mail.as_slice())?,
+            resets: ByPart::new(alloc, view.ideals.resets.as_slice())?,
+        })
+    }
+
+    /// The view.
+    pub fn view(&self) -> &View
+        ensures { result.now ≡ self.now }
+    {
+        self.view
+    }
+
+    /// The state of a session's replica, if it has one.
+    #[tactic(auto, using(crate::proofs::Found::state_found))]
+    pub fn state_of(&self, session: SessionId, part: PartId) -> Option<StateId>
+        ensures { result ≡ state_of self.now.rows session part }
+    {
+        state_on(self.rows.at(part), session, part)
+    }
+
+    /// The pending message of a session's part.
+    #[tactic(auto, using(crate::proofs::Found::message_found))]
+    pub fn message_of(&self, session: SessionId, part: PartId) -> Option<Message>
+        ensures { result ≡ message_of self.now.mail session part }
+    {
+        message_on(self.mail.at(part), session, part)
+    }
+
+    /// Whether a session's replica is asked out of ERROR.
+    #[tactic(auto, using(crate::proofs::Found::flag_found))]
+    pub fn is_asked(&self, session: SessionId, part: PartId) -> bool
+        ensures { result ≡ list_any (is_flag session part) self.now.ideals.resets }
+    {
+        has_flag(self.resets.at(part), session, part)
+    }
+
+    /// Whether a state is an end of a session's replica.
+    #[tactic(auto, using(crate::proofs::Found::end_found))]
+    pub fn has_end(&self, part: PartId, state: StateId, session: SessionId) -> bool
+        ensures { result ≡ has_end self.now.rows self.now.mail part state session }
+    {
+        has_end(self.rows.at(part), self.mail.at(part), part, state, session)
+    }
+
+    /// How many live sessions have a state among the ends of a part.
+    pub fn count_of(&self, part: PartId, state: StateId) -> u32
+        ensures { result ≡ count_in self.now part state }
+    {
+        self.view
+            .live
+            .iter()
+            .map(|l| l.0)
+            .filter(|session| self.has_end(part, state, *session))
+            .count() as u32
+    }
+
+    #[tactic(auto, using(hx_cluster::proofs::Shown::model_in_or))]
+    fn model_of(&self, models: &'a [Model], resource: ResourceId) -> Option<&'a Model>
+        ensures found { option_copied result
+            ≡ model_in models.now self.now.ideals.resources resource }
+        ensures parts { unwrap_or (option_copied result) no_model
+            ≡ model_of models.now self.now.ideals.resources resource }
+    {
+        match self.view.ideals.resources.get(resource.0 as usize) {
+            Some(resource) => models.get(resource.model.0 as usize),
+            None => None,
+        }
+    }
+
+    fn replicas_of(&self, resource: ResourceId) -> u32
+        ensures { result ≡ replicas_of self.now.ideals.resources resource }
+    {
+        match self.view.ideals.resources.get(resource.0 as usize) {
+            Some(resource) => resource.ideal.replicas(),
+            None => 0,
+        }
+    }
+
+    /// How many replicas of a part may be in a state, if that is limited.
+    pub fn limit_of(&self, models: &[Model], part: PartId, state: StateId) -> Option<u32>
+        ensures { result
+            ≡ limit_over models.now self.now.ideals.resources (length self.now.live) part state }
+    {
+        match self.model_of(models, part.resource) {
+            Some(model) => limit(
+                model.bound(state),
+                self.replicas_of(part.resource),
+                self.view.live.len() as u32,
+            ),
+            None => None,
+        }
+    }
+}
