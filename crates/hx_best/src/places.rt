@@ -155,7 +155,8 @@ fn best_states(
     live: usize,
 ) -> Result<Vec<StateId>, AllocError>
     ensures { IfOk result (λ best.
-        best.items ≡ best_states_of (unwrap_or (option_copied model.entry) no_model) replicas live) }
+        best.items
+        ≡ best_states_of (unwrap_or (option_copied model.entry) no_model) replicas live) }
 {
     let mut best = Vec::with_capacity(alloc, replicas)?;
     for place in 0..replicas {

@@ -2,6 +2,7 @@
 //! them.
 #![tactic(auto)]
 
+pub mod laws;
 mod order;
 mod steps;
 
@@ -12,6 +13,7 @@ ghost use Rattle.hx_gen.specs.Candidates.{candidates as candidates_of};
 
 use hx_cluster::{Candidate, Target, View};
 use hx_hops::Hops;
+use hx_ids::ResourceId;
 use hx_model::Model;
 use order::in_order;
 use std::alloc::{AllocError, Global};
@@ -22,6 +24,37 @@ use steps::Stage;
 pub struct Ranked {
     pub rank: u32,
     pub candidate: Candidate,
+}
+
+/// The hops of each model.
+pub fn hops_of(alloc: Global, models: &[Model]) -> Result<Vec<Hops>, AllocError>
+    ensures { IfOk result (λ hops. hops.items ≡ models.now) }
+{
+    let mut hops = Vec::with_capacity(alloc, models.len())?;
+    for model in models {
+        hops.push(Hops::build(alloc, model)?)?;
+    }
+    Ok(hops)
+}
+
+/// Whether each target is of a resource with one of the models. It takes no memory.
+pub fn have_models(models: &[Model], view: &View, targets: &[Target]) -> bool
+    ensures { result
+        ≡ list_all (λ t. has_model models.now view.now.ideals.resources t.part.resource)
+        targets.now }
+{
+    targets
+        .iter()
+        .all(|t| is_modelled(models, view, t.part.resource))
+}
+
+fn is_modelled(models: &[Model], view: &View, resource: ResourceId) -> bool
+    ensures { result ≡ has_model models.now view.now.ideals.resources resource }
+{
+    match view.ideals.resources.get(resource.0 as usize) {
+        Some(resource) => (resource.model.0 as usize) < models.len(),
+        None => false,
+    }
 }
 
 /// The next transition of each replica that isn't at its goal and has no message, in the order of
