@@ -1,2 +1,4 @@
 pub mod Moments
 pub mod Hopping
+pub mod Filling
+pub mod Explaining

@@ -1,2 +1,3 @@
 pub mod Moments
 pub mod Hops
+pub mod Nothing

@@ -2,7 +2,7 @@
 //! the definitions alone.
 #![tactic(auto)]
 
-ghost use Rattle.std.specs.Prelude.{◌≡◌, ℕ, true, List, length};
+ghost use Rattle.std.specs.Prelude.{◌≡◌, ℕ, true, List, [], length};
 ghost use Rattle.std.specs.List.{list_all};
 ghost use Rattle.hx_model.specs.declared.ModelParts.{ModelParts};
 ghost use Rattle.hx_cluster.specs.declared.state.Cluster.{Cluster};
@@ -11,10 +11,12 @@ ghost use Rattle.hx_cluster.specs.Valid.{has_no_fault};
 ghost use Rattle.hx_cluster.specs.Safe.{IsSafe};
 ghost use Rattle.hx_cluster.specs.Ranged.{IsRanged};
 ghost use Rattle.hx_cluster.specs.Views.{is_well_formed};
-ghost use Rattle.hx_pass.specs.Explained.{view_at};
+ghost use Rattle.hx_pass.specs.Explained.{view_at, IsExplained};
+ghost use Rattle.hx_pass.specs.Plans.{throttled_of, plan};
 ghost use Rattle.hx_covers.specs.Gate.{Shows};
 ghost use Rattle.hx_settled.specs.Moments.{AgreesWith};
 ghost use Rattle.hx_settled.specs.Hops.{HaveHops};
+ghost use Rattle.hx_settled.specs.Nothing.{IsAllFull};
 
 /// What a cluster shows at one moment is well formed.
 pub fn views_of_one_moment_are_well_formed()
@@ -39,4 +41,20 @@ pub fn each_target_has_a_hop()
     ensures { (models : List ModelParts) (instances : ℕ) (view : View)
         → list_all has_no_fault models ≡ true → is_well_formed models instances view ≡ true
         → HaveHops models view }
+{}
+
+/// Where no message is pending and the plan sends nothing, nothing is accepted either: each
+/// candidate is for a state that is full.
+pub fn where_nothing_is_sent_all_is_full()
+    ensures { (c : Cluster) → IsRanged c → c.mail ≡ []
+        → (throttled_of c.models c.rules (view_at c)).sent ≡ [] → IsAllFull c.models (view_at c) }
+{}
+
+/// So a settled pass explains each replica: where no message is pending and a plan of the cluster
+/// proposes nothing, each replica is at its goal, or in ERROR without a reset, or waits for a state
+/// that has as many holders as it may, and the report says which.
+pub fn settled_passes_explain_each_replica()
+    ensures { (c : Cluster) → IsSafe c → IsRanged c → c.mail ≡ []
+        → (plan c.models c.rules (view_at c)).proposals ≡ []
+        → IsExplained c (plan c.models c.rules (view_at c)).report }
 {}
