@@ -78,11 +78,11 @@ all_found {X} is self (x ∷ xs) once =
 -- facts of all items hold in any order, and of what is found
 all-insert : {X : Type 0} (P : X → Type 0) (before : X → X → Bool) (x : X) (xs : List X) → P x → All P xs → All P (insert_by before x xs)
 all-insert P before x [] h all = All-cons P x [] h all
-all-insert {X} P before x (y ∷ xs) h all = one (before y x)
+all-insert {X} P before x (y ∷ xs) h all = one (before y x) (all-insert P before x xs h (All-tail P y xs all))
   where
-    one : (b : Bool) → All P (if b then y ∷ insert_by before x xs else x ∷ y ∷ xs)
-    one true = All-cons P y (insert_by before x xs) (All-head P y xs all) (all-insert P before x xs h (All-tail P y xs all))
-    one false = All-cons P x (y ∷ xs) h all
+    one : (b : Bool) → All P (insert_by before x xs) → All P (if b then y ∷ insert_by before x xs else x ∷ y ∷ xs)
+    one true rest = All-cons P y (insert_by before x xs) (All-head P y xs all) rest
+    one false rest = All-cons P x (y ∷ xs) h all
 
 pub all-sorted : {X : Type 0} (P : X → Type 0) (before : X → X → Bool) (xs : List X) → All P xs → All P (sort_by before xs)
 all-sorted P before [] all = all
@@ -207,7 +207,7 @@ length-sort before [] = refl
 length-sort before (x ∷ xs) = grind (arith, length-insert before x (sort_by before xs), length-sort before xs)
 
 many_shown : (c : Cluster) → length (live_shown c) ≡ length c.live
-many_shown c = length-sort instance_before (shown_of c.live) ∙ length-map (λ (l : Live). (l.session, l.instance)) c.live
+many_shown c = length-sort instance_before (shown_of c.live) ∙ length-map c.live (λ (l : Live). (l.session, l.instance))
 
 or_none : (b : Bool) → (b || false) ≡ b
 or_none true = refl

@@ -126,7 +126,7 @@ view_shows c safe = record {
 }
 
 -- and agrees with it
-counts_alike : (c : Cluster) (p : PartId) (t : StateId) → count_over (shown_sessions (view_at c)) c.rows c.mail p t ≡ count_of c p t
+pub counts_alike : (c : Cluster) (p : PartId) (t : StateId) → count_over (shown_sessions (view_at c)) c.rows c.mail p t ≡ count_of c p t
 counts_alike c p t =
     let h : SessionId → Bool = has_end c.rows c.mail p t in
     count-map h (λ (e : SessionId × InstanceId). e.0) (live_shown c)
@@ -134,7 +134,7 @@ counts_alike c p t =
     ∙ count-map (λ (e : SessionId × InstanceId). h e.0) (λ (l : Live). (l.session, l.instance)) c.live
     ∙ sym (count-map h (λ (l : Live). l.session) c.live)
 
-loads_alike : (c : Cluster) → ((s : SessionId) → count (is_session s) c.live ≤ 1) → (r : Rule) (key : ℕ) → load_over (live_shown c) c.mail r key ≡ load_of c r key
+pub loads_alike : (c : Cluster) → ((s : SessionId) → count (is_session s) c.live ≤ 1) → (r : Rule) (key : ℕ) → load_over (live_shown c) c.mail r key ≡ load_of c r key
 loads_alike c numbers r key = λ i. count (λ m. counted m i) c.mail
   where
     shown : (s : SessionId) → is_shown (live_shown c) s ≡ is_shown (shown_of c.live) s
