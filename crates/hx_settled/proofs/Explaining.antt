@@ -100,7 +100,7 @@ all-found {X} P q (y ∷ xs) x all e = one (q y) e (all-found P q xs x (All-tail
     one false e rest = rest e
 
 -- and of what is made of each
-all-made : {X Y : Type 0} (P : Y → Type 0) (Q : X → Type 0) (f : X → Option Y) → ((x : X) (y : Y) → Q x → f x ≡ Some y → P y) → (xs : List X) → All Q xs → All P (filter_map f xs)
+pub all-made : {X Y : Type 0} (P : Y → Type 0) (Q : X → Type 0) (f : X → Option Y) → ((x : X) (y : Y) → Q x → f x ≡ Some y → P y) → (xs : List X) → All Q xs → All P (filter_map f xs)
 all-made P Q f h [] all = All-nil P
 all-made {X} {Y} P Q f h (x ∷ xs) all = one (f x) refl (all-made P Q f h xs (All-tail Q x xs all))
   where

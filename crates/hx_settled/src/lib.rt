@@ -8,6 +8,10 @@ ghost use Rattle.hx_model.specs.declared.ModelParts.{ModelParts};
 ghost use Rattle.hx_cluster.specs.declared.state.Cluster.{Cluster};
 ghost use Rattle.hx_cluster.specs.declared.planning.View.{View};
 ghost use Rattle.hx_cluster.specs.Valid.{has_no_fault};
+ghost use Rattle.hx_ids.specs.declared.ControllerId.{ControllerId};
+ghost use Rattle.hx_cluster.specs.Messages.{placed_all};
+ghost use Rattle.hx_cluster.specs.Events.{dispatched_of};
+ghost use Rattle.hx_control.specs.Steps.{is_sent};
 ghost use Rattle.hx_cluster.specs.Safe.{IsSafe};
 ghost use Rattle.hx_cluster.specs.Ranged.{IsRanged};
 ghost use Rattle.hx_cluster.specs.Views.{is_well_formed};
@@ -57,4 +61,18 @@ pub fn settled_passes_explain_each_replica()
     ensures { (c : Cluster) → IsSafe c → IsRanged c → c.mail ≡ []
         → (plan c.models c.rules (view_at c)).proposals ≡ []
         → IsExplained c (plan c.models c.rules (view_at c)).report }
+{}
+
+/// The board sends each proposal of a plan of what it shows at one moment: none is refused, no
+/// session has ended, and a dropped resource without a row has no proposal.
+pub fn plans_of_one_moment_are_sent_whole()
+    ensures { (c : Cluster) → IsSafe c → IsRanged c
+        → list_all is_sent (placed_all c (plan c.models c.rules (view_at c)).proposals) ≡ true }
+{}
+
+/// So is each in the dispatch of a controller.
+pub fn dispatches_of_one_moment_are_sent_whole()
+    ensures { (c : Cluster) (k : ControllerId) → IsSafe c → IsRanged c
+        → list_all is_sent
+        (dispatched_of c k (plan c.models c.rules (view_at c)).proposals).placed ≡ true }
 {}
