@@ -3,3 +3,8 @@ pub mod Hopping
 pub mod Filling
 pub mod Explaining
 pub mod Sending
+pub mod Changing
+pub mod Lookups
+pub mod Gathering
+pub mod Steady
+pub mod Settling

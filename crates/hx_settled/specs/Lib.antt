@@ -1,3 +1,4 @@
 pub mod Moments
 pub mod Hops
 pub mod Nothing
+pub mod Standing
