@@ -2,7 +2,7 @@
 //! the definitions alone.
 #![tactic(auto)]
 
-ghost use Rattle.std.specs.Prelude.{◌≡◌, ℕ, true, List, [], length};
+ghost use Rattle.std.specs.Prelude.{◌≡◌, ℕ, true, List, [], length, Some};
 ghost use Rattle.std.specs.List.{list_all};
 ghost use Rattle.hx_model.specs.declared.ModelParts.{ModelParts};
 ghost use Rattle.hx_cluster.specs.declared.state.Cluster.{Cluster};
@@ -10,8 +10,18 @@ ghost use Rattle.hx_cluster.specs.declared.planning.View.{View};
 ghost use Rattle.hx_cluster.specs.Valid.{has_no_fault};
 ghost use Rattle.hx_ids.specs.declared.ControllerId.{ControllerId};
 ghost use Rattle.hx_cluster.specs.Messages.{placed_all};
-ghost use Rattle.hx_cluster.specs.Events.{dispatched_of};
-ghost use Rattle.hx_control.specs.Steps.{is_sent};
+ghost use Rattle.hx_cluster.specs.Events.{dispatched_of, next, replay, IsLegal};
+ghost use Rattle.hx_cluster.specs.Steps.{opening};
+ghost use Rattle.hx_cluster.specs.declared.description.Spec.{Spec};
+ghost use Rattle.hx_cluster.specs.declared.planning.Report.{Report};
+ghost use Rattle.hx_cluster.specs.declared.happenings.Event.{Event};
+ghost use Rattle.hx_cluster.specs.Valid.{IsValid};
+ghost use Rattle.hx_pass.specs.Turns.{turn_of, view_of};
+ghost use Rattle.hx_covers.specs.Reading.{is_read};
+ghost use Rattle.hx_control.specs.declared.PassOutcome.TheVariants as ends;
+ghost use Rattle.hx_control.specs.Controllers.{Controller};
+ghost use Rattle.hx_control.specs.OfBoard.{OfBoard};
+ghost use Rattle.hx_control.specs.Steps.{Calls, is_sent, step_of};
 ghost use Rattle.hx_cluster.specs.Safe.{IsSafe};
 ghost use Rattle.hx_cluster.specs.Ranged.{IsRanged};
 ghost use Rattle.hx_cluster.specs.Views.{is_well_formed};
@@ -21,6 +31,7 @@ ghost use Rattle.hx_covers.specs.Gate.{Shows};
 ghost use Rattle.hx_settled.specs.Moments.{AgreesWith};
 ghost use Rattle.hx_settled.specs.Hops.{HaveHops};
 ghost use Rattle.hx_settled.specs.Nothing.{IsAllFull};
+ghost use Rattle.hx_settled.specs.Standing.{IsCounted, read_at};
 
 /// What a cluster shows at one moment is well formed.
 pub fn views_of_one_moment_are_well_formed()
@@ -75,4 +86,34 @@ pub fn dispatches_of_one_moment_are_sent_whole()
     ensures { (c : Cluster) (k : ControllerId) → IsSafe c → IsRanged c
         → list_all is_sent
         (dispatched_of c k (plan c.models c.rules (view_at c)).proposals).placed ≡ true }
+{}
+
+/// Each event raises the change number, or leaves all that reads show as it was.
+pub fn events_raise_the_change_number_or_keep_what_is_shown()
+    ensures { (c : Cluster) (e : Event) → IsSafe c → IsCounted c (next c e) }
+{}
+
+/// So where the change number stood still since a turn's begin, whatever stands between its reads,
+/// the turn was shown the cluster as it is at one moment.
+pub fn turns_without_a_change_see_one_moment()
+    ensures { (spec : Spec) (h : List Event) (k : ControllerId) → IsValid spec
+        → IsLegal (opening spec) h → is_read (turn_of spec k h) ≡ true
+        → (turn_of spec k h).begun.change ≡ (replay (opening spec) h).change
+        → view_of spec k h ≡ read_at (replay (opening spec) h) }
+{}
+
+/// And its plan and its report are those of the cluster's view.
+pub fn plans_look_up_what_a_moment_has()
+    ensures { (c : Cluster) → IsSafe c
+        → plan c.models c.rules (read_at c) ≡ plan c.models c.rules (view_at c) }
+{}
+
+/// So a turn of the board that settles explains each replica of the board, as it is before the
+/// dispatch and as the dispatch leaves it.
+pub fn settled_turns_explain_the_board()
+    ensures { (spec : Spec) (h : List Event) (x : Controller) (e : Event) (report : Report)
+        → IsValid spec → IsLegal (opening spec) h → OfBoard spec h x
+        → step_of spec (replay (opening spec) h) x ≡ Calls e (Some (ends.Settled report))
+        → IsExplained (replay (opening spec) h) report
+        × IsExplained (next (replay (opening spec) h) e) report }
 {}
