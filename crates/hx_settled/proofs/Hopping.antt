@@ -293,21 +293,33 @@ get-all q [] n x all is = cc
 get-all q (y ∷ xs) zero x all is = let same : y ≡ x = grind (arith, is) in subst (λ z. q z ≡ true) same (and-first (q y) (list_all q xs) all)
 get-all q (y ∷ xs) (suc n) x all is = get-all q xs n x (and-second (q y) (list_all q xs) all) is
 
-hop_in : (models : List ModelParts) (instances : ℕ) (view : View) → list_all has_no_fault models ≡ true → is_well_formed models instances view ≡ true → (r : Resource) (t : Target)
-    → resource_at view.ideals.resources t.part.resource ≡ Some r → IsTargetIn models view t r → HasHop (model_at models r.model) t
-hop_in models instances view sound formed r t at is away = from_goal (goal_good models view r t.part t.session t.instance instances none modes)
-  where
-    good : is_good_resource models instances r ≡ true
-    good = get-all (is_good_resource models instances) view.ideals.resources t.part.resource.0 r (good_view models instances view formed).resources at
+-- the model of a shown resource has no fault, and its mode is good
+pub good_in : (models : List ModelParts) (instances : ℕ) (view : View) → list_all has_no_fault models ≡ true → is_well_formed models instances view ≡ true → (r : Resource) (n : ResourceId)
+    → resource_at view.ideals.resources n ≡ Some r → (fault_of (model_at models r.model) ≡ None) × (is_good_mode instances (model_at models r.model) r.ideal.mode ≡ true)
+good_in models instances view sound formed r n at =
+    let good = get-all (is_good_resource models instances) view.ideals.resources n.0 r (good_view models instances view formed).resources at in (
+      model_sound models r.model.0 sound (and-first (nat_lt r.model.0 (length models)) (is_good_mode instances (model_at models r.model) r.ideal.mode) good),
+      and-second (nat_lt r.model.0 (length models)) (is_good_mode instances (model_at models r.model) r.ideal.mode) good,
+    )
 
+-- a target away from its goal stands in a state that a replica may be in, and goes to one that it may be wanted in
+pub record IsAway (m : ModelParts) (t : Target) : Type 0 where
+  pub from : is_from m (unwrap_or t.state m.initial) ≡ true
+  pub end : is_goal m t.goal ≡ true
+  pub apart : ((unwrap_or t.state m.initial).0 == t.goal.0) ≡ false
+
+pub away_in : (models : List ModelParts) (instances : ℕ) (view : View) → list_all has_no_fault models ≡ true → is_well_formed models instances view ≡ true → (r : Resource) (t : Target)
+    → resource_at view.ideals.resources t.part.resource ≡ Some r → IsTargetIn models view t r → is_at_goal (model_at models r.model) t ≡ false → IsAway (model_at models r.model) t
+away_in models instances view sound formed r t at is away = from_goal (goal_good models view r t.part t.session t.instance instances none modes)
+  where
     m : ModelParts
     m = model_at models r.model
 
     none : fault_of (model_at models r.model) ≡ None
-    none = model_sound models r.model.0 sound (and-first (nat_lt r.model.0 (length models)) (is_good_mode instances (model_at models r.model) r.ideal.mode) good)
+    none = (good_in models instances view sound formed r t.part.resource at).0
 
     modes : is_good_mode instances (model_at models r.model) r.ideal.mode ≡ true
-    modes = and-second (nat_lt r.model.0 (length models)) (is_good_mode instances (model_at models r.model) r.ideal.mode) good
+    modes = (good_in models instances view sound formed r t.part.resource at).1
 
     its_goal : t.goal ≡ goal models view r t.part t.session t.instance
     its_goal = ap (λ (u : Target). u.goal) is.own
@@ -346,8 +358,8 @@ hop_in models instances view sound formed r t at is away = from_goal (goal_good 
         absurd (let no : true ≡ false = sym at_it ∙ ne in cc)
 
     from_goal : (is_goal m (goal models view r t.part t.session t.instance) ≡ true)
-        ⊎ ((is_in_error view t.session t.part ≡ true) × (goal models view r t.part t.session t.instance ≡ error)) → (x : Candidate) × IsHop m t x
-    from_goal (inl end) = hop_there m t none (stands t.state refl) (ap (is_goal m) its_goal ∙ end) (apart t.state away)
+        ⊎ ((is_in_error view t.session t.part ≡ true) × (goal models view r t.part t.session t.instance ≡ error)) → IsAway m t
+    from_goal (inl end) = record { from = stands t.state refl; end = ap (is_goal m) its_goal ∙ end; apart = apart t.state away }
     from_goal (inr is) = absurd (failed t.state (ap is_error its_state ∙ is.0) (its_goal ∙ is.1) away)
 
 pub have_hops : (models : List ModelParts) (instances : ℕ) (view : View) → list_all has_no_fault models ≡ true → is_well_formed models instances view ≡ true → HaveHops models view
@@ -357,5 +369,7 @@ have_hops models instances view sound formed =
   where
     each : (t : Target) (o : Option Resource) → resource_at view.ideals.resources t.part.resource ≡ o → IsSomeAnd o (IsTargetIn models view t)
         → HasHop (option_map_or (λ x. model_at models x.model) o no_model) t
-    each t None at is = absurd is
-    each t (Some r) at is = hop_in models instances view sound formed r t at is
+    each t None at is away = absurd is
+    each t (Some r) at is away =
+        let far = away_in models instances view sound formed r t at is away in
+        hop_there (model_at models r.model) t (good_in models instances view sound formed r t.part.resource at).0 far.from far.end far.apart

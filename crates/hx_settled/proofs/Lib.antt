@@ -8,3 +8,5 @@ pub mod Lookups
 pub mod Gathering
 pub mod Steady
 pub mod Settling
+pub mod Goals
+pub mod Summing

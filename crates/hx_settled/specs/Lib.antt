@@ -2,3 +2,5 @@ pub mod Moments
 pub mod Hops
 pub mod Nothing
 pub mod Standing
+pub mod Resets
+pub mod Places

@@ -3,7 +3,12 @@
 #![tactic(auto)]
 
 ghost use Rattle.std.specs.Prelude.{◌≡◌, ℕ, true, List, [], length, Some};
-ghost use Rattle.std.specs.List.{list_all};
+ghost use Rattle.std.specs.List.{All, list_all};
+ghost use Rattle.hx_ids.specs.declared.InstanceId.{InstanceId};
+ghost use Rattle.hx_ids.specs.declared.SessionId.{SessionId};
+ghost use Rattle.hx_ids.specs.declared.PartId.{PartId};
+ghost use Rattle.hx_cluster.specs.declared.description.Resource.{Resource};
+ghost use Rattle.hx_best.specs.Goals.{is_in_error, goal};
 ghost use Rattle.hx_model.specs.declared.ModelParts.{ModelParts};
 ghost use Rattle.hx_cluster.specs.declared.state.Cluster.{Cluster};
 ghost use Rattle.hx_cluster.specs.declared.planning.View.{View};
@@ -26,11 +31,12 @@ ghost use Rattle.hx_cluster.specs.Safe.{IsSafe};
 ghost use Rattle.hx_cluster.specs.Ranged.{IsRanged};
 ghost use Rattle.hx_cluster.specs.Views.{is_well_formed};
 ghost use Rattle.hx_pass.specs.Explained.{view_at, IsExplained};
-ghost use Rattle.hx_pass.specs.Plans.{throttled_of, plan};
+ghost use Rattle.hx_pass.specs.Plans.{all_candidates, throttled_of, plan};
 ghost use Rattle.hx_covers.specs.Gate.{Shows};
 ghost use Rattle.hx_settled.specs.Moments.{AgreesWith};
 ghost use Rattle.hx_settled.specs.Hops.{HaveHops};
 ghost use Rattle.hx_settled.specs.Nothing.{IsAllFull};
+ghost use Rattle.hx_settled.specs.Resets.{LeavesErrorAsked};
 ghost use Rattle.hx_settled.specs.Standing.{IsCounted, read_at};
 
 /// What a cluster shows at one moment is well formed.
@@ -116,4 +122,20 @@ pub fn settled_turns_explain_the_board()
         → step_of spec (replay (opening spec) h) x ≡ Calls e (Some (ends.Settled report))
         → IsExplained (replay (opening spec) h) report
         × IsExplained (next (replay (opening spec) h) e) report }
+{}
+
+/// A replica leaves ERROR only where somebody asked for a reset.
+pub fn candidates_leave_error_by_resets()
+    ensures { (models : List ModelParts) (instances : ℕ) (view : View)
+        → list_all has_no_fault models ≡ true → is_well_formed models instances view ≡ true
+        → All (LeavesErrorAsked view) (all_candidates models view) }
+{}
+
+/// Goals depend on the live sessions, on the ideals, and on which replicas are in ERROR, and on
+/// nothing else.
+pub fn goals_look_at_errors_alone()
+    ensures { (models : List ModelParts) (v w : View) → v.live ≡ w.live → v.ideals ≡ w.ideals
+        → ((s : SessionId) (p : PartId) → is_in_error v s p ≡ is_in_error w s p)
+        → (r : Resource) (p : PartId) (s : SessionId) (i : InstanceId)
+        → goal models v r p s i ≡ goal models w r p s i }
 {}
