@@ -206,7 +206,7 @@ length-sort : {X : Type 0} (before : X → X → Bool) (xs : List X) → length 
 length-sort before [] = refl
 length-sort before (x ∷ xs) = grind (arith, length-insert before x (sort_by before xs), length-sort before xs)
 
-many_shown : (c : Cluster) → length (live_shown c) ≡ length c.live
+pub many_shown : (c : Cluster) → length (live_shown c) ≡ length c.live
 many_shown c = length-sort instance_before (shown_of c.live) ∙ length-map c.live (λ (l : Live). (l.session, l.instance))
 
 or_none : (b : Bool) → (b || false) ≡ b

@@ -184,7 +184,7 @@ hop_there m t e from end ne = one (hop m (unwrap_or t.state m.initial) t.goal) r
         )
 
 -- goals are states of the model or DROPPED, but for a replica in ERROR that nobody asked to reset
-item_at : {X : Type 0} (q : X → Bool) (d : X) → q d ≡ true → (xs : List X) (n : ℕ) → list_all q xs ≡ true → q (slice_index_or xs n d) ≡ true
+pub item_at : {X : Type 0} (q : X → Bool) (d : X) → q d ≡ true → (xs : List X) (n : ℕ) → list_all q xs ≡ true → q (slice_index_or xs n d) ≡ true
 item_at q d e [] n all = e
 item_at q d e (x ∷ xs) zero all = and-first (q x) (list_all q xs) all
 item_at q d e (x ∷ xs) (suc n) all = item_at q d e xs n (and-second (q x) (list_all q xs) all)

@@ -10,3 +10,5 @@ pub mod Steady
 pub mod Settling
 pub mod Goals
 pub mod Summing
+pub mod Placed
+pub mod Single

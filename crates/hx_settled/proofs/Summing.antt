@@ -1,5 +1,5 @@
 -- Laws of sums over lists that are put together, filtered and put in order.
-use Rattle.std.proofs.Common.{◌≡◌, ℕ, zero, suc, ◌+◌, ◌*◌, ◌≤◌, ◌==◌, Bool, true, false, List, [], ◌∷◌, ◌++◌, length, map, filter, refl, sym, ap, ◌∙◌, arith}
+use Rattle.std.proofs.Common.{◌≡◌, ℕ, zero, suc, get_or, ◌+◌, ◌*◌, ◌≤◌, ◌==◌, Bool, true, false, List, [], ◌∷◌, ◌++◌, length, map, filter, refl, sym, ap, ◌∙◌, zero-mul, add-mul, suc-mul, add_comm, length-append, arith}
 use Rattle.std.specs.Prelude.{if◌then◌else◌, slice_get, Option, Some, None}
 use Rattle.std.specs.List.{flat_map, sum_by, All}
 use Rattle.std.specs.Option.{option_map_or}
@@ -100,15 +100,24 @@ sum-places {X} f (x ∷ xs) =
         plus : (n : ℕ) → n + 1 ≡ suc n
         plus n = omega arith
 
--- sums of ones
+-- a number times
 pub sum-times : {X : Type 0} (f : X → ℕ) (d : ℕ) (xs : List X) → sum_by (λ x. f x * d) xs ≡ sum_by f xs * d
-sum-times f d [] = refl
+sum-times f d [] = sym (zero-mul d)
 sum-times f d (x ∷ xs) =
-    sum_by-cons (λ y. f y * d) x xs ∙ ap (λ n. f x * d + n) (sum-times f d xs) ∙ sym (times (f x) (sum_by f xs)) ∙ ap (λ n. n * d) (sym (sum_by-cons f x xs))
-  where
-    times : (a b : ℕ) → (a + b) * d ≡ a * d + b * d
-    times a b = ?
+    sum_by-cons (λ y. f y * d) x xs ∙ ap (λ n. f x * d + n) (sum-times f d xs) ∙ sym (add-mul (f x) (sum_by f xs) d) ∙ ap (λ n. n * d) (sym (sum_by-cons f x xs))
 
-pub length-sum : {X : Type 0} (xs : List X) → length xs ≡ sum_by (λ x. 1) xs
-length-sum [] = refl
-length-sum (x ∷ xs) = let rest = length-sum xs in let whole = sum_by-cons (λ y. 1) x xs in omega (arith, rest, whole)
+-- lengths
+pub length-flat : {X Y : Type 0} (g : X → List Y) (xs : List X) → length (flat_map g xs) ≡ sum_by (λ x. length (g x)) xs
+length-flat g [] = refl
+length-flat g (x ∷ xs) = length-append (g x) (flat_map g xs) ∙ ap (λ n. length (g x) + n) (length-flat g xs) ∙ sym (sum_by-cons (λ y. length (g y)) x xs)
+
+pub sum-even : {X : Type 0} (f : X → ℕ) (d : ℕ) → ((x : X) → f x ≡ d) → (xs : List X) → sum_by f xs ≡ length xs * d
+sum-even f d even [] = sym (zero-mul d)
+sum-even f d even (x ∷ xs) = sum_by-cons f x xs ∙ (λ i. even x i + sum-even f d even xs i) ∙ sym (suc-mul' (length xs))
+  where
+    suc-mul' : (n : ℕ) → suc n * d ≡ d + n * d
+    suc-mul' n = suc-mul n d ∙ add_comm (n * d) d
+
+pub length-numbers : (a n : ℕ) → length (numbers_from a n) ≡ n
+length-numbers a zero = refl
+length-numbers a (suc n) = ap suc (length-numbers (a + 1) n)

@@ -1,5 +1,5 @@
 -- Where replicas may be: each part on each live session.
-use Rattle.std.specs.Prelude.{ℕ, ◌+◌, Bool, ◌==◌, ◌&&◌, List, length, map, Option, unwrap_or, if◌then◌else◌}
+use Rattle.std.specs.Prelude.{ℕ, Bool, not, ◌==◌, ◌&&◌, ◌||◌, List, length, map, if◌then◌else◌}
 use Rattle.std.specs.List.{flat_map, list_any, sum_by}
 use Rattle.std.specs.Option.{option_map_or}
 use Rattle.hx_lists.specs.Lists.{numbers_below}
@@ -7,6 +7,10 @@ use Rattle.hx_ids.specs.declared.InstanceId.{InstanceId}
 use Rattle.hx_ids.specs.declared.SessionId.{SessionId}
 use Rattle.hx_ids.specs.declared.PartId.{PartId}
 use Rattle.hx_cluster.specs.declared.description.Resource.{Resource}
+use Rattle.hx_model.specs.Model.{error}
+use Rattle.hx_cluster.specs.declared.state.Message.{Message}
+use Rattle.hx_cluster.specs.declared.happenings.Outcome.{Outcome}
+use Rattle.hx_cluster.specs.declared.happenings.Outcome.TheVariants as outcomes
 use Rattle.hx_cluster.specs.declared.state.Cluster.{Cluster}
 use Rattle.hx_cluster.specs.Ends.{part_eq, state_of, resource_at, model_of, parts_of}
 use Rattle.hx_cluster.specs.Steps.{is_error, is_flag}
@@ -51,6 +55,16 @@ tries_at c x = tries_of (is_error (state_of c.rows x.session x.part)) (list_any 
 
 abbrev pub tries_left : Cluster → ℕ
 tries_left c = sum_by (tries_at c) (places_of c)
+
+-- what a write takes of that: a failure one, and a reset one
+abbrev pub spent : Message → Outcome → ℕ
+spent m outcomes.Ok = if m.from.0 == error.0 then 1 else 0
+spent m outcomes.Failed = 1
+
+-- a transition from ERROR was asked for, and doesn't fail
+abbrev pub is_spendable : Cluster → Message → Outcome → Bool
+is_spendable c m outcomes.Ok = not (m.from.0 == error.0) || list_any (is_flag m.session m.part) c.resets
+is_spendable c m outcomes.Failed = not (m.from.0 == error.0)
 
 -- a session's place of a part
 abbrev pub is_place : SessionId → PartId → Place → Bool

@@ -2,8 +2,8 @@
 //! the definitions alone.
 #![tactic(auto)]
 
-ghost use Rattle.std.specs.Prelude.{◌≡◌, ℕ, true, List, [], length, Some};
-ghost use Rattle.std.specs.List.{All, list_all};
+ghost use Rattle.std.specs.Prelude.{◌≡◌, ◌+◌, ◌*◌, ◌≤◌, ℕ, true, false, List, [], length, Some, nat_le};
+ghost use Rattle.std.specs.List.{All, list_all, sum_by};
 ghost use Rattle.hx_ids.specs.declared.InstanceId.{InstanceId};
 ghost use Rattle.hx_ids.specs.declared.SessionId.{SessionId};
 ghost use Rattle.hx_ids.specs.declared.PartId.{PartId};
@@ -30,12 +30,14 @@ ghost use Rattle.hx_control.specs.Steps.{Calls, is_sent, step_of};
 ghost use Rattle.hx_cluster.specs.Safe.{IsSafe};
 ghost use Rattle.hx_cluster.specs.Ranged.{IsRanged};
 ghost use Rattle.hx_cluster.specs.Views.{is_well_formed};
+ghost use Rattle.hx_pass.specs.Left.{left_of};
 ghost use Rattle.hx_pass.specs.Explained.{view_at, IsExplained};
 ghost use Rattle.hx_pass.specs.Plans.{all_candidates, throttled_of, plan};
 ghost use Rattle.hx_covers.specs.Gate.{Shows};
 ghost use Rattle.hx_settled.specs.Moments.{AgreesWith};
 ghost use Rattle.hx_settled.specs.Hops.{HaveHops};
 ghost use Rattle.hx_settled.specs.Nothing.{IsAllFull};
+ghost use Rattle.hx_settled.specs.Places.{places_of, left_at, tries_left, is_spendable, spent};
 ghost use Rattle.hx_settled.specs.Resets.{LeavesErrorAsked};
 ghost use Rattle.hx_settled.specs.Standing.{IsCounted, read_at};
 
@@ -138,4 +140,25 @@ pub fn goals_look_at_errors_alone()
         → ((s : SessionId) (p : PartId) → is_in_error v s p ≡ is_in_error w s p)
         → (r : Resource) (p : PartId) (s : SessionId) (i : InstanceId)
         → goal models v r p s i ≡ goal models w r p s i }
+{}
+
+/// How many transitions a cluster's replicas are from their goals is the sum over all parts on all
+/// live sessions: a replica that isn't there and isn't wanted adds nothing.
+pub fn left_is_the_sum_over_all_places()
+    ensures { (c : Cluster) → left_of c ≡ sum_by (left_at c) (places_of c) }
+{}
+
+/// It is at most the number of live sessions times that of all parts, times one more than a model
+/// has states.
+pub fn left_is_at_most_one_walk_each()
+    ensures { (c : Cluster) (most : ℕ) → IsSafe c → IsRanged c
+        → list_all (λ m. nat_le (length m.states) most) c.models ≡ true
+        → left_of c ≤ length c.live * sum_by (λ r. r.ideal.parts) c.resources * (most + 1) }
+{}
+
+/// How often replicas may still fail or be reset is at most twice the number of live sessions times
+/// that of all parts.
+pub fn tries_are_at_most_two_each()
+    ensures { (c : Cluster)
+        → tries_left c ≤ 2 * (length c.live * sum_by (λ r. r.ideal.parts) c.resources) }
 {}
