@@ -12,3 +12,5 @@ pub mod Goals
 pub mod Summing
 pub mod Placed
 pub mod Single
+pub mod Spending
+pub mod Falling

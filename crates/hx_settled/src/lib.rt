@@ -14,7 +14,10 @@ ghost use Rattle.hx_cluster.specs.declared.state.Cluster.{Cluster};
 ghost use Rattle.hx_cluster.specs.declared.planning.View.{View};
 ghost use Rattle.hx_cluster.specs.Valid.{has_no_fault};
 ghost use Rattle.hx_ids.specs.declared.ControllerId.{ControllerId};
-ghost use Rattle.hx_cluster.specs.Messages.{placed_all};
+ghost use Rattle.hx_ids.specs.declared.MsgId.{MsgId};
+ghost use Rattle.hx_cluster.specs.declared.state.Message.{Message};
+ghost use Rattle.hx_cluster.specs.declared.happenings.Outcome.{Outcome};
+ghost use Rattle.hx_cluster.specs.Messages.{placed_all, pending_of, after_write};
 ghost use Rattle.hx_cluster.specs.Events.{dispatched_of, next, replay, IsLegal};
 ghost use Rattle.hx_cluster.specs.Steps.{opening};
 ghost use Rattle.hx_cluster.specs.declared.description.Spec.{Spec};
@@ -161,4 +164,13 @@ pub fn left_is_at_most_one_walk_each()
 pub fn tries_are_at_most_two_each()
     ensures { (c : Cluster)
         → tries_left c ≤ 2 * (length c.live * sum_by (λ r. r.ideal.parts) c.resources) }
+{}
+
+/// The write of a transition from another state than ERROR leaves as many tries, and one less where
+/// it failed; and the success of a reset that was asked for takes one.
+pub fn failures_and_resets_take_a_try()
+    ensures { (c : Cluster) (s : SessionId) (id : MsgId) (m : Message) (outcome : Outcome)
+        → IsSafe c → IsRanged c → pending_of c s id ≡ Some m → m.written ≡ false
+        → is_spendable c m outcome ≡ true
+        → tries_left c ≡ tries_left (after_write c s id outcome) + spent m outcome }
 {}
