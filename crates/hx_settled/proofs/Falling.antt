@@ -41,6 +41,7 @@ use Rattle.hx_covers.proofs.Viewing.{sessions_once}
 use Rattle.hx_lawful.proofs.Targeted.{is_of_replica}
 use Rattle.hx_settled.specs.Hops.{IsHop, HasHop}
 use Rattle.hx_settled.specs.Places.{Place, places_of, left_at, is_place}
+use Rattle.hx_settled.specs.Ways.{IsOnItsWay}
 use Rattle.hx_settled.proofs.Moments.{sound_of, view_formed}
 use Rattle.hx_settled.proofs.Hopping.{are_targets, have_hops, to_no_error}
 use Rattle.hx_settled.proofs.Explaining.{all-found}
@@ -241,3 +242,7 @@ pub left_falls : (c : Cluster) (s : SessionId) (id : MsgId) (m : Message) (t : T
     → left_of c ≡ left_of (after_write c s id outcomes.Ok) + 1
 left_falls c s id m t y safe ranged is fresh apart found away next to =
     falls c safe ranged s id m (unwritten c safe ranged s id m is fresh) apart t y found away next to ∙ ap (λ (o : Option Message). left_of (written_of c s id outcomes.Ok o) + 1) (sym is)
+
+pub way_falls : (c : Cluster) (s : SessionId) (id : MsgId) (m : Message) → IsSafe c → IsRanged c → pending_of c s id ≡ Some m → m.written ≡ false → (m.from.0 == error.0) ≡ false → IsOnItsWay c m
+    → left_of c ≡ left_of (after_write c s id outcomes.Ok) + 1
+way_falls c s id m safe ranged is fresh apart way = left_falls c s id m way.target way.hop safe ranged is fresh apart way.own way.away way.next way.to

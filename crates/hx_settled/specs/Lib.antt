@@ -4,3 +4,4 @@ pub mod Nothing
 pub mod Standing
 pub mod Resets
 pub mod Places
+pub mod Ways

@@ -2,7 +2,7 @@
 //! the definitions alone.
 #![tactic(auto)]
 
-ghost use Rattle.std.specs.Prelude.{◌≡◌, ◌+◌, ◌*◌, ◌≤◌, ℕ, true, false, List, [], length, Some, nat_le};
+ghost use Rattle.std.specs.Prelude.{◌≡◌, ◌+◌, ◌*◌, ◌≤◌, ◌==◌, ℕ, true, false, List, [], length, Some, nat_le};
 ghost use Rattle.std.specs.List.{All, list_all, sum_by};
 ghost use Rattle.hx_ids.specs.declared.InstanceId.{InstanceId};
 ghost use Rattle.hx_ids.specs.declared.SessionId.{SessionId};
@@ -17,6 +17,8 @@ ghost use Rattle.hx_ids.specs.declared.ControllerId.{ControllerId};
 ghost use Rattle.hx_ids.specs.declared.MsgId.{MsgId};
 ghost use Rattle.hx_cluster.specs.declared.state.Message.{Message};
 ghost use Rattle.hx_cluster.specs.declared.happenings.Outcome.{Outcome};
+ghost use Rattle.hx_cluster.specs.declared.happenings.Outcome.TheVariants as outcomes;
+ghost use Rattle.hx_model.specs.Model.{error};
 ghost use Rattle.hx_cluster.specs.Messages.{placed_all, pending_of, after_write};
 ghost use Rattle.hx_cluster.specs.Events.{dispatched_of, next, replay, IsLegal};
 ghost use Rattle.hx_cluster.specs.Steps.{opening};
@@ -42,6 +44,7 @@ ghost use Rattle.hx_settled.specs.Hops.{HaveHops};
 ghost use Rattle.hx_settled.specs.Nothing.{IsAllFull};
 ghost use Rattle.hx_settled.specs.Places.{places_of, left_at, tries_left, is_spendable, spent};
 ghost use Rattle.hx_settled.specs.Resets.{LeavesErrorAsked};
+ghost use Rattle.hx_settled.specs.Ways.{IsOnItsWay};
 ghost use Rattle.hx_settled.specs.Standing.{IsCounted, read_at};
 
 /// What a cluster shows at one moment is well formed.
@@ -173,4 +176,12 @@ pub fn failures_and_resets_take_a_try()
         → IsSafe c → IsRanged c → pending_of c s id ≡ Some m → m.written ≡ false
         → is_spendable c m outcome ≡ true
         → tries_left c ≡ tries_left (after_write c s id outcome) + spent m outcome }
+{}
+
+/// A transition from another state than ERROR, along the hop of a target that isn't at its goal,
+/// leaves one transition less where it succeeds.
+pub fn success_on_the_way_leaves_one_less()
+    ensures { (c : Cluster) (s : SessionId) (id : MsgId) (m : Message) → IsSafe c → IsRanged c
+        → pending_of c s id ≡ Some m → m.written ≡ false → (m.from.0 == error.0) ≡ false
+        → IsOnItsWay c m → left_of c ≡ left_of (after_write c s id outcomes.Ok) + 1 }
 {}
