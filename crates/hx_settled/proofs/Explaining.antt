@@ -44,6 +44,7 @@ use Rattle.hx_lawful.proofs.Fitting.{made_of}
 use Rattle.hx_lawful.proofs.Targeted.{is_of_replica, once_targets}
 use Rattle.hx_settled.specs.Hops.{IsHop, HasHop, HaveHops}
 use Rattle.hx_settled.specs.Nothing.{IsAllFull}
+use Rattle.hx_settled.specs.Ways.{IsOfItsTarget}
 use Rattle.hx_settled.proofs.Moments.{any-sort, any-map, shown_is_live, sound_of, view_formed, counts_alike}
 use Rattle.hx_settled.proofs.Hopping.{have_hops}
 use Rattle.hx_settled.proofs.Filling.{all_full_at}
@@ -154,11 +155,6 @@ found_not {X} q (x ∷ xs) e is = one (q x) e is (found_not q xs)
 abbrev IsFound : List Target → Target → Type 0
 IsFound ts t = find (is_of_replica t.session t.part) ts ≡ Some t
 
-record IsOfFound (models : List ModelParts) (view : View) (ts : List Target) (x : Candidate) : Type 0 where
-  pub from : Target
-  pub found : find (is_of_replica x.session x.part) ts ≡ Some from
-  pub made : candidate_of models view from ≡ Some x
-
 targets_found : (models : List ModelParts) (instances : ℕ) (view : View) → is_well_formed models instances view ≡ true → All (IsFound (all_targets models view)) (all_targets models view)
 targets_found models instances view formed =
     all_found (λ t. is_of_replica t.session t.part) (λ t. and-both (t.session.0 == t.session.0) (part_eq t.part t.part) (same-self t.session.0) (part_eq-self t.part)) (all_targets models view)
@@ -169,19 +165,19 @@ own_keys models view t x e =
     let made = made_of models view t x e in
     (sym (ap (λ (y : Candidate). y.session) made.1), sym (ap (λ (y : Candidate). y.part) made.1))
 
-candidates_found : (models : List ModelParts) (instances : ℕ) (view : View) → is_well_formed models instances view ≡ true
-    → All (IsOfFound models view (all_targets models view)) (all_candidates models view)
+pub candidates_found : (models : List ModelParts) (instances : ℕ) (view : View) → is_well_formed models instances view ≡ true
+    → All (IsOfItsTarget models view) (all_candidates models view)
 candidates_found models instances view formed =
-    all-sorted (IsOfFound models view (all_targets models view)) (comes_before models view) (filter_map (candidate_of models view) (all_targets models view))
-    (all-made (IsOfFound models view (all_targets models view)) (IsFound (all_targets models view)) (candidate_of models view) each (all_targets models view)
+    all-sorted (IsOfItsTarget models view) (comes_before models view) (filter_map (candidate_of models view) (all_targets models view))
+    (all-made (IsOfItsTarget models view) (IsFound (all_targets models view)) (candidate_of models view) each (all_targets models view)
     (targets_found models instances view formed))
   where
-    each : (t : Target) (x : Candidate) → IsFound (all_targets models view) t → candidate_of models view t ≡ Some x → IsOfFound models view (all_targets models view) x
+    each : (t : Target) (x : Candidate) → IsFound (all_targets models view) t → candidate_of models view t ≡ Some x → IsOfItsTarget models view x
     each t x found e =
         let keys = own_keys models view t x e in
         record {
-          from = t;
-          found = (λ i. find (is_of_replica (sym keys.0 i) (sym keys.1 i)) (all_targets models view)) ∙ found;
+          target = t;
+          own = (λ i. find (is_of_replica (sym keys.0 i) (sym keys.1 i)) (all_targets models view)) ∙ found;
           made = e;
         }
 
@@ -303,12 +299,12 @@ reason c safe ranged empty sent t found hops =
         one true e = absurd (let both = e in cc)
         one false e = e
 
-    of_target : (x : Candidate) → is_of t x ≡ true → IsOfFound c.models (view_at c) (all_targets c.models (view_at c)) x → hop_of m t ≡ Some x
+    of_target : (x : Candidate) → is_of t x ≡ true → IsOfItsTarget c.models (view_at c) x → hop_of m t ≡ Some x
     of_target x own from =
         let session : x.session ≡ t.session = session_same x.session t.session (and-first (x.session.0 == t.session.0) (part_eq x.part t.part) own) in
         let part : x.part ≡ t.part = part_same x.part t.part (and-second (x.session.0 == t.session.0) (part_eq x.part t.part) own) in
-        let here : Some t ≡ Some from.from = sym found ∙ (λ i. find (is_of_replica (sym session i) (sym part i)) (all_targets c.models (view_at c))) ∙ from.found in
-        taken x (ap (candidate_of c.models (view_at c)) (head from.from here) ∙ from.made)
+        let here : Some t ≡ Some from.target = sym found ∙ (λ i. find (is_of_replica (sym session i) (sym part i)) (all_targets c.models (view_at c))) ∙ from.own in
+        taken x (ap (candidate_of c.models (view_at c)) (head from.target here) ∙ from.made)
       where
         head : (u : Target) → Some t ≡ Some u → t ≡ u
         head u e = cc
@@ -333,7 +329,7 @@ reason c safe ranged empty sent t found hops =
         let there = find-map (λ (f : Full). is_of t f.candidate) (full c.models (view_at c) []) (all_candidates c.models (view_at c)) f is in
         let x = there.0 in
         let own : is_of t x ≡ true = find-passes (is_of t) (all_candidates c.models (view_at c)) x there.1 in
-        let from = all-found (IsOfFound c.models (view_at c) (all_targets c.models (view_at c))) (is_of t) (all_candidates c.models (view_at c)) x
+        let from = all-found (IsOfItsTarget c.models (view_at c)) (is_of t) (all_candidates c.models (view_at c)) x
         (candidates_found c.models (length c.instances) (view_at c) (view_formed c safe ranged)) there.1 in
         let roomless = all-find (λ y. not (has_room c.models (view_at c) [] y)) (is_of t) (all_candidates c.models (view_at c)) x all.roomless there.1 in
         subst (IsFull c t) there.2 (full_is c t x own (of_target x own from) roomless)

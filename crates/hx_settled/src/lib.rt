@@ -8,6 +8,8 @@ ghost use Rattle.hx_ids.specs.declared.InstanceId.{InstanceId};
 ghost use Rattle.hx_ids.specs.declared.SessionId.{SessionId};
 ghost use Rattle.hx_ids.specs.declared.PartId.{PartId};
 ghost use Rattle.hx_cluster.specs.declared.description.Resource.{Resource};
+ghost use Rattle.hx_lists.specs.Lists.{count};
+ghost use Rattle.hx_best.specs.Targets.{all_targets};
 ghost use Rattle.hx_best.specs.Goals.{is_in_error, goal};
 ghost use Rattle.hx_model.specs.declared.ModelParts.{ModelParts};
 ghost use Rattle.hx_cluster.specs.declared.state.Cluster.{Cluster};
@@ -44,7 +46,7 @@ ghost use Rattle.hx_settled.specs.Hops.{HaveHops};
 ghost use Rattle.hx_settled.specs.Nothing.{IsAllFull};
 ghost use Rattle.hx_settled.specs.Places.{places_of, left_at, tries_left, is_spendable, spent};
 ghost use Rattle.hx_settled.specs.Resets.{LeavesErrorAsked};
-ghost use Rattle.hx_settled.specs.Ways.{IsOnItsWay};
+ghost use Rattle.hx_settled.specs.Ways.{is_target_for, IsOfItsTarget, IsOnItsWay};
 ghost use Rattle.hx_settled.specs.Standing.{IsCounted, read_at};
 
 /// What a cluster shows at one moment is well formed.
@@ -70,6 +72,20 @@ pub fn each_target_has_a_hop()
     ensures { (models : List ModelParts) (instances : ℕ) (view : View)
         → list_all has_no_fault models ≡ true → is_well_formed models instances view ≡ true
         → HaveHops models view }
+{}
+
+/// In a well-formed view no replica has two targets, and each candidate is that of its replica's
+/// target. So no replica has two candidates.
+pub fn each_replica_has_one_target()
+    ensures { (models : List ModelParts) (instances : ℕ) (view : View)
+        → is_well_formed models instances view ≡ true → (s : SessionId) (p : PartId)
+        → count (is_target_for s p) (all_targets models view) ≤ 1 }
+{}
+
+pub fn each_candidate_is_of_its_target()
+    ensures { (models : List ModelParts) (instances : ℕ) (view : View)
+        → is_well_formed models instances view ≡ true
+        → All (IsOfItsTarget models view) (all_candidates models view) }
 {}
 
 /// Where no message is pending and the plan sends nothing, nothing is accepted either: each
