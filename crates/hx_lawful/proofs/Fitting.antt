@@ -61,7 +61,7 @@ elsewhere_from models view x e =
     && ((stands_in models view x.session x.part).0 == x.from.0) && is_legal (model_of models view.ideals.resources x.part.resource) x.from x.to) (leads_elsewhere x) e
 
 -- a hop leads elsewhere
-pub hop_elsewhere : (m : ModelParts) (s goal t : StateId) → hop m s goal ≡ Some t → not (t.0 == s.0) ≡ true
+hop_elsewhere : (m : ModelParts) (s goal t : StateId) → hop m s goal ≡ Some t → not (t.0 == s.0) ≡ true
 hop_elsewhere m s goal t e = one (t.0 == s.0) refl
   where
     one : (b : Bool) → (t.0 == s.0) ≡ b → not b ≡ true

@@ -1,7 +1,7 @@
 -- Each event raises the change number, or reads show the same after it.
-use Rattle.std.proofs.Common.{◌≡◌, ℕ, ◌+◌, ◌≤◌, ◌<◌, ◌&&◌, ◌||◌, ◌==◌, not, Bool, true, false, List, [], ◌∷◌, ◌++◌, length, map, filter, find, Option, Some, None, refl, sym, ap, ◌∙◌, ◌⊎◌, inl, inr, subst, arith}
-use Rattle.std.specs.Prelude.{if◌then◌else◌, nat_lt, slice_get, slice_set}
-use Rattle.std.specs.List.{list_any, list_all}
+use Rattle.std.proofs.Common.{◌≡◌, ℕ, ◌+◌, ◌≤◌, ◌<◌, ◌==◌, not, Bool, true, false, List, [], ◌∷◌, ◌++◌, length, filter, find, Option, Some, None, refl, sym, ap, ◌∙◌, inl, inr, subst, arith}
+use Rattle.std.specs.Prelude.{if◌then◌else◌, nat_lt, slice_get}
+use Rattle.std.specs.List.{list_all}
 use Rattle.std.proofs.lemmas.Bool.Decides.{nat_tests}
 use Rattle.hx_lists.specs.Lists.{count, insert_by, sort_by}
 use Rattle.hx_ids.specs.declared.InstanceId.{InstanceId}
@@ -25,7 +25,7 @@ use Rattle.hx_cluster.specs.declared.happenings.Placed.TheVariants as placings
 use Rattle.hx_cluster.specs.declared.happenings.Event.{Event}
 use Rattle.hx_cluster.specs.declared.happenings.Event.TheVariants as events
 use Rattle.hx_cluster.specs.Ends.{is_session, shown_of, resource_at}
-use Rattle.hx_cluster.specs.Reads.{instance_before, live_shown}
+use Rattle.hx_cluster.specs.Reads.{instance_before}
 use Rattle.hx_cluster.specs.Steps.{is_of, live_of, without, without_all, ended_of, beaten_of, ended_by, changed_at, with_mode, asked_of, marked_down, with_down, without_leader, is_leader, after}
 use Rattle.hx_cluster.specs.Messages.{placed_of, after_placed, after_proposal, after_proposals, raised_pass, next_pass, pending_of, written_of}
 use Rattle.hx_cluster.specs.Events.{next}
@@ -133,7 +133,7 @@ taken_out l (x ∷ live) numbers instances e = one (is_of l.instance x) refl e n
 
     one : (b : Bool) → is_of l.instance x ≡ b → (if b then Some x else find (is_of l.instance) live) ≡ Some l → count (is_session l.session) (x ∷ live) ≤ 1 → count (is_of l.instance) (x ∷ live) ≤ 1
         → (count (is_session l.session) live ≤ 1 → count (is_of l.instance) live ≤ 1 → find (is_of l.instance) live ≡ Some l
-            → sort_by instance_before (shown_of live) ≡ insert_by instance_before (shown l) (sort_by instance_before (shown_of (filter (is_other l) live))))
+        → sort_by instance_before (shown_of live) ≡ insert_by instance_before (shown l) (sort_by instance_before (shown_of (filter (is_other l) live))))
         → sort_by instance_before (shown_of (x ∷ live)) ≡ insert_by instance_before (shown l) (sort_by instance_before (shown_of (filter (is_other l) (x ∷ live))))
     one true is e numbers instances rest =
         here (head e) (few (is_session l.session x) (subst (λ (y : Live). is_session l.session y ≡ true) (sym (head e)) (eq l.session.0)) numbers)
@@ -201,7 +201,7 @@ beat_same c l numbers instances e = record {
         one : (b : Bool) → is_of l.instance x ≡ b → (if b then Some x else find (is_of l.instance) xs) ≡ Some l → count (is_session l.session) (x ∷ xs) ≤ 1
             → length (if b then x ∷ filter (is_of l.instance) xs else filter (is_of l.instance) xs) ≤ 1
             → (find (is_of l.instance) xs ≡ Some l → count (is_session l.session) xs ≤ 1 → count (is_of l.instance) xs ≤ 1
-                → list_all (λ (p : Pair). not (p.1.0 == l.instance.0)) (shown_of (filter (is_other l) xs)) ≡ true)
+            → list_all (λ (p : Pair). not (p.1.0 == l.instance.0)) (shown_of (filter (is_other l) xs)) ≡ true)
             → list_all (λ (p : Pair). not (p.1.0 == l.instance.0)) (shown_of (filter (is_other l) (x ∷ xs))) ≡ true
         one true is e numbers instances rest =
             let same : x ≡ l = head e in

@@ -1,14 +1,13 @@
 -- A pass that sends nothing while no message is pending explains each replica.
 use Rattle.std.proofs.Common.{◌≡◌, ℕ, ◌+◌, ◌≤◌, ◌&&◌, ◌||◌, ◌==◌, not, Bool, true, false, List, [], ◌∷◌, length, map, filter, find, get_or, Option, Some, None, refl, sym, ap, ◌∙◌, subst, arith}
 use Rattle.std.specs.Prelude.{if◌then◌else◌, nat_lt, unwrap_or}
-use Rattle.std.specs.List.{All, list_any, list_all, filter_map, cons_option}
+use Rattle.std.specs.List.{All, list_any, filter_map, cons_option}
 use Rattle.std.specs.Option.{option_map_or, is_some}
 use Rattle.std.proofs.lemmas.Bool.Decides.{nat_tests}
 use Rattle.std.proofs.lemmas.List.{length-map}
 use Rattle.std.proofs.lemmas.List.Elements.{All-nil, All-cons, All-head, All-tail, All-map, All-weaker}
 use Rattle.hx_lists.specs.Lists.{count, insert_by, sort_by}
 use Rattle.hx_ids.specs.declared.InstanceId.{InstanceId}
-use Rattle.hx_ids.specs.declared.StateId.{StateId}
 use Rattle.hx_ids.specs.declared.SessionId.{SessionId}
 use Rattle.hx_ids.specs.declared.PartId.{PartId}
 use Rattle.hx_ids.specs.declared.Live.{Live}
@@ -20,13 +19,10 @@ use Rattle.hx_cluster.specs.declared.planning.View.{View}
 use Rattle.hx_cluster.specs.declared.planning.Target.{Target}
 use Rattle.hx_cluster.specs.declared.planning.Candidate.{Candidate}
 use Rattle.hx_cluster.specs.declared.planning.Full.{Full}
-use Rattle.hx_cluster.specs.declared.planning.Held.{Held}
-use Rattle.hx_cluster.specs.declared.planning.Entry.{Entry}
 use Rattle.hx_cluster.specs.declared.planning.Selection.{Selection}
 use Rattle.hx_cluster.specs.declared.planning.Throttled.{Throttled}
-use Rattle.hx_cluster.specs.declared.planning.Finding.{Finding}
 use Rattle.hx_cluster.specs.declared.planning.Finding.TheVariants as findings
-use Rattle.hx_cluster.specs.Ends.{part_eq, is_live, is_shown, shown_of, has_end, count_over, count_of, limit_over, limit_at, message_of, model_of}
+use Rattle.hx_cluster.specs.Ends.{part_eq, is_live, shown_of, has_end, count_over, count_of, limit_over, limit_at, message_of, model_of}
 use Rattle.hx_cluster.specs.Reads.{instance_before, live_shown}
 use Rattle.hx_cluster.specs.Safe.{IsSafe}
 use Rattle.hx_cluster.specs.Ranged.{IsRanged}
@@ -35,14 +31,14 @@ use Rattle.hx_best.specs.Targets.{all_targets}
 use Rattle.hx_gen.specs.Candidates.{is_at_goal, hop_of, candidate_of, comes_before}
 use Rattle.hx_select.specs.Selection.{shown_sessions, filling, limit_for, has_room, holds, full}
 use Rattle.hx_throttle.specs.Throttle.{held_of}
-use Rattle.hx_report.specs.Findings.{is_failed, is_of, fate_of, finding_of, entry}
+use Rattle.hx_report.specs.Findings.{is_failed, is_of, finding_of, entry}
 use Rattle.hx_pass.specs.Plans.{all_candidates, selection_of, throttled_of, proposal, plan}
 use Rattle.hx_pass.specs.Explained.{view_at, IsFull, IsReason, IsExplained}
 use Rattle.hx_safe.proofs.Counting.{and-first, and-second, and-both, all-find, find-passes, find-any, any-count}
 use Rattle.hx_safe.proofs.Ends.{session_same, part_same, same-self, part_eq-self}
 use Rattle.hx_lawful.proofs.Fitting.{made_of}
 use Rattle.hx_lawful.proofs.Targeted.{is_of_replica, once_targets}
-use Rattle.hx_settled.specs.Hops.{IsHop, HasHop, HaveHops}
+use Rattle.hx_settled.specs.Hops.{HasHop}
 use Rattle.hx_settled.specs.Nothing.{IsAllFull}
 use Rattle.hx_settled.specs.Ways.{IsOfItsTarget}
 use Rattle.hx_settled.proofs.Moments.{any-sort, any-map, shown_is_live, sound_of, view_formed, counts_alike}
@@ -185,7 +181,7 @@ candidates_found models instances view formed =
 finding_plain : (models : List ModelParts) (rules : List Rule) (view : View) (t : Target) → view.mail ≡ [] → (throttled_of models rules view).sent ≡ [] → IsAllFull models view
     → finding_of view (selection_of models view) (throttled_of models rules view) t
     ≡ (if is_failed view t then findings.Failed
-      else option_map_or findings.Full (find (λ f. is_of t f.candidate) (map (full models view []) (all_candidates models view))) findings.AtBest)
+    else option_map_or findings.Full (find (λ f. is_of t f.candidate) (map (full models view []) (all_candidates models view))) findings.AtBest)
 finding_plain models rules view t empty sent all i =
     if is_failed view t then findings.Failed
     else option_map_or (λ m. findings.Pending m.id) (message_of (empty i) t.session t.part)

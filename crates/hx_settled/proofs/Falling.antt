@@ -1,7 +1,7 @@
 -- A transition along a hop that is done leaves one transition less.
-use Rattle.std.proofs.Common.{◌≡◌, ℕ, zero, ◌+◌, ◌≤◌, ◌||◌, ◌&&◌, ◌==◌, not, Bool, true, false, List, [], ◌∷◌, length, filter, find, get_or, Option, Some, None, refl, sym, ap, ◌∙◌, subst, arith}
+use Rattle.std.proofs.Common.{◌≡◌, ℕ, zero, ◌+◌, ◌≤◌, ◌||◌, ◌&&◌, ◌==◌, not, Bool, true, false, List, [], ◌∷◌, length, filter, find, Option, Some, None, refl, sym, ap, ◌∙◌, arith}
 use Rattle.std.specs.Prelude.{if◌then◌else◌, unwrap_or, IsSomeAnd}
-use Rattle.std.specs.List.{All, list_any, list_all, sum_by}
+use Rattle.std.specs.List.{list_any}
 use Rattle.std.specs.Option.{option_map, option_map_or}
 use Rattle.std.proofs.lemmas.Bool.Decides.{nat_tests}
 use Rattle.std.proofs.lemmas.List.Elements.{All-weaker}
@@ -19,10 +19,8 @@ use Rattle.hx_hops.proofs.Legal.{dist-shortest}
 use Rattle.hx_cluster.specs.declared.description.Resource.{Resource}
 use Rattle.hx_cluster.specs.declared.state.Message.{Message}
 use Rattle.hx_cluster.specs.declared.state.Cluster.{Cluster}
-use Rattle.hx_cluster.specs.declared.planning.View.{View}
 use Rattle.hx_cluster.specs.declared.planning.Target.{Target}
 use Rattle.hx_cluster.specs.declared.planning.Candidate.{Candidate}
-use Rattle.hx_cluster.specs.declared.planning.Ideals.{Ideals}
 use Rattle.hx_cluster.specs.declared.happenings.Outcome.TheVariants as outcomes
 use Rattle.hx_cluster.specs.Ends.{part_eq, state_of, resource_at, model_of}
 use Rattle.hx_cluster.specs.Steps.{is_error, is_flag}
@@ -39,7 +37,7 @@ use Rattle.hx_safe.proofs.Counting.{and-first, and-second, find-passes}
 use Rattle.hx_safe.proofs.Ends.{session_same, part_same, put-other, put-here}
 use Rattle.hx_covers.proofs.Viewing.{sessions_once}
 use Rattle.hx_lawful.proofs.Targeted.{is_of_replica}
-use Rattle.hx_settled.specs.Hops.{IsHop, HasHop}
+use Rattle.hx_settled.specs.Hops.{HasHop}
 use Rattle.hx_settled.specs.Places.{Place, places_of, left_at, is_place}
 use Rattle.hx_settled.specs.Ways.{IsOnItsWay}
 use Rattle.hx_settled.proofs.Moments.{sound_of, view_formed}

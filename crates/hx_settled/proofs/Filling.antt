@@ -1,5 +1,5 @@
 -- Where a plan sends nothing, each candidate is for a state that is full.
-use Rattle.std.proofs.Common.{◌≡◌, ℕ, ◌+◌, ◌≤◌, ◌||◌, ◌&&◌, ◌==◌, not, Bool, true, false, List, [], ◌∷◌, ◌++◌, length, map, length-append, refl, sym, ap, ◌∙◌, arith}
+use Rattle.std.proofs.Common.{◌≡◌, ℕ, ◌+◌, ◌≤◌, ◌||◌, ◌&&◌, not, Bool, true, false, List, [], ◌∷◌, ◌++◌, length, map, length-append, refl, sym, ap, ◌∙◌, arith}
 use Rattle.std.specs.Prelude.{if◌then◌else◌, nat_le}
 use Rattle.std.specs.List.{list_any, list_all, fold}
 use Rattle.std.proofs.lemmas.Bool.Decides.{nat_tests}
@@ -11,13 +11,13 @@ use Rattle.hx_cluster.specs.declared.state.Cluster.{Cluster}
 use Rattle.hx_cluster.specs.declared.planning.View.{View}
 use Rattle.hx_cluster.specs.declared.planning.Candidate.{Candidate}
 use Rattle.hx_cluster.specs.Ends.{matches, load_over}
-use Rattle.hx_cluster.specs.Valid.{is_within, is_valid_rule}
+use Rattle.hx_cluster.specs.Valid.{is_valid_rule}
 use Rattle.hx_cluster.specs.Ranged.{IsRanged}
 use Rattle.hx_select.specs.Selection.{has_room, full, accepted_of}
-use Rattle.hx_throttle.specs.Throttle.{key_for, loading, holds_back, is_sent}
-use Rattle.hx_pass.specs.Plans.{all_candidates, selection_of, throttled_of}
+use Rattle.hx_throttle.specs.Throttle.{key_for, holds_back, is_sent}
+use Rattle.hx_pass.specs.Plans.{all_candidates, throttled_of}
 use Rattle.hx_pass.specs.Explained.{view_at}
-use Rattle.hx_safe.proofs.Counting.{and-first, and-second, and-both, all-le}
+use Rattle.hx_safe.proofs.Counting.{and-first, and-second, all-le}
 use Rattle.hx_settled.specs.Nothing.{IsAllFull}
 
 -- where nothing was chosen, the first item isn't taken, nor is any other

@@ -1,5 +1,5 @@
 -- What is read session by session at one moment has the same look-ups as what a cluster has.
-use Rattle.std.proofs.Common.{◌≡◌, ℕ, ◌+◌, ◌≤◌, ◌&&◌, ◌||◌, ◌==◌, not, Bool, true, false, List, [], ◌∷◌, ◌++◌, length, map, filter, find, Option, Some, None, refl, sym, ap, ◌∙◌, subst, arith}
+use Rattle.std.proofs.Common.{◌≡◌, ℕ, ◌+◌, ◌≤◌, ◌||◌, ◌==◌, Bool, true, false, List, [], ◌∷◌, ◌++◌, length, filter, find, Option, Some, None, refl, sym, ap, ◌∙◌, subst, arith}
 use Rattle.std.specs.Prelude.{if◌then◌else◌}
 use Rattle.std.specs.List.{list_any, list_all, flat_map}
 use Rattle.std.specs.Option.{option_or}
@@ -14,12 +14,12 @@ use Rattle.hx_cluster.specs.declared.state.Row.{Row}
 use Rattle.hx_cluster.specs.declared.state.Message.{Message}
 use Rattle.hx_cluster.specs.declared.state.Cluster.{Cluster}
 use Rattle.hx_cluster.specs.Ends.{part_eq, is_row, is_message, is_live, is_shown, row_of, message_of, is_counted, load_over}
-use Rattle.hx_cluster.specs.Reads.{live_shown, mail_shown, states_shown, ideals_shown}
+use Rattle.hx_cluster.specs.Reads.{live_shown, ideals_shown}
 use Rattle.hx_cluster.specs.Safe.{IsSafe, HasMail, HasRows, is_pending, is_kept}
 use Rattle.hx_pass.specs.Plans.{plan}
 use Rattle.hx_pass.specs.Explained.{view_at}
 use Rattle.hx_safe.proofs.Counting.{and-first, and-second, all-le, count-append, find-none, none-from-all, any-count}
-use Rattle.hx_safe.proofs.Ends.{session_same, find-filter_kept, same-self, part_eq-self}
+use Rattle.hx_safe.proofs.Ends.{session_same, find-filter_kept}
 use Rattle.hx_covers.proofs.Viewing.{sessions_once}
 use Rattle.hx_settled.specs.Standing.{read_at}
 use Rattle.hx_settled.proofs.Moments.{shown_is_live}
@@ -27,7 +27,6 @@ use Rattle.hx_settled.proofs.Lookups.{plan_same}
 
 -- items gathered session by session
 module _ {X : Type 0} (of : X → SessionId) where
-
   abbrev is_at : SessionId → X → Bool
   is_at s x = (of x).0 == s.0
 

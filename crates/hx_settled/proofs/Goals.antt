@@ -1,7 +1,7 @@
 -- What goals depend on, and which replicas leave ERROR.
-use Rattle.std.proofs.Common.{◌≡◌, ℕ, ◌+◌, ◌||◌, ◌&&◌, ◌==◌, not, Bool, true, false, List, [], ◌∷◌, length, find, Option, Some, None, refl, sym, ap, ◌∙◌, subst, arith}
+use Rattle.std.proofs.Common.{◌≡◌, ℕ, ◌||◌, ◌&&◌, ◌==◌, not, Bool, true, false, List, length, find, Option, Some, None, refl, sym, ap, ◌∙◌, subst, arith}
 use Rattle.std.specs.Prelude.{if◌then◌else◌, nat_lt, unwrap_or, IsSomeAnd}
-use Rattle.std.specs.List.{All, list_any, list_all, filter_map, before_first}
+use Rattle.std.specs.List.{All, list_all, filter_map, before_first}
 use Rattle.std.specs.Option.{option_map_or}
 use Rattle.std.proofs.lemmas.Bool.Decides.{nat_tests}
 use Rattle.hx_lists.specs.Lists.{count}
@@ -34,7 +34,7 @@ use Rattle.hx_best.specs.Targets.{all_targets, IsTargetIn, IsTargetOf}
 use Rattle.hx_gen.specs.Candidates.{candidate_of, comes_before}
 use Rattle.hx_pass.specs.Plans.{all_candidates}
 use Rattle.hx_safe.proofs.Models.{state_same}
-use Rattle.hx_lawful.proofs.Fitting.{made_of, step_of}
+use Rattle.hx_lawful.proofs.Fitting.{made_of}
 use Rattle.hx_settled.specs.Resets.{LeavesErrorAsked}
 use Rattle.hx_settled.proofs.Hopping.{are_targets, good_in, listed_plain}
 use Rattle.hx_settled.proofs.Explaining.{all-made, all-sorted}
@@ -42,7 +42,6 @@ use Rattle.hx_settled.proofs.Explaining.{all-made, all-sorted}
 -- two views with the same sessions and ideals, in which the same replicas are in ERROR
 module _ (models : List ModelParts) (live : List (SessionId × InstanceId)) (ideals : Ideals) (mail_v mail_w : List Message) (rows_v rows_w : List Row)
     (errors : (s : SessionId) (p : PartId) → is_error (state_of rows_v s p) ≡ is_error (state_of rows_w s p)) where
-
   abbrev v : View
   v = record { live = live; mail = mail_v; rows = rows_v; ideals = ideals }
 

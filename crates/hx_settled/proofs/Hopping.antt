@@ -1,8 +1,8 @@
 -- Each target that isn't at its goal has a next transition.
-use Rattle.std.proofs.Common.{◌≡◌, ℕ, zero, suc, ◌+◌, ◌<◌, ◌&&◌, ◌||◌, ◌==◌, not, Bool, true, false, List, [], ◌∷◌, ◌++◌, length, map, filter, find, position, Option, Some, None, get_or, refl, sym, ap, ◌∙◌, ◌⊎◌, inl, inr, subst, arith}
-use Rattle.std.specs.Prelude.{if◌then◌else◌, nat_lt, unwrap_or, slice_index_or, slice_get, is_none, IsSomeAnd, ◌-◌}
+use Rattle.std.proofs.Common.{◌≡◌, ℕ, zero, suc, ◌+◌, ◌<◌, ◌&&◌, ◌||◌, ◌==◌, not, Bool, true, false, List, [], ◌∷◌, length, filter, find, position, Option, Some, None, refl, sym, ap, ◌∙◌, ◌⊎◌, inl, inr, subst, arith}
+use Rattle.std.specs.Prelude.{if◌then◌else◌, nat_lt, unwrap_or, slice_index_or, slice_get, IsSomeAnd, ◌-◌}
 use Rattle.std.specs.List.{All, list_any, list_all, flat_map, prefix_len}
-use Rattle.std.specs.Option.{option_map, option_map_or, is_some}
+use Rattle.std.specs.Option.{option_map, option_map_or}
 use Rattle.std.proofs.lemmas.Bool.Decides.{nat_tests}
 use Rattle.std.proofs.lemmas.List.Elements.{All-nil, All-cons, All-append, All-map, All-weaker}
 use Rattle.hx_lists.specs.Lists.{count, numbers_below}
@@ -16,9 +16,9 @@ use Rattle.hx_model.specs.declared.ModelParts.{ModelParts}
 use Rattle.hx_model.specs.declared.ModelFault.{ModelFault}
 use Rattle.hx_model.specs.declared.ModelFault.TheVariants.{Reserved}
 use Rattle.hx_model.specs.Faults.{fault_of, fault_at, too_many_states, reserved_state}
-use Rattle.hx_model.specs.Model.{error, dropped, states_of, has_state, is_between, is_legal}
-use Rattle.hx_model.specs.Walks.{steps_from, has_walk, dist}
-use Rattle.hx_model.proofs.Facts.{IsSound, sound_facts}
+use Rattle.hx_model.specs.Model.{error, dropped, has_state, is_legal}
+use Rattle.hx_model.specs.Walks.{has_walk, dist}
+use Rattle.hx_model.proofs.Facts.{sound_facts}
 use Rattle.hx_hops.specs.Hops.{hop, is_from, is_goal}
 use Rattle.hx_hops.proofs.Legal.{step_exists, dist_walk}
 use Rattle.hx_hops.proofs.Shortest.{dist-reached, hop_first, hop_none}
@@ -29,19 +29,19 @@ use Rattle.hx_cluster.specs.declared.state.Row.{Row}
 use Rattle.hx_cluster.specs.declared.planning.View.{View}
 use Rattle.hx_cluster.specs.declared.planning.Target.{Target}
 use Rattle.hx_cluster.specs.declared.planning.Candidate.{Candidate}
-use Rattle.hx_cluster.specs.Ends.{part_eq, is_row, row_of, state_of, resource_at, no_model, model_at, model_of, parts_of}
+use Rattle.hx_cluster.specs.Ends.{part_eq, is_row, row_of, state_of, resource_at, no_model, model_at, model_of}
 use Rattle.hx_cluster.specs.Steps.{is_error, is_drained}
 use Rattle.hx_cluster.specs.Reads.{instance_before}
 use Rattle.hx_cluster.specs.Valid.{has_no_fault}
 use Rattle.hx_cluster.specs.Views.{is_good_part, is_good_state, is_good_row, is_good_mode, is_good_resource, is_well_formed}
-use Rattle.hx_best.specs.Wants.{Wants, Listed, Mapped, wants_in, wants_of, is_wanted, by_instance, open_instances, in_turn}
-use Rattle.hx_best.specs.Goals.{room_in, best_among, best_state, best_below, is_in_error, is_asked, eligible_before, wanted_goal, goal}
+use Rattle.hx_best.specs.Wants.{wants_in, wants_of, is_wanted, by_instance, open_instances, in_turn}
+use Rattle.hx_best.specs.Goals.{room_in, best_among, best_state, is_in_error, is_asked, eligible_before, wanted_goal, goal}
 use Rattle.hx_best.specs.Targets.{is_target, target, targets_at, targets_in, targets, all_targets, is_shown_as, IsTargetIn, IsTargetOf, AreTargets}
-use Rattle.hx_gen.specs.Candidates.{is_at_goal, hop_of}
-use Rattle.hx_safe.proofs.Counting.{and-first, and-second, and-both, and-three, all-find, all-le, all-both, all-filter, find-passes}
-use Rattle.hx_safe.proofs.Ends.{session_same, part_same, same-self}
+use Rattle.hx_gen.specs.Candidates.{is_at_goal}
+use Rattle.hx_safe.proofs.Counting.{and-first, and-second, and-both, and-three, all-find, all-both, all-filter, find-passes}
+use Rattle.hx_safe.proofs.Ends.{part_same, same-self}
 use Rattle.hx_safe.proofs.Ideals.{none_from}
-use Rattle.hx_safe.proofs.Models.{IsGood, good_from, or-none, state_same}
+use Rattle.hx_safe.proofs.Models.{good_from, or-none, state_same}
 use Rattle.hx_covers.proofs.Sorting.{all-sort, each_there, all-passed}
 use Rattle.hx_covers.proofs.Viewing.{good_view}
 use Rattle.hx_lawful.proofs.Choosing.{numbers-below}

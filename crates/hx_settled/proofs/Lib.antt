@@ -14,3 +14,4 @@ pub mod Placed
 pub mod Single
 pub mod Spending
 pub mod Falling
+mod Examples

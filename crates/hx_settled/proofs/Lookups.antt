@@ -1,5 +1,5 @@
 -- A plan is the same of two views in which its look-ups are.
-use Rattle.std.proofs.Common.{◌≡◌, ℕ, ◌+◌, ◌||◌, ◌&&◌, ◌==◌, not, Bool, true, false, List, [], ◌∷◌, length, map, filter, find, Option, Some, None, refl, sym, ap, ◌∙◌}
+use Rattle.std.proofs.Common.{◌≡◌, ℕ, ◌+◌, ◌||◌, ◌&&◌, ◌==◌, not, true, false, List, [], ◌∷◌, length, map, filter, find, Some, None, refl}
 use Rattle.std.specs.Prelude.{if◌then◌else◌, nat_lt, nat_le, unwrap_or}
 use Rattle.std.specs.List.{list_any, flat_map, filter_map, before_first}
 use Rattle.std.specs.Option.{option_map, option_map_or, option_to_list, is_some}
@@ -22,21 +22,15 @@ use Rattle.hx_cluster.specs.declared.planning.Ideals.{Ideals}
 use Rattle.hx_cluster.specs.declared.planning.View.{View}
 use Rattle.hx_cluster.specs.declared.planning.Target.{Target}
 use Rattle.hx_cluster.specs.declared.planning.Candidate.{Candidate}
-use Rattle.hx_cluster.specs.declared.planning.Full.{Full}
-use Rattle.hx_cluster.specs.declared.planning.Held.{Held}
-use Rattle.hx_cluster.specs.declared.planning.Selection.{Selection}
-use Rattle.hx_cluster.specs.declared.planning.Throttled.{Throttled}
-use Rattle.hx_cluster.specs.declared.planning.Finding.{Finding}
 use Rattle.hx_cluster.specs.declared.planning.Finding.TheVariants as findings
-use Rattle.hx_cluster.specs.declared.planning.Plan.{Plan}
 use Rattle.hx_cluster.specs.Ends.{row_of, message_of, row_at, message_at, has_end, session_in, model_at, model_of, resource_at, matches, load_over}
 use Rattle.hx_cluster.specs.Steps.{is_error, is_drained}
 use Rattle.hx_best.specs.Wants.{Wants, Listed, Mapped, wants_in, wants_of, is_wanted, place_in, by_instance}
 use Rattle.hx_best.specs.Goals.{best_below, is_asked, is_eligible, wanted_goal, goal}
-use Rattle.hx_best.specs.Targets.{is_target, place_of, target, targets_at, targets_in, targets, all_targets}
+use Rattle.hx_best.specs.Targets.{target, targets_at, targets, all_targets}
 use Rattle.hx_gen.specs.Candidates.{is_at_goal, hop_of, candidate_of, comes_before}
 use Rattle.hx_select.specs.Selection.{shown_sessions, goes_to, filling, limit_for, has_room, full}
-use Rattle.hx_throttle.specs.Throttle.{key_for, counts_too, loading, holds_back, is_sent, held_by}
+use Rattle.hx_throttle.specs.Throttle.{key_for, counts_too, holds_back, is_sent, held_by}
 use Rattle.hx_report.specs.Findings.{is_failed, fate_of, finding_of}
 use Rattle.hx_pass.specs.Plans.{all_candidates, selection_of, throttled_of, proposal, plan}
 
@@ -44,7 +38,6 @@ use Rattle.hx_pass.specs.Plans.{all_candidates, selection_of, throttled_of, prop
 module _ (models : List ModelParts) (rules : List Rule) (live : List (SessionId × InstanceId)) (ideals : Ideals) (mail_v mail_w : List Message) (rows_v rows_w : List Row)
     (rows : (s : SessionId) (p : PartId) → row_of rows_v s p ≡ row_of rows_w s p) (messages : (s : SessionId) (p : PartId) → message_of mail_v s p ≡ message_of mail_w s p)
     (loads : (r : Rule) (key : ℕ) → load_over live mail_v r key ≡ load_over live mail_w r key) where
-
   abbrev pub v : View
   v = record { live = live; mail = mail_v; rows = rows_v; ideals = ideals }
 

@@ -1,8 +1,7 @@
 -- What a cluster shows at one moment is well formed, shows it, and agrees with it.
-use Rattle.std.proofs.Common.{◌≡◌, ℕ, ◌+◌, ◌≤◌, ◌&&◌, ◌||◌, ◌==◌, not, Bool, true, false, List, [], ◌∷◌, length, map, filter, Option, Some, None, refl, sym, ap, ◌∙◌, arith}
+use Rattle.std.proofs.Common.{◌≡◌, ℕ, ◌≤◌, ◌&&◌, ◌||◌, ◌==◌, Bool, true, false, List, [], ◌∷◌, length, map, Option, Some, None, refl, sym, ap, ◌∙◌, arith}
 use Rattle.std.specs.List.{list_any, list_all}
 use Rattle.std.specs.Option.{option_map_or}
-use Rattle.std.proofs.lemmas.Bool.Decides.{nat_tests}
 use Rattle.hx_lists.specs.Lists.{count, insert_by, sort_by}
 use Rattle.hx_ids.specs.declared.InstanceId.{InstanceId}
 use Rattle.hx_ids.specs.declared.StateId.{StateId}
@@ -13,10 +12,9 @@ use Rattle.hx_cluster.specs.declared.description.Rule.{Rule}
 use Rattle.hx_cluster.specs.declared.state.Row.{Row}
 use Rattle.hx_cluster.specs.declared.state.Message.{Message}
 use Rattle.hx_cluster.specs.declared.state.Cluster.{Cluster}
-use Rattle.hx_cluster.specs.Ends.{part_eq, is_row, is_message, is_session, is_live, is_shown, shown_of, sessions_of, instance_in, has_end, state_of, message_of, count_over, count_of, limit_at, matches, key_of, is_counted, load_over, load_of, model_of}
+use Rattle.hx_cluster.specs.Ends.{part_eq, is_row, is_message, is_session, is_live, is_shown, shown_of, has_end, state_of, message_of, count_over, count_of, limit_at, matches, key_of, is_counted, load_over, load_of}
 use Rattle.hx_cluster.specs.Messages.{is_same}
 use Rattle.hx_cluster.specs.Reads.{instance_before, live_shown}
-use Rattle.hx_cluster.specs.Events.{has_part}
 use Rattle.hx_cluster.specs.Safe.{IsSafe, HasMail, HasRows, is_pending, is_kept, is_row_written}
 use Rattle.hx_cluster.specs.Ranged.{IsRanged}
 use Rattle.hx_cluster.specs.Valid.{has_no_fault}
@@ -26,7 +24,7 @@ use Rattle.hx_pass.specs.Explained.{view_at}
 use Rattle.hx_safe.proofs.Counting.{and-first, and-second, and-both, all-le, all-both, count-map}
 use Rattle.hx_safe.proofs.Ends.{same-self, part_eq-self}
 use Rattle.hx_safe.proofs.Whole.{whole_from}
-use Rattle.hx_runs.specs.Calm.{is_among, is_same_state, has_stayed}
+use Rattle.hx_runs.specs.Calm.{has_stayed}
 use Rattle.hx_runs.specs.Onward.{is_same_kind, has_same_replicas}
 use Rattle.hx_runs.proofs.Fronts.{front-self, kind-self, replicas-self}
 use Rattle.hx_covers.specs.Covers.{has_nothing}

@@ -1,19 +1,16 @@
 -- The replicas of a cluster, place by place: how far they are from their goals, and how many places there are.
-use Rattle.std.proofs.Common.{◌≡◌, ℕ, zero, suc, ◌+◌, ◌*◌, ◌≤◌, ◌<◌, ◌||◌, ◌&&◌, ◌==◌, not, Bool, true, false, List, [], ◌∷◌, ◌++◌, length, map, filter, find, Option, Some, None, mul_comm, refl, sym, ap, ◌∙◌, subst, arith}
-use Rattle.std.specs.Prelude.{if◌then◌else◌, nat_lt, nat_le, unwrap_or, slice_get}
-use Rattle.std.specs.List.{All, list_any, list_all, flat_map, sum_by}
+use Rattle.std.proofs.Common.{◌≡◌, ℕ, ◌+◌, ◌*◌, ◌≤◌, ◌||◌, ◌==◌, not, Bool, true, false, List, [], length, filter, Option, Some, None, mul_comm, refl, sym, ap, ◌∙◌, subst, arith}
+use Rattle.std.specs.Prelude.{if◌then◌else◌, nat_lt, nat_le, unwrap_or}
+use Rattle.std.specs.List.{All, list_any, list_all, sum_by}
 use Rattle.std.specs.Option.{option_map, option_map_or, is_some}
 use Rattle.std.proofs.lemmas.Bool.Decides.{nat_tests}
 use Rattle.std.proofs.lemmas.List.{length-map}
 use Rattle.std.proofs.lemmas.List.Sums.{sum_by-le}
 use Rattle.std.proofs.lemmas.List.Elements.{All-map, All-weaker}
-use Rattle.hx_lists.specs.Lists.{count, sort_by, numbers_from, numbers_below}
+use Rattle.hx_lists.specs.Lists.{numbers_below}
 use Rattle.hx_ids.specs.declared.InstanceId.{InstanceId}
-use Rattle.hx_ids.specs.declared.ResourceId.{ResourceId}
-use Rattle.hx_ids.specs.declared.StateId.{StateId}
 use Rattle.hx_ids.specs.declared.SessionId.{SessionId}
 use Rattle.hx_ids.specs.declared.PartId.{PartId}
-use Rattle.hx_ids.specs.declared.Live.{Live}
 use Rattle.hx_model.specs.declared.ModelParts.{ModelParts}
 use Rattle.hx_model.specs.Model.{error, dropped}
 use Rattle.hx_model.specs.Walks.{dist}
@@ -21,28 +18,25 @@ use Rattle.hx_hops.proofs.Shortest.{dist-reached}
 use Rattle.hx_cluster.specs.declared.description.Resource.{Resource}
 use Rattle.hx_cluster.specs.declared.state.Row.{Row}
 use Rattle.hx_cluster.specs.declared.state.Cluster.{Cluster}
-use Rattle.hx_cluster.specs.declared.planning.View.{View}
 use Rattle.hx_cluster.specs.declared.planning.Target.{Target}
-use Rattle.hx_cluster.specs.Ends.{part_eq, is_live, is_shown, shown_of, row_of, state_of, resource_at, no_model, model_at, model_of, parts_of}
+use Rattle.hx_cluster.specs.Ends.{row_of, state_of, resource_at, no_model, model_at, model_of, parts_of}
 use Rattle.hx_cluster.specs.Steps.{is_error, is_drained}
 use Rattle.hx_cluster.specs.Reads.{instance_before, live_shown}
-use Rattle.hx_cluster.specs.Events.{has_part}
 use Rattle.hx_cluster.specs.Safe.{IsSafe}
 use Rattle.hx_cluster.specs.Ranged.{IsRanged}
 use Rattle.hx_best.specs.Wants.{wants_of, is_wanted, by_instance}
 use Rattle.hx_best.specs.Goals.{is_asked, wanted_goal, goal}
-use Rattle.hx_best.specs.Targets.{is_target, target, targets_at, targets_in, targets, all_targets, is_shown_as, IsTargetIn}
+use Rattle.hx_best.specs.Targets.{is_target, target, targets_at, targets_in, targets, is_shown_as, IsTargetIn}
 use Rattle.hx_gen.specs.Candidates.{is_at_goal}
 use Rattle.hx_pass.specs.Left.{steps_left, left_of}
 use Rattle.hx_pass.specs.Explained.{view_at}
-use Rattle.hx_safe.proofs.Counting.{and-first, and-second, and-both, any-append, any-count, count-map, count-none, count-le, all-map, all-le, none-from-all}
-use Rattle.hx_safe.proofs.Ends.{same-self, part_eq-self}
+use Rattle.hx_safe.proofs.Counting.{and-both}
+use Rattle.hx_safe.proofs.Ends.{same-self}
 use Rattle.hx_covers.proofs.Sorting.{each_there}
-use Rattle.hx_covers.proofs.Viewing.{sessions_once}
-use Rattle.hx_lawful.proofs.Choosing.{pieces-once, numbers-below, numbers-once}
-use Rattle.hx_settled.specs.Places.{Place, place_on, places_at, places_in, places_over, places_of, left_at, tries_at, tries_of, tries_left, is_place}
+use Rattle.hx_lawful.proofs.Choosing.{numbers-below}
+use Rattle.hx_settled.specs.Places.{Place, place_on, places_at, places_in, places_over, places_of, left_at, tries_at, tries_of, tries_left}
 use Rattle.hx_settled.proofs.Summing.{sum-map, sum-flat, sum-filter, sum-sort, sum-same, sum-places, sum-times, length-flat, sum-even, length-numbers}
-use Rattle.hx_settled.proofs.Moments.{any-map, shown_is_live, sound_of, view_formed}
+use Rattle.hx_settled.proofs.Moments.{sound_of, view_formed}
 use Rattle.hx_settled.proofs.Explaining.{many_shown}
 use Rattle.hx_settled.proofs.Hopping.{all-from, all-flat, away_in, good_in, item_at}
 
@@ -138,7 +132,7 @@ pub are_places : (c : Cluster) → All (IsPlaceOf c) (places_of c)
 are_places c =
     all-flat (IsPlaceOf c) (λ n. places_in (live_shown c) n (parts_of c.resources (record { 0 = n }))) (λ n. nat_lt n (length c.resources))
     (λ n some. all-flat (IsPlaceOf c) (λ k. places_at (live_shown c) (record { resource = record { 0 = n }; index = k })) (λ k. nat_lt k (parts_of c.resources (record { 0 = n })))
-        (λ k low. are_at c (record { resource = record { 0 = n }; index = k }) low) (numbers_below (parts_of c.resources (record { 0 = n }))) (numbers-below (parts_of c.resources (record { 0 = n }))))
+    (λ k low. are_at c (record { resource = record { 0 = n }; index = k }) low) (numbers_below (parts_of c.resources (record { 0 = n }))) (numbers-below (parts_of c.resources (record { 0 = n }))))
     (numbers_below (length c.resources)) (numbers-below (length c.resources))
 
 -- none is further from its goal than the states of its model allow

@@ -1,11 +1,11 @@
 -- The board sends each proposal of a plan of what it shows at one moment.
-use Rattle.std.proofs.Common.{◌≡◌, ℕ, ◌≤◌, ◌||◌, ◌&&◌, ◌==◌, not, Bool, true, false, List, [], ◌∷◌, ◌++◌, append_assoc, append-nil, length, map, Option, Some, None, refl, sym, ap, ◌∙◌, subst, arith}
-use Rattle.std.specs.Prelude.{nat_lt, is_none, unwrap_or, slice_get, if◌then◌else◌, IsSomeAnd}
-use Rattle.std.specs.List.{All, list_any, list_all, fold, filter_map}
+use Rattle.std.proofs.Common.{◌≡◌, ℕ, ◌≤◌, ◌||◌, ◌&&◌, ◌==◌, not, Bool, true, false, List, [], ◌∷◌, ◌++◌, append_assoc, length, map, Option, Some, None, refl, sym, ap, ◌∙◌, subst}
+use Rattle.std.specs.Prelude.{is_none, slice_get, if◌then◌else◌, IsSomeAnd}
+use Rattle.std.specs.List.{All, list_all, fold, filter_map}
 use Rattle.std.specs.Option.{is_some, option_map_or}
 use Rattle.std.proofs.lemmas.List.Elements.{All-nil, All-cons, All-head, All-tail, All-append}
 use Rattle.hx_lists.specs.Lists.{count}
-use Rattle.hx_lists.specs.Choices.{with_chosen, chosen_of}
+use Rattle.hx_lists.specs.Choices.{with_chosen}
 use Rattle.hx_ids.specs.declared.SessionId.{SessionId}
 use Rattle.hx_ids.specs.declared.StateId.{StateId}
 use Rattle.hx_ids.specs.declared.PartId.{PartId}
@@ -16,21 +16,19 @@ use Rattle.hx_model.specs.declared.ModelParts.{ModelParts}
 use Rattle.hx_model.specs.Model.{error, dropped}
 use Rattle.hx_cluster.specs.declared.description.Resource.{Resource}
 use Rattle.hx_cluster.specs.declared.description.Rule.{Rule}
-use Rattle.hx_cluster.specs.declared.state.Row.{Row}
 use Rattle.hx_cluster.specs.declared.state.Cluster.{Cluster}
 use Rattle.hx_cluster.specs.declared.planning.View.{View}
 use Rattle.hx_cluster.specs.declared.planning.Target.{Target}
 use Rattle.hx_cluster.specs.declared.planning.Candidate.{Candidate}
-use Rattle.hx_cluster.specs.declared.happenings.Placed.{Placed}
 use Rattle.hx_cluster.specs.Ends.{part_eq, is_live, is_shown, state_of, message_of, limit_at, resource_at, model_at, model_of}
 use Rattle.hx_cluster.specs.Steps.{is_dropped, is_drained, is_error}
-use Rattle.hx_cluster.specs.Messages.{placed_of, placed_all, after_proposal, raised_pass, next_pass}
+use Rattle.hx_cluster.specs.Messages.{placed_of, placed_all, after_proposal, raised_pass}
 use Rattle.hx_cluster.specs.Events.{dispatched_of}
 use Rattle.hx_cluster.specs.Safe.{IsSafe}
 use Rattle.hx_cluster.specs.Ranged.{IsRanged}
 use Rattle.hx_cluster.specs.Views.{is_well_formed}
 use Rattle.hx_best.specs.Wants.{wants_of, is_wanted}
-use Rattle.hx_best.specs.Goals.{is_in_error, is_asked, wanted_goal, goal}
+use Rattle.hx_best.specs.Goals.{is_asked, wanted_goal, goal}
 use Rattle.hx_best.specs.Targets.{all_targets, IsTargetIn, IsTargetOf}
 use Rattle.hx_gen.specs.Candidates.{is_at_goal, hop_of, candidate_of, comes_before}
 use Rattle.hx_select.specs.Selection.{has_room, accepted_of}

@@ -7,8 +7,6 @@ use Rattle.std.proofs.lemmas.Bool.Decides.{nat_tests}
 use Rattle.hx_ids.specs.declared.ControllerId.{ControllerId}
 use Rattle.hx_ids.specs.declared.PassNo.{PassNo}
 use Rattle.hx_cluster.specs.declared.description.Spec.{Spec}
-use Rattle.hx_cluster.specs.declared.description.Rule.{Rule}
-use Rattle.hx_model.specs.declared.ModelParts.{ModelParts}
 use Rattle.hx_cluster.specs.declared.state.Message.{Message}
 use Rattle.hx_cluster.specs.declared.state.Cluster.{Cluster}
 use Rattle.hx_cluster.specs.declared.planning.View.{View}
@@ -19,7 +17,7 @@ use Rattle.hx_cluster.specs.declared.planning.Finding.{Finding}
 use Rattle.hx_cluster.specs.declared.planning.Finding.TheVariants as findings
 use Rattle.hx_cluster.specs.declared.happenings.Proposal.{Proposal}
 use Rattle.hx_cluster.specs.declared.happenings.Event.{Event}
-use Rattle.hx_cluster.specs.Ends.{part_eq, is_message, message_of}
+use Rattle.hx_cluster.specs.Ends.{message_of}
 use Rattle.hx_cluster.specs.Steps.{opening, is_leader}
 use Rattle.hx_cluster.specs.declared.happenings.Event.TheVariants as events
 use Rattle.hx_cluster.specs.Reads.{pass_of}
@@ -28,14 +26,14 @@ use Rattle.hx_cluster.specs.Events.{next, replay, IsLegal, is_epoch, is_pass, be
 use Rattle.hx_cluster.specs.Safe.{IsSafe}
 use Rattle.hx_cluster.specs.Valid.{IsValid}
 use Rattle.hx_cluster.specs.Ranged.{IsRanged}
-use Rattle.hx_pass.specs.Turns.{Call, Live, Mail, States, Ideals, Send, Post, Turn, is_first, idle_turn, turn_of, view_of, posted_of}
+use Rattle.hx_pass.specs.Turns.{Call, Live, Mail, States, Ideals, Send, Post, Turn, is_first, idle_turn, turn_of, posted_of}
 use Rattle.hx_pass.specs.Plans.{plan}
 use Rattle.hx_pass.specs.Explained.{view_at, IsReason, IsExplained}
 use Rattle.hx_control.specs.declared.PassOutcome.{PassOutcome}
 use Rattle.hx_control.specs.declared.PassOutcome.TheVariants as ends
 use Rattle.hx_control.specs.declared.ControlFault.TheVariants as faults
 use Rattle.hx_control.specs.Controllers.{Controller}
-use Rattle.hx_control.specs.Steps.{Step, Calls, Plans, Refuses, is_sent, outcome_of, is_of_cluster, begin_step, read_step, dispatch_step, planned_step, post_step, of_cluster, step_at, step_of}
+use Rattle.hx_control.specs.Steps.{Calls, Refuses, is_sent, outcome_of, is_of_cluster, begin_step, read_step, planned_step, post_step, of_cluster, step_at, step_of}
 use Rattle.hx_control.specs.OfBoard.{IsPlanOf, OfBoard}
 use Rattle.hx_safe.proofs.Ends.{same-self, part_eq-self}
 use Rattle.hx_safe.proofs.Whole.{reached_safe, reached_ranged}

@@ -1,12 +1,11 @@
 -- A live session has one place of each part that is there.
-use Rattle.std.proofs.Common.{◌≡◌, ℕ, zero, suc, ◌+◌, ◌≤◌, ◌<◌, ◌||◌, ◌&&◌, ◌==◌, Bool, true, false, List, [], ◌∷◌, ◌++◌, length, map, Option, Some, None, refl, sym, ap, ◌∙◌, arith}
+use Rattle.std.proofs.Common.{◌≡◌, ℕ, zero, suc, ◌+◌, ◌≤◌, ◌<◌, ◌||◌, ◌&&◌, ◌==◌, Bool, true, false, List, [], ◌∷◌, length, Option, Some, None, refl, ap, ◌∙◌, arith}
 use Rattle.std.specs.Prelude.{nat_lt, slice_get}
 use Rattle.std.specs.List.{list_any, flat_map}
 use Rattle.std.specs.Option.{option_map_or}
 use Rattle.std.proofs.lemmas.Bool.Decides.{nat_tests}
 use Rattle.hx_lists.specs.Lists.{count, numbers_from, numbers_below}
 use Rattle.hx_ids.specs.declared.InstanceId.{InstanceId}
-use Rattle.hx_ids.specs.declared.ResourceId.{ResourceId}
 use Rattle.hx_ids.specs.declared.SessionId.{SessionId}
 use Rattle.hx_ids.specs.declared.PartId.{PartId}
 use Rattle.hx_cluster.specs.declared.description.Resource.{Resource}
@@ -15,10 +14,9 @@ use Rattle.hx_cluster.specs.Ends.{part_eq, is_live, is_shown, resource_at, parts
 use Rattle.hx_cluster.specs.Reads.{live_shown}
 use Rattle.hx_cluster.specs.Safe.{IsSafe}
 use Rattle.hx_safe.proofs.Counting.{and-first, any-append, any-count, count-map, count-none, count-le}
-use Rattle.hx_safe.proofs.Ends.{same-self}
 use Rattle.hx_covers.proofs.Viewing.{sessions_once}
 use Rattle.hx_lawful.proofs.Choosing.{pieces-once, numbers-once}
-use Rattle.hx_settled.specs.Places.{Place, place_on, places_at, places_in, places_over, places_of, is_place}
+use Rattle.hx_settled.specs.Places.{place_on, places_at, places_in, places_of, is_place}
 use Rattle.hx_settled.proofs.Moments.{shown_is_live}
 
 none-flat : {X Y : Type 0} (q : Y → Bool) (f : X → List Y) → ((x : X) → list_any q (f x) ≡ false) → (xs : List X) → list_any q (flat_map f xs) ≡ false
@@ -87,13 +85,13 @@ at_most : (c : Cluster) → IsSafe c → (s : SessionId) (p : PartId) → count 
 at_most c safe s p =
     pieces-once (is_place s p) (λ n. places_in (live_shown c) n (parts_of c.resources (record { 0 = n }))) p.resource.0
     (λ n ne. count-none (is_place s p) (places_in (live_shown c) n (parts_of c.resources (record { 0 = n })))
-        (none-flat (is_place s p) (λ k. places_at (live_shown c) (record { resource = record { 0 = n }; index = k }))
-        (λ k. none_at s p (record { resource = record { 0 = n }; index = k }) (other_resource n k p ne) (live_shown c)) (numbers_below (parts_of c.resources (record { 0 = n })))))
+    (none-flat (is_place s p) (λ k. places_at (live_shown c) (record { resource = record { 0 = n }; index = k }))
+    (λ k. none_at s p (record { resource = record { 0 = n }; index = k }) (other_resource n k p ne) (live_shown c)) (numbers_below (parts_of c.resources (record { 0 = n })))))
     (λ n at. pieces-once (is_place s p) (λ k. places_at (live_shown c) (record { resource = record { 0 = n }; index = k })) p.index
-        (λ k ne. count-none (is_place s p) (places_at (live_shown c) (record { resource = record { 0 = n }; index = k }))
-            (none_at s p (record { resource = record { 0 = n }; index = k }) (other_index n k p ne) (live_shown c)))
-        (λ k here. once_at c safe s p (record { resource = record { 0 = n }; index = k }))
-        (numbers_below (parts_of c.resources (record { 0 = n }))) (numbers-once (parts_of c.resources (record { 0 = n })) p.index))
+    (λ k ne. count-none (is_place s p) (places_at (live_shown c) (record { resource = record { 0 = n }; index = k }))
+    (none_at s p (record { resource = record { 0 = n }; index = k }) (other_index n k p ne) (live_shown c)))
+    (λ k here. once_at c safe s p (record { resource = record { 0 = n }; index = k }))
+    (numbers_below (parts_of c.resources (record { 0 = n }))) (numbers-once (parts_of c.resources (record { 0 = n })) p.index))
     (numbers_below (length c.resources)) (numbers-once (length c.resources) p.resource.0)
 
 get-low : {X : Type 0} (xs : List X) (n : ℕ) (x : X) → slice_get xs n ≡ Some x → n < length xs

@@ -1,11 +1,9 @@
 -- What a write takes of what may still be tried.
-use Rattle.std.proofs.Common.{◌≡◌, ℕ, ◌+◌, ◌≤◌, ◌||◌, ◌&&◌, ◌==◌, not, Bool, true, false, List, [], ◌∷◌, length, map, filter, get_or, Option, Some, None, refl, sym, ap, ◌∙◌, subst, arith}
+use Rattle.std.proofs.Common.{◌≡◌, ℕ, ◌+◌, ◌||◌, ◌&&◌, ◌==◌, not, Bool, true, false, List, [], ◌∷◌, length, filter, get_or, Option, Some, None, refl, sym, ap, ◌∙◌, arith}
 use Rattle.std.specs.Prelude.{if◌then◌else◌, nat_lt, unwrap_or}
-use Rattle.std.specs.List.{All, list_any, list_all, sum_by}
+use Rattle.std.specs.List.{list_any}
 use Rattle.std.specs.Option.{option_map_or}
 use Rattle.std.proofs.lemmas.Bool.Decides.{nat_tests}
-use Rattle.std.proofs.lemmas.List.Elements.{All-weaker}
-use Rattle.hx_lists.specs.Lists.{count}
 use Rattle.hx_ids.specs.declared.StateId.{StateId}
 use Rattle.hx_ids.specs.declared.SessionId.{SessionId}
 use Rattle.hx_ids.specs.declared.MsgId.{MsgId}
@@ -27,13 +25,12 @@ use Rattle.hx_cluster.specs.Events.{has_part}
 use Rattle.hx_cluster.specs.Safe.{IsSafe, is_row_written, is_pending, is_at_its_place}
 use Rattle.hx_cluster.specs.Ranged.{IsRanged}
 use Rattle.hx_pass.specs.Explained.{view_at}
-use Rattle.hx_safe.proofs.Counting.{and-first, and-second, and-both, and-six, all-find, none-from-all}
+use Rattle.hx_safe.proofs.Counting.{and-first, and-second, and-six, all-find, none-from-all}
 use Rattle.hx_safe.proofs.Ends.{session_same, part_same, put-other, put-here}
 use Rattle.hx_settled.specs.Places.{Place, places_of, tries_at, tries_of, tries_left, spent, is_spendable, is_place}
 use Rattle.hx_settled.proofs.Moments.{sound_of, view_formed}
 use Rattle.hx_settled.proofs.Hopping.{good_in, listed_plain, to_no_error}
 use Rattle.hx_settled.proofs.Summing.{sum-more}
-use Rattle.hx_settled.proofs.Placed.{IsPlaceOf, are_places}
 use Rattle.hx_settled.proofs.Single.{one_place}
 
 -- the model of a part that is there has no fault

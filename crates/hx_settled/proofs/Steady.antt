@@ -1,9 +1,7 @@
 -- A turn since whose begin nothing has changed: with the reads that are left it is shown all at one moment.
-use Rattle.std.proofs.Common.{◌≡◌, ℕ, ◌+◌, ◌≤◌, ◌<◌, ◌&&◌, ◌||◌, ◌==◌, not, Bool, true, false, List, [], ◌∷◌, ◌++◌, append_assoc, append-nil, map, filter, drop, refl, sym, ap, ◌∙◌, ◌⊎◌, inl, inr, subst, arith}
+use Rattle.std.proofs.Common.{◌≡◌, ◌≤◌, ◌&&◌, ◌||◌, ◌==◌, Bool, true, false, List, [], ◌∷◌, ◌++◌, append_assoc, append-nil, map, filter, drop, refl, sym, ap, ◌∙◌, inl, inr, arith}
 use Rattle.std.specs.Prelude.{if◌then◌else◌}
-use Rattle.std.specs.List.{list_any, list_all, flat_map}
-use Rattle.std.proofs.lemmas.Bool.Decides.{nat_tests}
-use Rattle.hx_lists.specs.Lists.{count}
+use Rattle.std.specs.List.{list_any, flat_map}
 use Rattle.hx_ids.specs.declared.InstanceId.{InstanceId}
 use Rattle.hx_ids.specs.declared.ControllerId.{ControllerId}
 use Rattle.hx_ids.specs.declared.SessionId.{SessionId}
@@ -17,14 +15,13 @@ use Rattle.hx_cluster.specs.declared.happenings.Event.{Event}
 use Rattle.hx_cluster.specs.declared.happenings.Event.TheVariants as events
 use Rattle.hx_cluster.specs.Reads.{live_shown, mail_shown, states_shown, ideals_shown, nothing_shown}
 use Rattle.hx_cluster.specs.Steps.{opening}
-use Rattle.hx_cluster.specs.Events.{begun_of, next, replay, IsStep, IsLegal}
-use Rattle.hx_cluster.specs.Safe.{IsSafe}
+use Rattle.hx_cluster.specs.Events.{next, replay, IsStep, IsLegal}
 use Rattle.hx_cluster.specs.Valid.{IsValid}
 use Rattle.hx_pass.specs.Turns.{Call, Live, Mail, States, Ideals, Send, Post, Turn, same_call, is_first, is_due, is_of_epoch, idle_turn, begun_turn, calls_after_live, with_live, gone_on, if_due, when_own, turn_after, turn_from, turn_of, view_of}
-use Rattle.hx_safe.proofs.Counting.{and-first, and-second}
+use Rattle.hx_safe.proofs.Counting.{and-first}
 use Rattle.hx_safe.proofs.Ends.{session_same}
 use Rattle.hx_safe.proofs.Whole.{IsWhole, whole_next, whole_opening, sound_from}
-use Rattle.hx_covers.specs.Reading.{may_follow, is_in_order_from, is_in_order, is_read, IsTurn}
+use Rattle.hx_covers.specs.Reading.{is_in_order, is_read}
 use Rattle.hx_covers.proofs.Whole.{turn_law}
 use Rattle.hx_settled.specs.Standing.{ShowsTheSame, IsCounted, read_at}
 use Rattle.hx_settled.proofs.Changing.{counted_next}
@@ -216,25 +213,25 @@ steady_call c k t (events.Mail j pass s) h ne =
     let view : View = record t.view { mail = t.view.mail ++ mail_shown c s } in
     own c k j t (if_due (is_due t (Mail s) pass) (gone_on t view)) h
     (when c t (gone_on t view) (is_due t (Mail s) pass) (λ due.
-        let first = and-first (is_first (Mail s) t.left) (pass.0 == t.begun.pass.0) due in
-        gone c t (Mail s) view first (mail_next c s t.left t.view first) h))
+    let first = and-first (is_first (Mail s) t.left) (pass.0 == t.begun.pass.0) due in
+    gone c t (Mail s) view first (mail_next c s t.left t.view first) h))
 steady_call c k t (events.States j pass s) h ne =
     let view : View = record t.view { rows = t.view.rows ++ states_shown c s } in
     own c k j t (if_due (is_due t (States s) pass) (gone_on t view)) h
     (when c t (gone_on t view) (is_due t (States s) pass) (λ due.
-        let first = and-first (is_first (States s) t.left) (pass.0 == t.begun.pass.0) due in
-        gone c t (States s) view first (states_next c s t.left t.view first) h))
+    let first = and-first (is_first (States s) t.left) (pass.0 == t.begun.pass.0) due in
+    gone c t (States s) view first (states_next c s t.left t.view first) h))
 steady_call c k t (events.Ideals j pass) h ne =
     let view : View = record t.view { ideals = ideals_shown c } in
     own c k j t (if_due (is_due t Ideals pass) (gone_on t view)) h
     (when c t (gone_on t view) (is_due t Ideals pass) (λ due.
-        let first = and-first (is_first Ideals t.left) (pass.0 == t.begun.pass.0) due in
-        gone c t Ideals view first (ideals_next c t.left t.view first) h))
+    let first = and-first (is_first Ideals t.left) (pass.0 == t.begun.pass.0) due in
+    gone c t Ideals view first (ideals_next c t.left t.view first) h))
 steady_call c k t (events.Dispatch j epoch pass proposals answer) h ne =
     own c k j t (if_due (is_due t Send pass && is_of_epoch t epoch) (gone_on t t.view)) h
     (when c t (gone_on t t.view) (is_due t Send pass && is_of_epoch t epoch) (λ due.
-        let first = and-first (is_first Send t.left) (pass.0 == t.begun.pass.0) (and-first (is_due t Send pass) (is_of_epoch t epoch) due) in
-        gone c t Send t.view first (send_next c t.left t.view first) h))
+    let first = and-first (is_first Send t.left) (pass.0 == t.begun.pass.0) (and-first (is_due t Send pass) (is_of_epoch t epoch) due) in
+    gone c t Send t.view first (send_next c t.left t.view first) h))
 steady_call c k t (events.Post j epoch rows) h ne = own c k j t idle_turn h (steady_idle c)
 steady_call c k t _ h ne = h
 

@@ -1,8 +1,7 @@
 -- Laws of sums over lists that are put together, filtered and put in order.
-use Rattle.std.proofs.Common.{◌≡◌, ℕ, zero, suc, get_or, ◌+◌, ◌*◌, ◌≤◌, ◌==◌, Bool, true, false, List, [], ◌∷◌, ◌++◌, length, map, filter, refl, sym, ap, ◌∙◌, zero-mul, add-mul, suc-mul, add_comm, length-append, arith}
-use Rattle.std.specs.Prelude.{if◌then◌else◌, slice_get, Option, Some, None}
+use Rattle.std.proofs.Common.{◌≡◌, ℕ, zero, suc, ◌+◌, ◌*◌, Bool, true, false, List, [], ◌∷◌, length, map, filter, refl, sym, ap, ◌∙◌, zero-mul, add-mul, suc-mul, add_comm, length-append, arith}
+use Rattle.std.specs.Prelude.{if◌then◌else◌, slice_get, Option, Some}
 use Rattle.std.specs.List.{flat_map, sum_by, All}
-use Rattle.std.specs.Option.{option_map_or}
 use Rattle.std.proofs.lemmas.List.Sums.{sum_by-cons, sum_by-append}
 use Rattle.std.proofs.lemmas.List.Elements.{All-head, All-tail}
 use Rattle.hx_lists.specs.Lists.{count, insert_by, sort_by, numbers_from, numbers_below}

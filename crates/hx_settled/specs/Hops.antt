@@ -11,8 +11,8 @@ use Rattle.hx_cluster.specs.Ends.{model_of}
 use Rattle.hx_best.specs.Targets.{all_targets}
 use Rattle.hx_gen.specs.Candidates.{is_at_goal, hop_of}
 
--- the next transition towards the goal: it is legal, and one nearer. It leads to DROPPED only where that is the goal, and never to
--- ERROR
+-- the next transition towards the goal: it is legal, and one nearer. It leads to DROPPED only where
+-- that is the goal, and never to ERROR
 pub record IsHop (m : ModelParts) (t : Target) (x : Candidate) : Type 0 where
   pub next : hop_of m t ≡ Some x
   pub legal : is_legal m x.from x.to ≡ true
@@ -26,4 +26,6 @@ HasHop m t = is_at_goal m t ≡ false → (x : Candidate) × IsHop m t x
 
 -- all targets of a view have
 abbrev pub HaveHops : List ModelParts → View → Type 0
-HaveHops models view = All (λ t. HasHop (model_of models view.ideals.resources t.part.resource) t) (all_targets models view)
+HaveHops models view =
+    All (λ t. HasHop (model_of models view.ideals.resources t.part.resource) t)
+    (all_targets models view)

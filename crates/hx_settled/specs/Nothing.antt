@@ -10,4 +10,5 @@ use Rattle.hx_pass.specs.Plans.{all_candidates, selection_of}
 pub record IsAllFull (models : List ModelParts) (view : View) : Type 0 where
   pub accepted : (selection_of models view).accepted ≡ []
   pub roomless : list_all (λ x. not (has_room models view [] x)) (all_candidates models view) ≡ true
-  pub full : (selection_of models view).full ≡ map (full models view []) (all_candidates models view)
+  pub full : (selection_of models view).full
+      ≡ map (full models view []) (all_candidates models view)

@@ -23,7 +23,7 @@ pub record IsOfItsTarget (models : List ModelParts) (view : View) (x : Candidate
   pub own : find (is_target_for x.session x.part) (all_targets models view) ≡ Some target
   pub made : candidate_of models view target ≡ Some x
 
--- the target of a message's replica isn't at its goal, and the message leads where the target's next
+-- the target of a message's replica isn't at its goal, and the message leads where its next
 -- transition does
 pub record IsOnItsWay (c : Cluster) (m : Message) : Type 0 where
   pub target : Target

@@ -2,45 +2,46 @@
 //! the definitions alone.
 #![tactic(auto)]
 
-ghost use Rattle.std.specs.Prelude.{◌≡◌, ◌+◌, ◌*◌, ◌≤◌, ◌==◌, ℕ, true, false, List, [], length, Some, nat_le};
+ghost use Rattle.std.specs.Prelude.{◌≡◌, ◌≤◌, ◌+◌, ◌*◌, ◌==◌, ℕ, true, false};
+ghost use Rattle.std.specs.Prelude.{List, [], length, Some, nat_le};
 ghost use Rattle.std.specs.List.{All, list_all, sum_by};
+ghost use Rattle.hx_lists.specs.Lists.{count};
 ghost use Rattle.hx_ids.specs.declared.InstanceId.{InstanceId};
 ghost use Rattle.hx_ids.specs.declared.SessionId.{SessionId};
 ghost use Rattle.hx_ids.specs.declared.PartId.{PartId};
-ghost use Rattle.hx_cluster.specs.declared.description.Resource.{Resource};
-ghost use Rattle.hx_lists.specs.Lists.{count};
-ghost use Rattle.hx_best.specs.Targets.{all_targets};
-ghost use Rattle.hx_best.specs.Goals.{is_in_error, goal};
-ghost use Rattle.hx_model.specs.declared.ModelParts.{ModelParts};
-ghost use Rattle.hx_cluster.specs.declared.state.Cluster.{Cluster};
-ghost use Rattle.hx_cluster.specs.declared.planning.View.{View};
-ghost use Rattle.hx_cluster.specs.Valid.{has_no_fault};
 ghost use Rattle.hx_ids.specs.declared.ControllerId.{ControllerId};
 ghost use Rattle.hx_ids.specs.declared.MsgId.{MsgId};
+ghost use Rattle.hx_model.specs.declared.ModelParts.{ModelParts};
+ghost use Rattle.hx_model.specs.Model.{error};
+ghost use Rattle.hx_cluster.specs.declared.description.Resource.{Resource};
+ghost use Rattle.hx_cluster.specs.declared.state.Cluster.{Cluster};
+ghost use Rattle.hx_cluster.specs.declared.planning.View.{View};
 ghost use Rattle.hx_cluster.specs.declared.state.Message.{Message};
 ghost use Rattle.hx_cluster.specs.declared.happenings.Outcome.{Outcome};
 ghost use Rattle.hx_cluster.specs.declared.happenings.Outcome.TheVariants as outcomes;
-ghost use Rattle.hx_model.specs.Model.{error};
-ghost use Rattle.hx_cluster.specs.Messages.{placed_all, pending_of, after_write};
-ghost use Rattle.hx_cluster.specs.Events.{dispatched_of, next, replay, IsLegal};
-ghost use Rattle.hx_cluster.specs.Steps.{opening};
 ghost use Rattle.hx_cluster.specs.declared.description.Spec.{Spec};
 ghost use Rattle.hx_cluster.specs.declared.planning.Report.{Report};
 ghost use Rattle.hx_cluster.specs.declared.happenings.Event.{Event};
+ghost use Rattle.hx_cluster.specs.Valid.{has_no_fault};
+ghost use Rattle.hx_cluster.specs.Messages.{placed_all, pending_of, after_write};
+ghost use Rattle.hx_cluster.specs.Events.{dispatched_of, next, replay, IsLegal};
+ghost use Rattle.hx_cluster.specs.Steps.{opening};
 ghost use Rattle.hx_cluster.specs.Valid.{IsValid};
+ghost use Rattle.hx_cluster.specs.Safe.{IsSafe};
+ghost use Rattle.hx_cluster.specs.Ranged.{IsRanged};
+ghost use Rattle.hx_cluster.specs.Views.{is_well_formed};
+ghost use Rattle.hx_best.specs.Targets.{all_targets};
+ghost use Rattle.hx_best.specs.Goals.{is_in_error, goal};
 ghost use Rattle.hx_pass.specs.Turns.{turn_of, view_of};
+ghost use Rattle.hx_pass.specs.Left.{left_of};
+ghost use Rattle.hx_pass.specs.Explained.{view_at, IsExplained};
+ghost use Rattle.hx_pass.specs.Plans.{all_candidates, throttled_of, plan};
 ghost use Rattle.hx_covers.specs.Reading.{is_read};
+ghost use Rattle.hx_covers.specs.Gate.{Shows};
 ghost use Rattle.hx_control.specs.declared.PassOutcome.TheVariants as ends;
 ghost use Rattle.hx_control.specs.Controllers.{Controller};
 ghost use Rattle.hx_control.specs.OfBoard.{OfBoard};
 ghost use Rattle.hx_control.specs.Steps.{Calls, is_sent, step_of};
-ghost use Rattle.hx_cluster.specs.Safe.{IsSafe};
-ghost use Rattle.hx_cluster.specs.Ranged.{IsRanged};
-ghost use Rattle.hx_cluster.specs.Views.{is_well_formed};
-ghost use Rattle.hx_pass.specs.Left.{left_of};
-ghost use Rattle.hx_pass.specs.Explained.{view_at, IsExplained};
-ghost use Rattle.hx_pass.specs.Plans.{all_candidates, throttled_of, plan};
-ghost use Rattle.hx_covers.specs.Gate.{Shows};
 ghost use Rattle.hx_settled.specs.Moments.{AgreesWith};
 ghost use Rattle.hx_settled.specs.Hops.{HaveHops};
 ghost use Rattle.hx_settled.specs.Nothing.{IsAllFull};
@@ -74,14 +75,14 @@ pub fn each_target_has_a_hop()
         → HaveHops models view }
 {}
 
-/// In a well-formed view no replica has two targets, and each candidate is that of its replica's
-/// target. So no replica has two candidates.
+/// In a well-formed view no replica has two targets.
 pub fn each_replica_has_one_target()
     ensures { (models : List ModelParts) (instances : ℕ) (view : View)
         → is_well_formed models instances view ≡ true → (s : SessionId) (p : PartId)
         → count (is_target_for s p) (all_targets models view) ≤ 1 }
 {}
 
+/// And each candidate is that of its replica's target, so no replica has two.
 pub fn each_candidate_is_of_its_target()
     ensures { (models : List ModelParts) (instances : ℕ) (view : View)
         → is_well_formed models instances view ≡ true
