@@ -17,6 +17,7 @@ use Rattle.hx_pass.specs.Plans.{plan}
 use Rattle.hx_pass.specs.Explained.{view_at}
 use Rattle.hx_pass.specs.Left.{left_of}
 use Rattle.hx_settled.specs.Places.{tries_left}
+use Rattle.hx_settled.specs.Ways.{IsOnItsWay}
 
 abbrev master : StateId
 master = state 2
@@ -96,6 +97,18 @@ leaving from to = record {
 
 abbrev moving : Cluster
 moving = cluster nobody_wanted (at 1 slave ∷ []) (leaving slave offline ∷ [])
+
+on_its_way : IsOnItsWay moving (leaving slave offline)
+on_its_way = record {
+  resource = record { name = 0; model = model 0; ideal = record { replicas = 2; parts = 1; mode = nobody_wanted }; dropped = false };
+  instance = instance 0;
+  there = refl;
+  shown = refl;
+  away = refl;
+  hop = record { session = session 1; instance = instance 0; part = db; from = slave; to = offline; place = 0 };
+  next = refl;
+  to = refl;
+}
 
 two_left : left_of moving ≡ 2
 two_left = refl

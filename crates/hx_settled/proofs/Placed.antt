@@ -45,10 +45,10 @@ or_true : (b : Bool) → (b || true) ≡ true
 or_true true = refl
 or_true false = refl
 
-nothing_left : (c : Cluster) (m : ModelParts) (r : Resource) (p : PartId) (e : SessionId × InstanceId) → is_target (view_at c) r p e ≡ false → steps_left m (target c.models (view_at c) r p e) ≡ 0
-nothing_left c m r p e none = one (row_of c.rows e.0 p) refl (is_wanted (wants_of (view_at c) r p.index) e.1) refl none
+pub no_target : (c : Cluster) (m : ModelParts) (r : Resource) (p : PartId) (e : SessionId × InstanceId) → is_target (view_at c) r p e ≡ false → is_at_goal m (target c.models (view_at c) r p e) ≡ true
+no_target c m r p e none = one (row_of c.rows e.0 p) refl (is_wanted (wants_of (view_at c) r p.index) e.1) refl none
   where
-    one : (o : Option Row) → row_of c.rows e.0 p ≡ o → (b : Bool) → is_wanted (wants_of (view_at c) r p.index) e.1 ≡ b → (is_some o || b) ≡ false → steps_left m (target c.models (view_at c) r p e) ≡ 0
+    one : (o : Option Row) → row_of c.rows e.0 p ≡ o → (b : Bool) → is_wanted (wants_of (view_at c) r p.index) e.1 ≡ b → (is_some o || b) ≡ false → is_at_goal m (target c.models (view_at c) r p e) ≡ true
     one (Some row) at b is none = absurd (let no_one : true ≡ false = none in cc)
     one None at true is none = absurd (let no_one : true ≡ false = none in cc)
     one None at false is none =
@@ -61,9 +61,11 @@ nothing_left c m r p e none = one (row_of c.rows e.0 p) refl (is_wanted (wants_o
         ∙ ap (λ (b : Bool). if b then dropped
         else if is_drained c.instances e.1 then (model_at c.models r.model).initial
         else wanted_goal (model_at c.models r.model) (view_at c) r p (wants_of (view_at c) r p.index) e.1) (or_true r.dropped) in
-        let at_goal : is_at_goal m (target c.models (view_at c) r p e) ≡ true
-        = (λ i. option_map_or (λ s. s.0 == (its_goal i).0) (state i) (((its_goal i).0 == m.initial.0) || ((its_goal i).0 == dropped.0))) ∙ or_true (dropped.0 == m.initial.0) in
-        ap (λ (b : Bool). if b then 0 else dist m (unwrap_or (state_of c.rows e.0 p) m.initial) (goal c.models (view_at c) r p e.0 e.1)) at_goal
+        (λ i. option_map_or (λ s. s.0 == (its_goal i).0) (state i) (((its_goal i).0 == m.initial.0) || ((its_goal i).0 == dropped.0))) ∙ or_true (dropped.0 == m.initial.0)
+
+nothing_left : (c : Cluster) (m : ModelParts) (r : Resource) (p : PartId) (e : SessionId × InstanceId) → is_target (view_at c) r p e ≡ false → steps_left m (target c.models (view_at c) r p e) ≡ 0
+nothing_left c m r p e none =
+    ap (λ (b : Bool). if b then 0 else dist m (unwrap_or (state_of c.rows e.0 p) m.initial) (goal c.models (view_at c) r p e.0 e.1)) (no_target c m r p e none)
 
 -- the sum over all targets is that over all places
 module _ (c : Cluster) where

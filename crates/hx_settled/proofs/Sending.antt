@@ -106,12 +106,16 @@ chosen_from {X} P takes chosen (x ∷ xs) old all = chosen_from P takes (with_ch
     one true = All-cons P x [] (All-head P x xs all) (All-nil P)
     one false = All-nil P
 
+pub all_sent : (models : List ModelParts) (rules : List Rule) (view : View) (P : Candidate → Type 0) → All P (all_candidates models view) → All P (throttled_of models rules view).sent
+all_sent models rules view P all =
+    chosen_from P (may_be_sent rules view) [] (accepted_of models view (all_candidates models view)) (All-nil P)
+    (chosen_from P (has_room models view) [] (all_candidates models view) (All-nil P) all)
+
 all_stay : (models : List ModelParts) (rules : List Rule) (view : View) → All (IsStaying view) (throttled_of models rules view).sent
 all_stay models rules view =
-    chosen_from (IsStaying view) (may_be_sent rules view) [] (accepted_of models view (all_candidates models view)) (All-nil (IsStaying view))
-    (chosen_from (IsStaying view) (has_room models view) [] (all_candidates models view) (All-nil (IsStaying view))
+    all_sent models rules view (IsStaying view)
     (all-sorted (IsStaying view) (comes_before models view) (filter_map (candidate_of models view) (all_targets models view))
-    (all-made (IsStaying view) (IsTargetOf models view) (candidate_of models view) (stays models view) (all_targets models view) (are_targets models view))))
+    (all-made (IsStaying view) (IsTargetOf models view) (candidate_of models view) (stays models view) (all_targets models view) (are_targets models view)))
 
 -- a board on which each shown session is live, and each replica as it was shown
 record IsAsShown (view : View) (b : Cluster) : Type 0 where

@@ -16,8 +16,12 @@ use Rattle.hx_cluster.specs.Safe.{IsSafe}
 use Rattle.hx_safe.proofs.Counting.{and-first, any-append, any-count, count-map, count-none, count-le}
 use Rattle.hx_covers.proofs.Viewing.{sessions_once}
 use Rattle.hx_lawful.proofs.Choosing.{pieces-once, numbers-once}
-use Rattle.hx_settled.specs.Places.{place_on, places_at, places_in, places_of, is_place}
+use Rattle.hx_settled.specs.Places.{Place, place_on, places_at, places_in, places_of}
 use Rattle.hx_settled.proofs.Moments.{shown_is_live}
+
+-- a session's place of a part
+abbrev pub is_place : SessionId → PartId → Place → Bool
+is_place s p x = (x.session.0 == s.0) && part_eq x.part p
 
 none-flat : {X Y : Type 0} (q : Y → Bool) (f : X → List Y) → ((x : X) → list_any q (f x) ≡ false) → (xs : List X) → list_any q (flat_map f xs) ≡ false
 none-flat q f none [] = refl

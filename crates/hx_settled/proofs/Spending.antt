@@ -27,11 +27,11 @@ use Rattle.hx_cluster.specs.Ranged.{IsRanged}
 use Rattle.hx_pass.specs.Explained.{view_at}
 use Rattle.hx_safe.proofs.Counting.{and-first, and-second, and-six, all-find, none-from-all}
 use Rattle.hx_safe.proofs.Ends.{session_same, part_same, put-other, put-here}
-use Rattle.hx_settled.specs.Places.{Place, places_of, tries_at, tries_of, tries_left, spent, is_spendable, is_place}
+use Rattle.hx_settled.specs.Places.{Place, places_of, tries_at, tries_of, tries_left, spent, is_spendable}
 use Rattle.hx_settled.proofs.Moments.{sound_of, view_formed}
 use Rattle.hx_settled.proofs.Hopping.{good_in, listed_plain, to_no_error}
 use Rattle.hx_settled.proofs.Summing.{sum-more}
-use Rattle.hx_settled.proofs.Single.{one_place}
+use Rattle.hx_settled.proofs.Single.{is_place, one_place}
 
 -- the model of a part that is there has no fault
 pub part_sound : (c : Cluster) → IsSafe c → IsRanged c → (p : PartId) → nat_lt p.index (parts_of c.resources p.resource) ≡ true → fault_of (model_of c.models c.resources p.resource) ≡ None

@@ -1,5 +1,5 @@
 -- Where replicas may be: each part on each live session.
-use Rattle.std.specs.Prelude.{ℕ, Bool, not, ◌==◌, ◌&&◌, ◌||◌, List, length, map, if◌then◌else◌}
+use Rattle.std.specs.Prelude.{ℕ, Bool, not, ◌==◌, ◌||◌, List, length, map, if◌then◌else◌}
 use Rattle.std.specs.List.{flat_map, list_any, sum_by}
 use Rattle.std.specs.Option.{option_map_or}
 use Rattle.hx_lists.specs.Lists.{numbers_below}
@@ -12,7 +12,7 @@ use Rattle.hx_cluster.specs.declared.state.Message.{Message}
 use Rattle.hx_cluster.specs.declared.happenings.Outcome.{Outcome}
 use Rattle.hx_cluster.specs.declared.happenings.Outcome.TheVariants as outcomes
 use Rattle.hx_cluster.specs.declared.state.Cluster.{Cluster}
-use Rattle.hx_cluster.specs.Ends.{part_eq, state_of, resource_at, model_of, parts_of}
+use Rattle.hx_cluster.specs.Ends.{state_of, resource_at, model_of, parts_of}
 use Rattle.hx_cluster.specs.Steps.{is_error, is_flag}
 use Rattle.hx_cluster.specs.Reads.{live_shown}
 use Rattle.hx_best.specs.Targets.{target}
@@ -74,7 +74,3 @@ abbrev pub is_spendable : Cluster → Message → Outcome → Bool
 is_spendable c m outcomes.Ok =
     not (m.from.0 == error.0) || list_any (is_flag m.session m.part) c.resets
 is_spendable c m outcomes.Failed = not (m.from.0 == error.0)
-
--- a session's place of a part
-abbrev pub is_place : SessionId → PartId → Place → Bool
-is_place s p x = (x.session.0 == s.0) && part_eq x.part p

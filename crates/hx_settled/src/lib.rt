@@ -2,7 +2,7 @@
 //! the definitions alone.
 #![tactic(auto)]
 
-ghost use Rattle.std.specs.Prelude.{◌≡◌, ◌≤◌, ◌+◌, ◌*◌, ◌==◌, ℕ, true, false};
+ghost use Rattle.std.specs.Prelude.{◌≡◌, ◌≤◌, ◌+◌, ◌*◌, ◌==◌, ◌&&◌, ℕ, true, false};
 ghost use Rattle.std.specs.Prelude.{List, [], length, Some, nat_le};
 ghost use Rattle.std.specs.List.{All, list_all, sum_by};
 ghost use Rattle.hx_lists.specs.Lists.{count};
@@ -23,7 +23,8 @@ ghost use Rattle.hx_cluster.specs.declared.description.Spec.{Spec};
 ghost use Rattle.hx_cluster.specs.declared.planning.Report.{Report};
 ghost use Rattle.hx_cluster.specs.declared.happenings.Event.{Event};
 ghost use Rattle.hx_cluster.specs.Valid.{has_no_fault};
-ghost use Rattle.hx_cluster.specs.Messages.{placed_all, pending_of, after_write};
+ghost use Rattle.hx_cluster.specs.Ends.{part_eq, state_of};
+ghost use Rattle.hx_cluster.specs.Messages.{placed_all, message_from, pending_of, after_write};
 ghost use Rattle.hx_cluster.specs.Events.{dispatched_of, next, replay, IsLegal};
 ghost use Rattle.hx_cluster.specs.Steps.{opening};
 ghost use Rattle.hx_cluster.specs.Valid.{IsValid};
@@ -35,7 +36,7 @@ ghost use Rattle.hx_best.specs.Goals.{is_in_error, goal};
 ghost use Rattle.hx_pass.specs.Turns.{turn_of, view_of};
 ghost use Rattle.hx_pass.specs.Left.{left_of};
 ghost use Rattle.hx_pass.specs.Explained.{view_at, IsExplained};
-ghost use Rattle.hx_pass.specs.Plans.{all_candidates, throttled_of, plan};
+ghost use Rattle.hx_pass.specs.Plans.{all_candidates, throttled_of, proposal, plan};
 ghost use Rattle.hx_covers.specs.Reading.{is_read};
 ghost use Rattle.hx_covers.specs.Gate.{Shows};
 ghost use Rattle.hx_control.specs.declared.PassOutcome.TheVariants as ends;
@@ -47,7 +48,7 @@ ghost use Rattle.hx_settled.specs.Hops.{HaveHops};
 ghost use Rattle.hx_settled.specs.Nothing.{IsAllFull};
 ghost use Rattle.hx_settled.specs.Places.{places_of, left_at, tries_left, is_spendable, spent};
 ghost use Rattle.hx_settled.specs.Resets.{LeavesErrorAsked};
-ghost use Rattle.hx_settled.specs.Ways.{is_target_for, IsOfItsTarget, IsOnItsWay};
+ghost use Rattle.hx_settled.specs.Ways.{is_target_for, IsOfItsTarget, IsOnItsWay, HasSameGoals};
 ghost use Rattle.hx_settled.specs.Standing.{IsCounted, read_at};
 
 /// What a cluster shows at one moment is well formed.
@@ -195,8 +196,30 @@ pub fn failures_and_resets_take_a_try()
         → tries_left c ≡ tries_left (after_write c s id outcome) + spent m outcome }
 {}
 
-/// A transition from another state than ERROR, along the hop of a target that isn't at its goal,
-/// leaves one transition less where it succeeds.
+/// Each message that a plan of one moment sends is on its way: its target isn't at its goal, and it
+/// leads where the target's next transition does.
+pub fn sent_messages_are_on_their_way()
+    ensures { (c : Cluster) (id : MsgId) → All (λ x. IsOnItsWay c (message_from c id (proposal x)))
+        (throttled_of c.models c.rules (view_at c)).sent }
+{}
+
+/// It stays so while its replica stands where it stood, and goals are what they were.
+pub fn messages_stay_on_their_way()
+    ensures { (c d : Cluster) (m : Message) → HasSameGoals c d
+        → state_of d.rows m.session m.part ≡ state_of c.rows m.session m.part
+        → IsOnItsWay c m → IsOnItsWay d m }
+{}
+
+/// The success of another replica's transition, from another state than ERROR, keeps it so.
+pub fn success_keeps_others_on_their_way()
+    ensures { (c : Cluster) (s : SessionId) (id : MsgId) (m x : Message) → IsSafe c → IsRanged c
+        → pending_of c s id ≡ Some m → m.written ≡ false → (m.from.0 == error.0) ≡ false
+        → ((x.session.0 == m.session.0) && part_eq x.part m.part) ≡ false
+        → IsOnItsWay c x → IsOnItsWay (after_write c s id outcomes.Ok) x }
+{}
+
+/// And the success of a message on its way, from another state than ERROR, leaves one transition
+/// less.
 pub fn success_on_the_way_leaves_one_less()
     ensures { (c : Cluster) (s : SessionId) (id : MsgId) (m : Message) → IsSafe c → IsRanged c
         → pending_of c s id ≡ Some m → m.written ≡ false → (m.from.0 == error.0) ≡ false
