@@ -1,1 +1,1 @@
-mod KeepsTurns
+pub mod KeepsTurns
