@@ -73,10 +73,10 @@ hop_elsewhere m s goal t e = one (t.0 == s.0) refl
         absurd (omega (arith, nearer, alike))
 
 -- the candidate of a target is of its session and part, and fits
-abbrev step_of : Target → StateId → StateId → Candidate
+abbrev pub step_of : Target → StateId → StateId → Candidate
 step_of t from to = record { session = t.session; instance = t.instance; part = t.part; from = from; to = to; place = t.place }
 
-made_of : (models : List ModelParts) (view : View) (t : Target) (x : Candidate) → candidate_of models view t ≡ Some x
+pub made_of : (models : List ModelParts) (view : View) (t : Target) (x : Candidate) → candidate_of models view t ≡ Some x
     → (to : StateId) × (x ≡ step_of t (unwrap_or t.state (model_of models view.ideals.resources t.part.resource).initial) to)
     × (hop (model_of models view.ideals.resources t.part.resource) (unwrap_or t.state (model_of models view.ideals.resources t.part.resource).initial) t.goal ≡ Some to)
     × (message_of view.mail t.session t.part ≡ None)

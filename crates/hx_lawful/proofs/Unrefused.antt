@@ -55,15 +55,15 @@ use Rattle.hx_lawful.proofs.Placing.{within_none, within_more}
 use Rattle.hx_lawful.proofs.Comparing.{HadRoom, had_room, sent_there}
 
 -- a board that a view shows, as far as it counts
-record IsBoard (models : List ModelParts) (rules : List Rule) (view : View) (b : Cluster) : Type 0 where
-  models_same : b.models ≡ models
-  rules_same : b.rules ≡ rules
-  shows : Shows b view
-  kept : IsKept b
-  counts : (p : PartId) (t : StateId) (limit : ℕ) → limit_at b p t ≡ Some limit → count_of b p t ≤ count_over (shown_sessions view) view.rows view.mail p t
-  loads : (r : Rule) (key : ℕ) → load_of b r key ≤ load_over view.live view.mail r key
+pub record IsBoard (models : List ModelParts) (rules : List Rule) (view : View) (b : Cluster) : Type 0 where
+  pub models_same : b.models ≡ models
+  pub rules_same : b.rules ≡ rules
+  pub shows : Shows b view
+  pub kept : IsKept b
+  pub counts : (p : PartId) (t : StateId) (limit : ℕ) → limit_at b p t ≡ Some limit → count_of b p t ≤ count_over (shown_sessions view) view.rows view.mail p t
+  pub loads : (r : Rule) (key : ℕ) → load_of b r key ≤ load_over view.live view.mail r key
 
-board_of : (models : List ModelParts) (rules : List Rule) (view : View) (b : Cluster) → b.models ≡ models → b.rules ≡ rules → Shows b view → IsKept b → IsBoard models rules view b
+pub board_of : (models : List ModelParts) (rules : List Rule) (view : View) (b : Cluster) → b.models ≡ models → b.rules ≡ rules → Shows b view → IsKept b → IsBoard models rules view b
 board_of models rules view b same alike shows k = record {
   models_same = same;
   rules_same = alike;
@@ -74,7 +74,7 @@ board_of models rules view b same alike shows k = record {
 }
 
 -- a candidate's replica has none before it
-none_before : (s : SessionId) (p : PartId) (before rest : List Candidate) (x : Candidate) → is_for s p x ≡ true → count (is_for s p) (before ++ x ∷ rest) ≤ 1 → list_any (is_for s p) before ≡ false
+pub none_before : (s : SessionId) (p : PartId) (before rest : List Candidate) (x : Candidate) → is_for s p x ≡ true → count (is_for s p) (before ++ x ∷ rest) ≤ 1 → list_any (is_for s p) before ≡ false
 none_before s p before rest x here most =
     let both = count-append (is_for s p) before (x ∷ rest) in
     none before (grind (arith, here, most, both))
@@ -103,7 +103,7 @@ answer_there models rules view b d before x board w fit nobody had =
         board.counts board.loads)
 
 -- and to all
-part_there : (models : List ModelParts) (view : View) (b d : Cluster) (before : List Candidate) (x : Candidate) → Shows b view → IsWithin view b d before → fits models view x ≡ true → has_part d x.part ≡ true
+pub part_there : (models : List ModelParts) (view : View) (b d : Cluster) (before : List Candidate) (x : Candidate) → Shows b view → IsWithin view b d before → fits models view x ≡ true → has_part d x.part ≡ true
 part_there models view b d before x shows w fit =
     let there = (fit_from models view x fit).part in
     ap (λ (rs : List Resource). nat_lt x.part.index (parts_of rs x.part.resource)) w.resources
@@ -156,7 +156,7 @@ plan_within b view before after safe ranged shows e =
     (whole_from (limit_at b) b safe ranged).kept (within_none view b)
 
 -- a pass that is raised changes nothing that a view shows
-shows_raised : (c : Cluster) (view : View) (k : ControllerId) → Shows c view → Shows (next_pass c k) view
+pub shows_raised : (c : Cluster) (view : View) (k : ControllerId) → Shows c view → Shows (next_pass c k) view
 shows_raised c view k shows = one (slice_get c.controllers k.0)
   where
     one : (o : Option (Bool × PassNo)) → Shows (raised_pass c k o) view
