@@ -81,7 +81,8 @@ fn push_instances(page: &mut Page, instances: &[u64]) -> Result<(), AllocError>
 /// Puts an array of preference lists at the end, each of the next number drawn after the seed.
 fn push_lists(page: &mut Page, seed: u64, size: u32) -> Result<(), AllocError>
     ensures { OnOk result
-        (page.new ≡ page.old ++ Made.array (map Made.instances_array (Made.lists_after seed size))) }
+        (page.new
+        ≡ page.old ++ Made.array (map Made.instances_array (Made.lists_after seed size))) }
 {
     page.push_str("[")?;
     let mut x = seed;
