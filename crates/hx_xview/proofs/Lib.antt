@@ -1,0 +1,4 @@
+pub mod Orders
+pub mod Spans
+pub mod Looked
+pub mod InOrder
