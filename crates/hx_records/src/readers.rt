@@ -2,11 +2,13 @@
 ghost use Rattle.std.specs.Prelude.{◌≡◌, ◌<◌, length, option_copied};
 ghost use Rattle.hx_cluster.specs.Ends.{state_of, message_of, resource_at};
 ghost use Rattle.hx_cluster.specs.Steps.{session_of, is_drained, is_leader, newest};
+ghost use Rattle.hx_cluster.specs.Steps.{has_instance, has_controller, is_in_range};
 ghost use Rattle.hx_cluster.specs.Reads.{pass_of};
+ghost use Rattle.hx_cluster.specs.Events.{is_proposable, is_postable};
 ghost use Rattle.hx_cluster.specs.Numbered.{IsNumbered};
 
 use crate::Records;
-use hx_cluster::{Message, Resource, Seen, state_on};
+use hx_cluster::{Admin, Message, Proposal, Resource, Seen, state_on};
 use hx_ids::{ControllerId, Epoch, InstanceId, PartId, PassNo, ResourceId, SessionId, StateId};
 
 impl Records {
@@ -86,5 +88,40 @@ impl Records {
         ensures { result.now ≡ self.now.posted }
     {
         self.rest.posted.as_slice()
+    }
+
+    /// Whether there is an instance.
+    pub fn has_instance(&self, instance: InstanceId) -> bool
+        ensures { result ≡ has_instance self.now instance }
+    {
+        self.rest.has_instance(instance)
+    }
+
+    /// Whether there is a controller.
+    pub fn has_controller(&self, controller: ControllerId) -> bool
+        ensures { result ≡ has_controller self.now controller }
+    {
+        self.rest.has_controller(controller)
+    }
+
+    /// Whether the ids of a step are in range, and an added resource has only empty lists or maps.
+    pub fn is_in_range(&self, step: &Admin) -> bool
+        ensures { result ≡ is_in_range self.now step.now }
+    {
+        self.rest.is_in_range(step)
+    }
+
+    /// Whether a proposal's part exists and its states have names.
+    pub fn is_proposable(&self, proposal: &Proposal) -> bool
+        ensures { result ≡ is_proposable self.now proposal.now }
+    {
+        self.rest.is_proposable(proposal)
+    }
+
+    /// Whether a posted row's instance and part exist and its state has a name.
+    pub fn is_postable(&self, row: &Seen) -> bool
+        ensures { result ≡ is_postable self.now row.now }
+    {
+        self.rest.is_postable(row)
     }
 }

@@ -1,0 +1,95 @@
+//! What controllers send.
+ghost use Rattle.std.specs.Prelude.{◌≡◌, ◌+◌, ◌*◌, true, length, IfOk, OnErr};
+ghost use Rattle.std.specs.List.{list_all};
+ghost use Rattle.hx_lists.specs.Answers.{RefusedAs, RefusedBy};
+ghost use Rattle.hx_cluster.specs.Steps.{has_controller};
+ghost use Rattle.hx_cluster.specs.Events.{dispatched_of, is_proposable};
+ghost use Rattle.hx_board.specs.Board.{happened, IsNumber};
+ghost use Rattle.hx_board.specs.Refusals.{dispatch_refusal};
+
+use crate::board::{Board, make_room, record};
+use crate::faults::DispatchRefusal;
+use hx_cluster::{Dispatched, Event, Proposal};
+use hx_ids::{ControllerId, Epoch, PassNo};
+use hx_lists::Seq;
+
+/// What a dispatch of so many proposals weighs, where that is a number of 64 bits.
+fn dispatch_weight(proposals: usize) -> Option<u64>
+    ensures { IsNumber result (1 + 4 * proposals) }
+{
+    let four = (proposals as u64).checked_mul(4)?;
+    four.checked_add(1)
+}
+
+impl Board {
+    /// What a dispatch weighs that isn't refused whole, or why it is.
+    fn sendable(
+        &self,
+        c: ControllerId,
+        epoch: Epoch,
+        pass: PassNo,
+        proposals: &[Proposal],
+    ) -> Result<u64, DispatchRefusal>
+        ensures refused { RefusedAs (dispatch_refusal self.now c epoch pass proposals.now) result }
+        ensures weight { IfOk result (λ weight. weight ≡ 1 + 4 * length proposals.now) }
+    {
+        let now = self.records.epoch();
+        if now != epoch {
+            return Err(DispatchRefusal::Fenced { now });
+        }
+        let now = self.records.pass_of(c);
+        if now != pass {
+            return Err(DispatchRefusal::OldPass { now });
+        }
+        let Some(weight) = dispatch_weight(proposals.len()) else {
+            return Err(DispatchRefusal::HistoryFull {
+                weight: self.weight,
+            });
+        };
+        match self.full(weight) {
+            Some(weight) => Err(DispatchRefusal::HistoryFull { weight }),
+            None => Ok(weight),
+        }
+    }
+
+    /// Places proposals in order, each by the first answer that fits, and ends the pass.
+    pub fn dispatch(
+        &mut self,
+        c: ControllerId,
+        epoch: Epoch,
+        pass: PassNo,
+        proposals: &[Proposal],
+    ) -> Result<Dispatched, DispatchRefusal>
+        requires controller { has_controller self.old.cluster c ≡ true }
+        requires proposals { list_all (is_proposable self.old.cluster) proposals.now ≡ true }
+        ensures refused { RefusedBy DispatchRefusal.OutOfMemory
+            (dispatch_refusal self.old c epoch pass proposals.now) result }
+        ensures answer { IfOk result (λ answer.
+            answer ≡ dispatched_of self.old.cluster c proposals.now) }
+        ensures ok { IfOk result (λ answer.
+            self.new ≡ happened self.old (Event.Dispatch c epoch pass proposals.now answer)) }
+        ensures err { OnErr result (self.new ≡ self.old) }
+    {
+        let weight = self.sendable(c, epoch, pass, proposals)?;
+        let count = proposals.len();
+        let coming = weight as usize - 1 - count;
+        make_room(&mut self.history, self.owed, 1 + coming)?;
+        let copy = Seq::from_slice(*self.lines.allocator(), proposals)?;
+        let space = Vec::with_capacity(*self.lines.allocator(), count)?;
+        let answer = self.records.dispatch(c, proposals)?;
+        let told = answer.copied_into(space);
+        record(
+            &mut self.history,
+            Event::Dispatch {
+                c,
+                epoch,
+                pass,
+                proposals: copy,
+                answer: told,
+            },
+        );
+        self.weight += weight;
+        self.owed += coming;
+        Ok(answer)
+    }
+}

@@ -1,0 +1,4 @@
+mod calls;
+mod fixtures;
+mod messages;
+mod steps;
