@@ -1,0 +1,4 @@
+pub mod Cells
+pub mod Best
+pub mod Marking
+pub mod Found

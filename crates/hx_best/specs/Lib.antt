@@ -1,3 +1,5 @@
 pub mod Wants
 pub mod Goals
 pub mod Targets
+pub mod Lookups
+pub mod Places

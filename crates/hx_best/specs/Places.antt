@@ -1,0 +1,64 @@
+-- The goals of the places of a resource.
+use Rattle.std.specs.Prelude.{◌≡◌, ℕ, List, length, map, Option, None, Some, if◌then◌else◌}
+use Rattle.hx_lists.specs.Lists.{numbers_below}
+use Rattle.hx_ids.specs.declared.SessionId.{SessionId}
+use Rattle.hx_ids.specs.declared.InstanceId.{InstanceId}
+use Rattle.hx_ids.specs.declared.StateId.{StateId}
+use Rattle.hx_ids.specs.declared.PartId.{PartId}
+use Rattle.hx_model.specs.declared.ModelParts.{ModelParts}
+use Rattle.hx_cluster.specs.declared.description.Resource.{Resource}
+use Rattle.hx_cluster.specs.declared.planning.View.{View}
+use Rattle.hx_cluster.specs.declared.planning.Target.{Target}
+use Rattle.hx_cluster.specs.declared.state.Row.{Row}
+use Rattle.hx_cluster.specs.Ends.{model_at}
+use Rattle.hx_parts.specs.Parts.{items_at}
+use Rattle.hx_best.specs.Lookups.{cell_of}
+use Rattle.hx_best.specs.declared.marks.Mark.{Mark}
+use Rattle.hx_best.specs.Wants.{Wants, Listed, Mapped, wants_of, is_wanted, place_in}
+use Rattle.hx_best.specs.Goals.{best_state, wanted_goal}
+use Rattle.hx_best.specs.Targets.{is_target, target}
+
+-- the states of the places below the number of replicas
+abbrev pub best_states : ModelParts → ℕ → ℕ → List StateId
+best_states m replicas live = map (best_state m replicas live) (numbers_below replicas)
+
+-- a resource in a view, with the models
+pub record Placing : Type 0 where
+  pub models : List ModelParts
+  pub view : View
+  pub resource : Resource
+
+abbrev pub model_in : Placing → ModelParts
+model_in x = model_at x.models x.resource.model
+
+abbrev pub wants_at : Placing → PartId → Wants
+wants_at x p = wants_of x.view x.resource p.index
+
+-- its initial state, and the states of its places
+pub record IsPlaced (x : Placing) (initial : StateId) (best : List StateId) : Type 0 where
+  pub first : initial ≡ (model_in x).initial
+  pub states : best ≡ best_states (model_in x) x.resource.ideal.replicas (length x.view.live)
+
+-- where a part is wanted on an instance: the place, and the goal of a replica that isn't in ERROR, if the instance isn't drained
+abbrev pub mark_of : Placing → PartId → Wants → InstanceId → Option Mark
+mark_of x p wants i =
+    if is_wanted wants i then Some (record { place = place_in wants i; goal = wanted_goal (model_in x) x.view x.resource p wants i }) else None
+
+-- the place of where a part isn't wanted
+abbrev pub place_past : Wants → ℕ
+place_past (Listed list) = length list
+place_past (Mapped map) = 0
+
+-- what is shown of a part
+pub record IsShownAt (x : Placing) (p : PartId) (rows : List Row) (resets : List (SessionId × PartId)) : Type 0 where
+  pub stand : rows ≡ items_at (λ r. r.part) p x.view.rows
+  pub asked : resets ≡ items_at (λ f. f.1) p x.view.ideals.resets
+
+-- marks of where a part is wanted
+pub record IsMarked (x : Placing) (p : PartId) (wants : Wants) (cells : List (Option Mark)) (past : ℕ) : Type 0 where
+  pub each : (i : InstanceId) → cell_of cells i ≡ mark_of x p wants i
+  pub behind : past ≡ place_past wants
+
+-- the target of a shown session, if there is one
+abbrev pub target_at : Placing → PartId → SessionId × InstanceId → Option Target
+target_at x p e = if is_target x.view x.resource p e then Some (target x.models x.view x.resource p e) else None

@@ -1,0 +1,176 @@
+//! The targets of a resource.
+ghost use Rattle.std.specs.Prelude.{◌≡◌, ◌||◌, ◌++◌, [], IfOk, OnOk, if◌then◌else◌};
+ghost use Rattle.std.specs.List.{flat_map, cons_option};
+ghost use Rattle.std.specs.Option.{option_map_or, is_some};
+ghost use Rattle.hx_best.specs.Goals.{goal as goal_of};
+ghost use Rattle.hx_best.specs.Targets.{targets_at, targets_in};
+ghost use Rattle.hx_best.specs.Targets.{targets as all_of};
+ghost use Rattle.hx_best.specs.Places.{mark_of, wants_at, place_past, target_at, IsMarked};
+
+use crate::lookups::Index;
+use crate::marks::{Mark, Shown};
+use crate::places::Places;
+use crate::tables::cell;
+use hx_cluster::{Target, View};
+use hx_ids::{InstanceId, PartId, ResourceId, SessionId, StateId};
+use hx_model::{DROPPED, ERROR, Model};
+use std::alloc::{AllocError, Global};
+
+impl Shown<'_> {
+    /// The goal of a session's replica, by the mark of its instance.
+    fn goal(&self, session: SessionId, instance: InstanceId, mark: Option<Mark>) -> StateId
+        requires { mark ≡ mark_of self.now.0 self.now.1 (wants_at self.now.0 self.now.1) instance }
+        ensures { result
+            ≡ goal_of self.now.0.models self.now.0.view self.now.0.resource self.now.1 session
+            instance }
+    {
+        let places = self.places();
+        if self.is_in_error(session) {
+            return if self.is_asked(session) {
+                places.initial()
+            } else {
+                ERROR
+            };
+        }
+        if places.resource().dropped {
+            return DROPPED;
+        }
+        match mark {
+            Some(mark) => {
+                if places.index().is_drained(instance) {
+                    places.initial()
+                } else {
+                    mark.goal
+                }
+            }
+            None => DROPPED,
+        }
+    }
+
+    /// The place of an instance, by its mark, or that of where the part isn't wanted.
+    fn place(&self, mark: Option<Mark>, past: u32) -> u32
+        ensures { result
+            ≡ (if self.now.0.resource.dropped then 0 else option_map_or (λ m. m.place) mark past) }
+    {
+        if self.places().resource().dropped {
+            return 0;
+        }
+        match mark {
+            Some(mark) => mark.place,
+            None => past,
+        }
+    }
+
+    /// The target of a shown session, if it has a row or one is wanted on its instance.
+    fn target(
+        &self,
+        shown: (SessionId, InstanceId),
+        mark: Option<Mark>,
+        past: u32,
+    ) -> Option<Target>
+        requires marked { mark
+            ≡ mark_of self.now.0 self.now.1 (wants_at self.now.0 self.now.1) shown.1 }
+        requires behind { past ≡ place_past (wants_at self.now.0 self.now.1) }
+        ensures { result ≡ target_at self.now.0 self.now.1 shown }
+    {
+        let state = self.state_of(shown.0);
+        if !is_one(state, mark) {
+            return None;
+        }
+        Some(Target {
+            session: shown.0,
+            instance: shown.1,
+            part: self.part(),
+            state,
+            goal: self.goal(shown.0, shown.1, mark),
+            place: self.place(mark, past),
+        })
+    }
+
+    /// Adds the targets of the part, in order of instance.
+    fn push_targets(
+        &self,
+        cells: &[Option<Mark>],
+        past: u32,
+        found: &mut Vec<Target>,
+    ) -> Result<(), AllocError>
+        requires { IsMarked self.now.0 self.now.1 (wants_at self.now.0 self.now.1) cells.now past }
+        ensures { OnOk result (
+            found.new.items
+            ≡ found.old.items
+            ++ targets_at self.now.0.models self.now.0.view self.now.0.resource self.now.1) }
+    {
+        for shown in self.places().index().live() {
+            let mark = cell(cells, shown.1);
+            push_some(found, self.target(*shown, mark, past))?;
+        }
+        Ok(())
+    }
+}
+
+/// Whether a replica stands or is wanted.
+fn is_one(state: Option<StateId>, mark: Option<Mark>) -> bool
+    ensures { result ≡ (is_some state || is_some mark) }
+{
+    state.is_some() || mark.is_some()
+}
+
+fn push_some(found: &mut Vec<Target>, target: Option<Target>) -> Result<(), AllocError>
+    ensures { OnOk result (found.new.items ≡ found.old.items ++ cons_option target []) }
+{
+    match target {
+        Some(target) => {
+            found.push(target)?;
+            Ok(())
+        }
+        None => Ok(()),
+    }
+}
+
+/// The targets of a resource, by partition, then instance.
+fn targets_of(
+    alloc: Global,
+    places: &Places<'_>,
+    resource: ResourceId,
+) -> Result<Vec<Target>, AllocError>
+    ensures { IfOk result (λ found.
+        found.items ≡ targets_in places.now.models places.now.view resource places.now.resource) }
+{
+    let mut found = Vec::new(alloc);
+    let mut cells = Vec::new(alloc);
+    for index in 0..places.resource().ideal.parts() {
+        let shown = Shown::of(&*places, PartId { resource, index });
+        cells.clear();
+        let past = shown.mark(alloc, &mut cells)?;
+        shown.push_targets(cells.as_slice(), past, &mut found)?;
+    }
+    Ok(found)
+}
+
+/// The targets of a resource over an index of the view. The index may serve all resources.
+pub fn targets_on(
+    alloc: Global,
+    models: &[Model],
+    index: &Index<'_>,
+    resource: ResourceId,
+) -> Result<Vec<Target>, AllocError>
+    ensures { IfOk result (λ found. found.items ≡ all_of models.now index.now resource) }
+{
+    match index.view().ideals.resources.get(resource.0 as usize) {
+        Some(shown) => targets_of(alloc, &Places::of(alloc, &*index, models, shown)?, resource),
+        None => Ok(Vec::new(alloc)),
+    }
+}
+
+/// The targets of a resource: its replicas on shown sessions, and the places where it has none and
+/// one is wanted, by partition, then instance.
+pub fn targets(
+    alloc: Global,
+    models: &[Model],
+    view: &View,
+    resource: ResourceId,
+) -> Result<Vec<Target>, AllocError>
+    ensures { IfOk result (λ found. found.items ≡ all_of models.now view.now resource) }
+{
+    targets_on(alloc, models, &Index::of(alloc, view)?, resource)
+}
