@@ -1,1 +1,5 @@
 mod KeepsTurns
+mod Staged
+mod Making
+mod Going
+mod Few
