@@ -1,4 +1,5 @@
-mod KeepsTurns
+pub mod KeepsTurns
+pub mod Proposed
 mod Staged
 mod Making
 mod Going

@@ -1,3 +1,3 @@
-mod Brought
-mod BroughtByTurns
-mod BroughtByLines
+pub mod Brought
+pub mod BroughtByTurns
+pub mod BroughtByLines

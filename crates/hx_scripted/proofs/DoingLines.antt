@@ -1,0 +1,391 @@
+-- What lines of a script, and whole scripts, do keeps what holds of a world. So their histories are lawful.
+use Rattle.std.proofs.Common.{◌≡◌, ℕ, zero, suc, ◌+◌, ◌==◌, Bool, true, false, List, [], ◌∷◌, ◌++◌, map, length, refl, sym, ap, ◌∙◌, subst, arith}
+use Rattle.std.specs.Prelude.{Option, None, Some, not, nat_lt, if◌then◌else◌, slice_index_or, replicate}
+use Rattle.std.specs.List.{list_all}
+use Rattle.hx_lists.specs.Lists.{numbers_from}
+use Rattle.hx_ids.specs.declared.InstanceId.{InstanceId}
+use Rattle.hx_ids.specs.declared.ControllerId.{ControllerId}
+use Rattle.hx_ids.specs.declared.SessionId.{SessionId}
+use Rattle.hx_ids.specs.declared.MsgId.{MsgId}
+use Rattle.hx_ids.specs.declared.ResourceId.{ResourceId}
+use Rattle.hx_ids.specs.declared.StateId.{StateId}
+use Rattle.hx_ids.specs.declared.Live.{Live}
+use Rattle.hx_cluster.specs.declared.description.Spec.{Spec}
+use Rattle.hx_cluster.specs.declared.state.Message.{Message}
+use Rattle.hx_cluster.specs.declared.state.Cluster.{Cluster}
+use Rattle.hx_cluster.specs.declared.planning.Report.{Report}
+use Rattle.hx_cluster.specs.declared.happenings.Admin.{Admin}
+use Rattle.hx_cluster.specs.declared.happenings.Admin.TheVariants as steps
+use Rattle.hx_cluster.specs.declared.happenings.Did.TheVariants as dids
+use Rattle.hx_cluster.specs.declared.happenings.Event.{Event}
+use Rattle.hx_cluster.specs.declared.happenings.Event.TheVariants as events
+use Rattle.hx_cluster.specs.declared.happenings.Mail.{Mail}
+use Rattle.hx_cluster.specs.declared.happenings.StepFault.{StepFault}
+use Rattle.hx_cluster.specs.Ends.{shown_of}
+use Rattle.hx_cluster.specs.Steps.{opening, refusal_of, did_of, has_instance, is_in_range, session_of}
+use Rattle.hx_cluster.specs.Reads.{instance_before, live_shown, messages_for, fetched}
+use Rattle.hx_cluster.specs.Events.{replay, is_later, can_take, can_write, can_ack}
+use Rattle.hx_cluster.specs.Valid.{IsValid}
+use Rattle.hx_pass.specs.Lawful.{IsLawful}
+use Rattle.hx_print.specs.declared.Note.TheVariants as notes
+use Rattle.hx_print.specs.Texts.{view_line, view_of_part, viewed_parts}
+use Rattle.hx_replicas.specs.declared.DeliverFault.{DeliverFault}
+use Rattle.hx_replicas.specs.Participants.{new_participant, slot_of, deliver_fault, accept, accepted_by, makes, hand_out}
+use Rattle.hx_script.specs.declared.What.{What}
+use Rattle.hx_script.specs.declared.What.TheVariants as asks
+use Rattle.hx_script.specs.declared.Line.{Line}
+use Rattle.hx_script.specs.Asked.{step_asked}
+use Rattle.hx_script.specs.Ranges as Ranges
+use Rattle.hx_control.specs.declared.PassOutcome.{PassOutcome}
+use Rattle.hx_control.specs.declared.PassOutcome.TheVariants as ends
+use Rattle.hx_control.specs.Controllers.{idle_controller}
+use Rattle.hx_sim.specs.World.{State, Job, participant_of, with_participant}
+use Rattle.hx_sim.specs.Runs.{Run, Deed, state_of, Voice, Quiet, Loud, done, gives, and_then, happened, for_each}
+use Rattle.hx_sim.specs.Jobs
+use Rattle.hx_sim.specs.Settles
+use Rattle.hx_sim.specs.Scripts
+use Rattle.hx_sim.proofs.BroughtByLines.{prints_its_history}
+use Rattle.hx_safe.proofs.Counting.{and-first, and-second, all-map, all-le, all-find}
+use Rattle.hx_safe.proofs.Whole.{length-replicate}
+use Rattle.hx_covers.proofs.Sorting.{all-sort}
+use Rattle.hx_lawful.specs.Holding.{HoldsOfLawful}
+use Rattle.hx_lawful.proofs.Holding.{holds_of_lawful}
+use Rattle.hx_scripted.specs.OfHistory.{is_fetched, has_fetched, IsTurnOf, IsOfItsHistory}
+use Rattle.hx_scripted.proofs.Standing.{ranged_there, fixed_there, idle_there, scripted_other}
+use Rattle.hx_scripted.proofs.Lines.{step-line, write-line}
+use Rattle.hx_scripted.proofs.Asked.{IsAskedWell, instance_there, asked_well}
+use Rattle.hx_scripted.proofs.Keeping.{Keeps, keeps_on, keeps_then, keeps_each, keeps_those, keeps_gives, keeps_more, keeps_after, happens, happens_then, makes_then, done_then, line_then, choice}
+use Rattle.hx_scripted.proofs.Taking.{jobs_there, job_ended, adopted_there, history_kept, bagged_there, fetch_fetched, handed_there, put_back_there, accepted_there, accepted_fetched, participant_there}
+use Rattle.hx_scripted.proofs.DoingTurns.{Stands, keeps_line, keeps_note, keeps_loud, keeps_entries, keeps_begin, keeps_pass, keeps_unasked, keeps_word, keeps_read}
+
+-- a fetch leaves the history as it is
+fetched_history : (is_same : Bool) (i : InstanceId) (mail : Mail) (x : State)
+    → (Jobs.bagged mail.messages (if is_same then x else Jobs.adopt_in i mail.session x)).world.history ≡ x.world.history
+fetched_history true i mail x = refl
+fetched_history false i mail x = history_kept (Jobs.jobs_of i x) x
+
+module _ (spec : Spec) (valid : IsValid spec) (last : Option ℕ) where
+  -- a fetch
+  mail_taken : (is_same : Bool) (i : InstanceId) (mail : Mail) (x : State) → Stands spec last x → list_all (is_fetched spec x.world.history) mail.messages ≡ true
+      → Stands spec last (Jobs.bagged mail.messages (if is_same then x else Jobs.adopt_in i mail.session x))
+  mail_taken true i mail x s all = bagged_there spec last mail.messages x s all
+  mail_taken false i mail x s all =
+      bagged_there spec last mail.messages (Jobs.adopt_in i mail.session x) (adopted_there spec last i mail.session x s)
+      (subst (λ (h : List Event). list_all (is_fetched spec h) mail.messages ≡ true) (sym (history_kept (Jobs.jobs_of i x) x)) all)
+
+  fetch_happens : (i : InstanceId) (x : State) → Ranges.has_instance spec i ≡ true → Stands spec last x
+      → Stands spec last (happened (events.Fetch i (session_of x.world.cluster i) (length (messages_for x.world.cluster (session_of x.world.cluster i)))) x)
+  fetch_happens i x there s =
+      let c = x.world.cluster in
+      let e : Event = events.Fetch i (session_of c i) (length (messages_for c (session_of c i))) in
+      scripted_other spec last last x.world e (happened e x).world.weight s (instance_there spec c i (fixed_there spec last x.world s) there, refl, refl) tt s.line (λ k. refl)
+
+  mail_fetched : (i : InstanceId) (x : State) → Stands spec last x
+      → list_all (is_fetched spec (x.world.history ++ events.Fetch i (session_of x.world.cluster i) (length (messages_for x.world.cluster (session_of x.world.cluster i))) ∷ []))
+      (messages_for x.world.cluster (session_of x.world.cluster i)) ≡ true
+  mail_fetched i x s =
+      subst (λ (c : Cluster). list_all (is_fetched spec (x.world.history ++ events.Fetch i (session_of c i) (length (messages_for c (session_of c i))) ∷ [])) (messages_for c (session_of c i)) ≡ true)
+      (sym s.of.cluster)
+      (let c = replay (opening spec) x.world.history in fetch_fetched spec x.world.history i (session_of c i) (length (messages_for c (session_of c i))))
+
+  fetched_then : (i : InstanceId) (x : State) (g : State → Deed) → Ranges.has_instance spec i ≡ true → Stands spec last x
+      → ((y : State) → Stands spec last y → list_all (is_fetched spec y.world.history) (fetched x.world.cluster i).messages ≡ true → Keeps (Stands spec last) (g y))
+      → Keeps (Stands spec last) (and_then (Jobs.fetch_mail i (fetched x.world.cluster i) x) g)
+  fetched_then i x g there s next =
+      let mail = fetched x.world.cluster i in
+      let e : Event = events.Fetch i mail.session (length mail.messages) in
+      let y = happened e x in
+      let b = Jobs.same_session (participant_of y.world i).session mail.session in
+      let all = mail_fetched i x s in
+      done_then (Stands spec last) e x (λ y. Jobs.fetched_as i mail y) g s
+      (next (Jobs.fetched_as i mail y) (mail_taken b i mail y (fetch_happens i x there s) all)
+      (subst (λ (h : List Event). list_all (is_fetched spec h) mail.messages ≡ true) (sym (fetched_history b i mail y)) all))
+
+  fetch_done : (i : InstanceId) (x : State) → Ranges.has_instance spec i ≡ true → Stands spec last x → Keeps (Stands spec last) (Jobs.do_fetch i x)
+  fetch_done i x there s =
+      let mail = fetched x.world.cluster i in
+      let e : Event = events.Fetch i mail.session (length mail.messages) in
+      let y = happened e x in
+      happens_then (Stands spec last) e x (λ y. done (Jobs.fetched_as i mail y)) s
+      (record { left = mail_taken (Jobs.same_session (participant_of y.world i).session mail.session) i mail y (fetch_happens i x there s) (mail_fetched i x s) })
+
+  -- deliveries
+  delivered : (v : Voice) (i : InstanceId) (m : Message) (f : Option DeliverFault) (x : State) → Stands spec last x → is_fetched spec x.world.history m ≡ true
+      → Keeps (Stands spec last) (Jobs.delivered v i m f x)
+  delivered v i m (Some f) x s is = keeps_note spec valid last v _ x s
+  delivered v i m None x s is =
+      keeps_loud spec valid last v 1 _ (with_participant i (accept (participant_of x.world i) m) x) (accepted_there spec last i m x s is)
+
+  from_bag : (v : Voice) (i : InstanceId) (id : MsgId) (o : Option Message) (x : State) → Stands spec last x → Jobs.in_bag id x ≡ o → Keeps (Stands spec last) (Jobs.deliver_from_bag v i o x)
+  from_bag v i id None x s is = keeps_note spec valid last v _ x s
+  from_bag v i id (Some m) x s is = delivered v i m _ x s (all-find (is_fetched spec x.world.history) (λ m. m.id.0 == id.0) x.world.bag m s.of.bag is)
+
+  delivered_then : (i : InstanceId) (m : Message) (f : Option DeliverFault) (x : State) (g : State → Deed) → Stands spec last x → is_fetched spec x.world.history m ≡ true
+      → ((y : State) → y.world.history ≡ x.world.history → Stands spec last y → Keeps (Stands spec last) (g y)) → Keeps (Stands spec last) (and_then (Jobs.delivered Quiet i m f x) g)
+  delivered_then i m (Some f) x g s is next = keeps_after (Stands spec last) [] (g x) (next x refl s)
+  delivered_then i m None x g s is next =
+      let y = with_participant i (accept (participant_of x.world i) m) x in
+      keeps_after (Stands spec last) [] (g y) (next y refl (accepted_there spec last i m x s is))
+
+  all_delivered : (i : InstanceId) (ms : List Message) (x : State) → Stands spec last x → list_all (is_fetched spec x.world.history) ms ≡ true
+      → Keeps (Stands spec last) (for_each (Jobs.deliver Quiet i) ms x)
+  all_delivered i [] x s all = record { left = s }
+  all_delivered i (m ∷ ms) x s all =
+      delivered_then i m (deliver_fault (participant_of x.world i) m) x (λ y. for_each (Jobs.deliver Quiet i) ms y) s
+      (and-first (is_fetched spec x.world.history m) (list_all (is_fetched spec x.world.history) ms) all)
+      (λ y same there. all_delivered i ms y there
+      (subst (λ (h : List Event). list_all (is_fetched spec h) ms ≡ true) (sym same) (and-second (is_fetched spec x.world.history m) (list_all (is_fetched spec x.world.history) ms) all)))
+
+  -- an answer that is used up, and a job that ran
+  answer_used : (is : Bool) (x : State) → Stands spec last x → Stands spec last (Jobs.if_answered is x)
+  answer_used true x s = s
+  answer_used false x s = s
+
+  answer_history : (is : Bool) (x : State) → (Jobs.if_answered is x).world.history ≡ x.world.history
+  answer_history true x = refl
+  answer_history false x = refl
+
+  job_ran : (i : InstanceId) (m : Message) (handler : Option ℕ) (x : State) → Stands spec last x → Stands spec last (Jobs.ran i m handler x)
+  job_ran i m handler x s =
+      let y = Jobs.if_answered (Jobs.runs_handler m handler) x in
+      jobs_there spec last y.world (y.world.jobs ++ Jobs.job_run i m handler x ∷ []) (answer_used (Jobs.runs_handler m handler) x s)
+
+  -- takes, writes and acknowledgements
+  job_taken : (v : Voice) (i : InstanceId) (m : Message) (handler : Option ℕ) (x : State) → Stands spec last x → is_fetched spec x.world.history m ≡ true
+      → Keeps (Stands spec last) (Jobs.take_job v i m handler x)
+  job_taken v i m handler x s is =
+      let e : Event = events.Take m.session m.id in
+      choice (Stands spec last) (can_take x.world.cluster m.session m.id) _ _
+      (λ can. makes_then (Stands spec last) e x (λ y. done (Jobs.ran i m handler y))
+      (record { left = job_ran i m handler (happened e x) (scripted_other spec last last x.world e (happened e x).world.weight s can is s.line (λ k. refl)) }))
+      (λ can. keeps_note spec valid last v _ (Jobs.put_back i m handler x) (put_back_there spec last i m handler x s))
+
+  taken : (v : Voice) (i : InstanceId) (id : MsgId) (o : Option Message) (x : State) → Stands spec last x → accepted_by (participant_of x.world i) id ≡ o
+      → Keeps (Stands spec last) (Jobs.take_accepted v i o x)
+  taken v i id None x s is = keeps_note spec valid last v _ x s
+  taken v i id (Some m) x s is =
+      let is_faulted = Jobs.fails_to_make i m x in
+      let made = makes (slot_of (participant_of x.world i) m.part) m in
+      let out = with_participant i (hand_out (participant_of x.world i) m is_faulted) x in
+      job_taken v i m (Jobs.handler_of i m is_faulted x) (Jobs.if_answered made out) (answer_used made out (handed_there spec last i m is_faulted x s))
+      (subst (λ (h : List Event). is_fetched spec h m ≡ true) (sym (answer_history made out))
+      (accepted_fetched spec x.world.history (participant_of x.world i) id m (participant_there spec last x.world i s) is))
+
+  written : (v : Voice) (j : Option Job) (x : State) → Stands spec last x → Keeps (Stands spec last) (Jobs.write_job v j x)
+  written v None x s = keeps_note spec valid last v _ x s
+  written v (Some j) x s =
+      let e : Event = events.Write j.message.session j.message.id j.outcome in
+      let y = happened e x in
+      choice (Stands spec last) j.is_written _ _ (λ is. keeps_note spec valid last v _ x s)
+      (λ is. choice (Stands spec last) (can_write x.world.cluster j.message.session j.message.id) _ _
+      (λ can. makes_then (Stands spec last) e x (λ y. done (Jobs.with_written j.instance j.message.id y))
+      (record {
+        left = jobs_there spec last y.world (map (Jobs.as_written_job j.instance j.message.id) y.world.jobs)
+            (scripted_other spec last last x.world e y.world.weight s can tt (write-line x.world.cluster j.message.session j.message.id j.outcome ∙ s.line) (λ k. refl));
+      }))
+      (λ can. keeps_note spec valid last v notes.SessionEnded (Jobs.end_job j x) (job_ended spec last j x s)))
+
+  acked : (v : Voice) (j : Option Job) (x : State) → Stands spec last x → Keeps (Stands spec last) (Jobs.ack_job v j x)
+  acked v None x s = keeps_note spec valid last v _ x s
+  acked v (Some j) x s =
+      let e : Event = events.Ack j.message.session j.message.id in
+      choice (Stands spec last) (not j.is_written) _ _ (λ is. keeps_note spec valid last v _ x s)
+      (λ is. choice (Stands spec last) (can_ack x.world.cluster j.message.session j.message.id) _ _
+      (λ can. makes_then (Stands spec last) e x (λ y. done (Jobs.end_job j y))
+      (record { left = job_ended spec last j (happened e x) (scripted_other spec last last x.world e (happened e x).world.weight s can tt s.line (λ k. refl)) }))
+      (λ can. keeps_note spec valid last v notes.SessionEnded (Jobs.end_job j x) (job_ended spec last j x s)))
+
+  carried : (i : InstanceId) (id : MsgId) (x : State) → Stands spec last x → Keeps (Stands spec last) (Jobs.carry i id x)
+  carried i id x s = keeps_then (Stands spec last) _ _ (written Quiet _ x s) (λ y there. acked Quiet _ y there)
+
+  message_run : (i : InstanceId) (m : Message) (x : State) → Stands spec last x → Keeps (Stands spec last) (Jobs.run_message i m x)
+  message_run i m x s = keeps_then (Stands spec last) _ _ (taken Quiet i m.id _ x s refl) (λ y there. carried i m.id y there)
+
+  work_done : (i : InstanceId) (x : State) → Ranges.has_instance spec i ≡ true → Stands spec last x → Keeps (Stands spec last) (Jobs.do_work i x)
+  work_done i x there s =
+      keeps_then (Stands spec last) _ _
+      (keeps_each (Stands spec last) (λ j y. Jobs.carry i j.message.id y) (λ j y here. carried i j.message.id y here) (Jobs.jobs_of i x) x s) (λ y here.
+      keeps_then (Stands spec last) _ _
+      (fetched_then i y (λ z. for_each (Jobs.deliver Quiet i) (fetched y.world.cluster i).messages z) there here (λ z now all. all_delivered i (fetched y.world.cluster i).messages z now all))
+      (λ z now. keeps_each (Stands spec last) (Jobs.run_message i) (λ m u so. message_run i m u so) _ z now))
+
+  -- settles
+  live_instances : (x : State) → Stands spec last x → list_all (Ranges.has_instance spec) (map (λ e. e.1) (live_shown x.world.cluster)) ≡ true
+  live_instances x s =
+      let c = x.world.cluster in
+      let instances : length c.instances ≡ length spec.instances = (fixed_there spec last x.world s).instances ∙ length-replicate (length spec.instances) false in
+      all-map (Ranges.has_instance spec) (λ (e : SessionId × InstanceId). e.1) (live_shown c)
+      ∙ all-sort (λ (e : SessionId × InstanceId). Ranges.has_instance spec e.1) instance_before (shown_of c.live)
+      ∙ all-map (λ (e : SessionId × InstanceId). Ranges.has_instance spec e.1) (λ (l : Live). (l.session, l.instance)) c.live
+      ∙ all-le (λ (l : Live). has_instance c l.instance) (λ (l : Live). Ranges.has_instance spec l.instance) (λ (l : Live) (is : has_instance c l.instance ≡ true). ap (nat_lt l.instance.0) (sym instances) ∙ is) c.live
+      (ranged_there spec last x.world valid s).live
+
+  all_worked : (x : State) → Stands spec last x → Keeps (Stands spec last) (Settles.work_all x)
+  all_worked x s = keeps_those (Stands spec last) (Ranges.has_instance spec) Jobs.do_work (λ i y there here. work_done i y there here) (map (λ e. e.1) (live_shown x.world.cluster)) x (live_instances x s) s
+
+  round_ended : (n : ℕ) (o : Option PassOutcome) (f : State → Run Settles.Settled) → ((x : State) → Stands spec last x → Keeps (Stands spec last) (f x)) → (x : State) → Stands spec last x
+      → Keeps (Stands spec last) (Settles.unless_settled n o f x)
+  round_ended n None f k x s = keeps_then (Stands spec last) _ _ (all_worked x s) k
+  round_ended n (Some (ends.Sent sent)) f k x s = keeps_then (Stands spec last) _ _ (all_worked x s) k
+  round_ended n (Some (ends.Waiting pending)) f k x s = keeps_then (Stands spec last) _ _ (all_worked x s) k
+  round_ended n (Some (ends.Moved from to)) f k x s = keeps_then (Stands spec last) _ _ (all_worked x s) k
+  round_ended n (Some (ends.Settled report)) f k x s = record { left = s }
+
+  rounds_made : (m : ℕ) (k : ControllerId) (n : ℕ) (x : State) → Stands spec last x → Keeps (Stands spec last) (Settles.rounds m k n x)
+  rounds_made zero k n x s = record { left = s }
+  rounds_made (suc m) k n x s =
+      keeps_on (Stands spec last) _ _ (keeps_pass spec valid last Quiet k x s) (λ o y there. round_ended (n + 1) o (λ z. Settles.rounds m k (n + 1) z) (λ z here. rounds_made m k (n + 1) z here) y there)
+
+  settled : (k : Option ControllerId) (x : State) → Stands spec last x → Keeps (Stands spec last) (Settles.settle_led k x)
+  settled None x s = record { left = s }
+  settled (Some k) x s =
+      keeps_on (Stands spec last) _ (λ o y. gives y (Some o)) (rounds_made (Settles.enough_rounds x.world.cluster) k 0 x s)
+      (λ o y there. keeps_gives (Stands spec last) y (Some o) there)
+
+  report_lines : (r : Option Report) (x : State) → Stands spec last x → Keeps (Stands spec last) (Settles.say_report r x)
+  report_lines None x s = record { left = s }
+  report_lines (Some report) x s = keeps_entries spec valid last report.entries x s
+
+  settle_told : (v : Voice) (k : Option ControllerId) (o : Option Settles.Settled) (x : State) → Stands spec last x → Keeps (Stands spec last) (Settles.tell_settle v k o x)
+  settle_told v None o x s = keeps_note spec valid last v _ x s
+  settle_told v (Some k) None x s = keeps_note spec valid last v _ x s
+  settle_told v (Some k) (Some o) x s = keeps_then (Stands spec last) _ _ (keeps_line spec valid last 1 _ x s) (λ y there. report_lines o.report y there)
+
+  settle_done : (v : Voice) (x : State) → Stands spec last x → Keeps (Stands spec last) (Settles.do_settle v x)
+  settle_done v x s = keeps_on (Stands spec last) _ _ (settled _ x s) (λ o y there. settle_told v x.world.cluster.leader o y there)
+
+  -- steps
+  step_happens : (step : Admin) (x : State) → is_in_range x.world.cluster step ≡ true → refusal_of x.world.cluster step ≡ None → Stands spec last x
+      → Stands spec last (happened (events.Admin step (did_of x.world.cluster step)) x)
+  step_happens step x well is s =
+      let e : Event = events.Admin step (did_of x.world.cluster step) in
+      scripted_other spec last last x.world e (happened e x).world.weight s (well, is, refl) tt (step-line x.world.cluster step ∙ s.line) (λ k. refl)
+
+  stepped : (v : Voice) (step : Admin) (f : Option StepFault) (x : State) → refusal_of x.world.cluster step ≡ f → is_in_range x.world.cluster step ≡ true → Stands spec last x
+      → Keeps (Stands spec last) (Scripts.stepped v step f x)
+  stepped v step (Some f) x is well s = keeps_note spec valid last v _ x s
+  stepped v step None x is well s = happens (Stands spec last) (events.Admin step (did_of x.world.cluster step)) x s (step_happens step x well is s)
+
+  asked : (v : Voice) (step : Option Admin) (x : State) → IsAskedWell x.world.cluster step → Stands spec last x → Keeps (Stands spec last) (Scripts.do_asked v step x)
+  asked v None x well s = keeps_note spec valid last v _ x s
+  asked v (Some step) x well s = stepped v step _ x refl well s
+
+  died : (v : Voice) (i : InstanceId) (f : Option StepFault) (x : State) → refusal_of x.world.cluster (steps.End i) ≡ f → is_in_range x.world.cluster (steps.End i) ≡ true → Stands spec last x
+      → Keeps (Stands spec last) (Scripts.died v i f x)
+  died v i (Some f) x is well s = keeps_note spec valid last v _ x s
+  died v i None x is well s =
+      let e : Event = events.Admin (steps.End i) dids.Done in
+      happens_then (Stands spec last) e x (λ y. done (Jobs.adopt_in i None y)) s (record { left = adopted_there spec last i None (happened e x) (step_happens (steps.End i) x well is s) })
+
+  view_done : (x : State) → Stands spec last x → Keeps (Stands spec last) (Scripts.do_view x)
+  view_done x s =
+      keeps_each (Stands spec last) (λ p y. Scripts.say_view_of p (view_of_part y.world.cluster p) y)
+      (λ p y there. keeps_line spec valid last (1 + length (view_of_part y.world.cluster p)) (view_line y.world.spec y.world.cluster.resources p (view_of_part y.world.cluster p)) y there)
+      (viewed_parts x.world.cluster) x s
+
+  routed : (v : Voice) (index : ℕ) (t : StateId) (r : Option ResourceId) (x : State) → Stands spec last x → Keeps (Stands spec last) (Scripts.route_on v index t r x)
+  routed v index t None x s = keeps_note spec valid last v _ x s
+  routed v index t (Some r) x s = keeps_line spec valid last _ _ x s
+
+  what_done : (v : Voice) (what : What) (x : State) → Ranges.is_in_range spec what ≡ true → Stands spec last x → Keeps (Stands spec last) (Scripts.do_what v what x)
+  what_done v (asks.Die i) x is s = died v i _ x refl (instance_there spec x.world.cluster i (fixed_there spec last x.world s) is) s
+  what_done v (asks.Begin k) x is s = keeps_unasked spec valid last _ (keeps_begin spec valid last v k x s)
+  what_done v (asks.Read k kind) x is s = keeps_read spec valid last v k kind x s
+  what_done v (asks.Send k) x is s = keeps_word spec valid last v k _ x s
+  what_done v (asks.Post k) x is s = keeps_word spec valid last v k _ x s
+  what_done v (asks.Pass k) x is s = keeps_unasked spec valid last _ (keeps_pass spec valid last v k x s)
+  what_done v (asks.Fetch i) x is s = fetch_done i x is s
+  what_done v (asks.Deliver i id) x is s = from_bag v i id _ x s refl
+  what_done v (asks.Take i id) x is s = taken v i id _ x s refl
+  what_done v (asks.Write i id) x is s = written v _ x s
+  what_done v (asks.Ack i id) x is s = acked v _ x s
+  what_done v (asks.Work i) x is s = work_done i x is s
+  what_done v asks.Settle x is s = settle_done v x s
+  what_done v asks.View x is s = view_done x s
+  what_done v (asks.Route name part state) x is s = routed v part state _ x s
+  what_done v asks.Summary x is s = keeps_line spec valid last 1 _ x s
+  what_done v what x is s = asked v (step_asked x.world.cluster what) x (asked_well spec x.world.cluster what valid (fixed_there spec last x.world s) is) s
+
+-- it holds of a state after some line
+record HasStood (spec : Spec) (x : State) : Type 0 where
+  pub last : Option ℕ
+  pub stands : Stands spec last x
+
+-- lines, one after the other
+line_happens : (spec : Spec) (last : Option ℕ) (l : Line) (x : State) → is_later last l.number ≡ true → Stands spec last x → Stands spec (Some l.number) (happened (events.Line l.number) x)
+line_happens spec last l x later s =
+    let e : Event = events.Line l.number in
+    scripted_other spec last (Some l.number) x.world e (happened e x).world.weight s (ap (λ (o : Option ℕ). is_later o l.number) s.line ∙ later) tt refl (λ k. refl)
+
+lines_done : (spec : Spec) → IsValid spec → (last : Option ℕ) (ls : List Line) (x : State) → Scripts.are_next_lines spec last ls ≡ true → Stands spec last x
+    → Keeps (HasStood spec) (for_each Scripts.do_line ls x)
+lines_done spec valid last [] x all s = record { left = record { last = last; stands = s } }
+lines_done spec valid last (l ∷ ls) x all s =
+    let first = and-first (Scripts.is_next_line spec last l) (Scripts.are_next_lines spec (Some l.number) ls) all in
+    let later = and-first (is_later last l.number) (Ranges.is_line_in_range spec l) first in
+    let ranged = and-second (is_later last l.number) (Ranges.is_line_in_range spec l) first in
+    line_then (Stands spec (Some l.number)) (HasStood spec) (events.Line l.number) x (λ y. Scripts.do_what (Loud l.number) l.what y) (λ y. for_each Scripts.do_line ls y)
+    (record { last = last; stands = s })
+    (what_done spec valid (Some l.number) (Loud l.number) l.what (happened (events.Line l.number) x) ranged (line_happens spec last l x later s))
+    (λ y there. record { last = Some l.number; stands = there })
+    (λ y there. lines_done spec valid (Some l.number) ls y (and-second (Scripts.is_next_line spec last l) (Scripts.are_next_lines spec (Some l.number) ls) all) there)
+
+-- the opening
+idle_listed : (a n j k : ℕ) → k ≡ a + j → slice_index_or (map (λ i. idle_controller (record { 0 = i })) (numbers_from a n)) j (idle_controller (record { 0 = k })) ≡ idle_controller (record { 0 = k })
+idle_listed a zero j k same = refl
+idle_listed a (suc n) zero k same = let here : a ≡ k = omega arith in ap (λ (i : ℕ). idle_controller (record { 0 = i })) here
+idle_listed a (suc n) (suc j) k same = idle_listed (a + 1) n j k (omega arith)
+
+many_listed : (a n : ℕ) → length (map (λ i. idle_controller (record { 0 = i })) (numbers_from a n)) ≡ n
+many_listed a zero = refl
+many_listed a (suc n) = let more = many_listed (a + 1) n in omega arith
+
+none_accepted : (spec : Spec) (n : ℕ) → list_all (has_fetched spec []) (replicate n new_participant) ≡ true
+none_accepted spec zero = refl
+none_accepted spec (suc n) = none_accepted spec n
+
+opening_stands : (spec : Spec) → Stands spec None (Scripts.opening_state spec)
+opening_stands spec = record {
+  of = record {
+    given = refl;
+    lawful = (tt, tt);
+    cluster = refl;
+    controllers = many_listed 0 spec.controllers;
+    turns = λ k. subst (IsTurnOf spec [] k) (sym (idle_listed 0 spec.controllers k.0 k.0 (omega arith))) (idle_there spec [] k);
+    bag = refl;
+    accepted = none_accepted spec (length spec.instances);
+  };
+  line = refl;
+}
+
+-- a whole script
+script_done : (spec : Spec) → IsValid spec → (lines : List Line) → Scripts.are_next_lines spec None lines ≡ true → Keeps (HasStood spec) (Scripts.sim_run spec lines)
+script_done spec valid lines all =
+    keeps_then (HasStood spec) (for_each Scripts.do_line lines (Scripts.opening_state spec)) Scripts.do_view
+    (lines_done spec valid None lines (Scripts.opening_state spec) all (opening_stands spec))
+    (λ y there. keeps_more (Stands spec there.last) (HasStood spec) (Scripts.do_view y) (view_done spec valid there.last y there.stands) (λ z here. record { last = there.last; stands = here }))
+
+-- what a script, a line and a settle leave
+pub lawful_scripts : (spec : Spec) (lines : List Line) → IsValid spec → Scripts.are_next_lines spec None lines ≡ true → IsLawful spec (Scripts.sim_history spec lines)
+lawful_scripts spec lines valid all =
+    subst (λ (h : List Event). IsLawful spec h) (prints_its_history spec lines) (script_done spec valid lines all).left.stands.of.lawful
+
+pub line_left : (spec : Spec) (l : Line) (x : State) → IsValid spec → IsOfItsHistory spec x.world → Scripts.is_next_line spec x.world.cluster.line l ≡ true
+    → IsOfItsHistory spec (state_of (Scripts.do_line l x)).world
+line_left spec l x valid of next =
+    let last = x.world.cluster.line in
+    let s : Stands spec last x = record { of = of; line = refl } in
+    let later = and-first (is_later last l.number) (Ranges.is_line_in_range spec l) next in
+    let ranged = and-second (is_later last l.number) (Ranges.is_line_in_range spec l) next in
+    let k = what_done spec valid (Some l.number) (Loud l.number) l.what (happened (events.Line l.number) x) ranged (line_happens spec last l x later s) in
+    (happens_then (HasStood spec) (events.Line l.number) x (λ y. Scripts.do_what (Loud l.number) l.what y) (record { last = last; stands = s })
+    (keeps_more (Stands spec (Some l.number)) (HasStood spec) (Scripts.do_what (Loud l.number) l.what (happened (events.Line l.number) x)) k (λ y there. record { last = Some l.number; stands = there }))).left.stands.of
+
+pub settle_left : (spec : Spec) (x : State) → IsValid spec → IsOfItsHistory spec x.world → IsOfItsHistory spec (state_of (Settles.settle x)).world
+settle_left spec x valid of = (settled spec valid x.world.cluster.line x.world.cluster.leader x (record { of = of; line = refl })).left.of
+
+-- and what holds at each place of a script's history
+pub holds_of_scripts : (spec : Spec) (lines : List Line) (h more : List Event) → IsValid spec → Scripts.are_next_lines spec None lines ≡ true → Scripts.sim_history spec lines ≡ h ++ more
+    → HoldsOfLawful spec h
+holds_of_scripts spec lines h more valid all is =
+    holds_of_lawful spec h more valid (subst (λ (es : List Event). IsLawful spec es) is (lawful_scripts spec lines valid all))
