@@ -1,11 +1,13 @@
 -- A board has at most as many live sessions as instances, which are few.
-use Rattle.std.proofs.Common.{◌≡◌, ℕ, ◌+◌, ◌≤◌, ◌<◌, ◌==◌, Bool, true, false, List, [], ◌∷◌, length, map, filter, refl, ap, ◌∙◌, subst, suc, arith, length-map}
+use Rattle.std.proofs.Common.{◌≡◌, ℕ, ◌+◌, ◌≤◌, ◌<◌, ◌==◌, Bool, true, false, List, [], ◌∷◌, length, map, filter, refl, ap, ◌∙◌, subst, suc, arith}
 use Rattle.std.specs.Prelude.{nat_lt}
+use Rattle.std.proofs.lemmas.List.{length-map}
 use Rattle.std.specs.List.{list_any, list_all, IsDistinct, AllByRecursion}
 use Rattle.std.proofs.lemmas.Bool.Decides.{nat_tests}
 use Rattle.std.proofs.lemmas.Map.Keys.{IsDistinct-cons}
 use Rattle.std.proofs.lemmas.Map.Steps.{length-le_from_distinct_below}
 use Rattle.hx_lists.specs.Lists.{count, insert_by, sort_by}
+use Rattle.hx_ids.specs.declared.SessionId.{SessionId}
 use Rattle.hx_ids.specs.declared.InstanceId.{InstanceId}
 use Rattle.hx_ids.specs.declared.Live.{Live as Beating}
 use Rattle.hx_cluster.specs.declared.state.Cluster.{Cluster}
@@ -26,14 +28,12 @@ length-sort : {X : Type 0} (before : X → X → Bool) (xs : List X) → length 
 length-sort before [] = refl
 length-sort before (x ∷ xs) = length-insert before x (sort_by before xs) ∙ ap suc (length-sort before xs)
 
-numbers_of : List Beating → List ℕ
-numbers_of live = map (λ l. l.instance.0) live
-
 others : (i : InstanceId) (live : List Beating) → count (is_of i) live ≤ 0 → AllByRecursion (λ n. eqb i.0 n ≡ false) (map (λ l. l.instance.0) live)
 others i [] few = tt
 others i (l ∷ live) few = (grind (arith, nat_tests, few), others i live (grind (arith, few)))
 
 distinct : (live : List Beating) → ((i : InstanceId) → count (is_of i) live ≤ 1) → IsDistinct eqb (map (λ l. l.instance.0) live)
+unfolding IsDistinct
 distinct [] single = tt
 distinct (l ∷ live) single =
     let rest : count (is_of l.instance) live ≤ 0 = grind (arith, nat_tests, single l.instance) in
@@ -49,7 +49,7 @@ few_in c safe ranged =
     let some : length (map (λ l. l.instance.0) c.live) ≤ length c.instances =
     length-le_from_distinct_below (map (λ l. l.instance.0) c.live) (length c.instances) (distinct c.live safe.sessions.instances) (below (length c.instances) c.live ranged.live) in
     let few : length c.instances ≤ 64 = grind (arith, nat_tests, ranged.instances) in
-    omega (arith, some, few, length-map c.live (λ l. l.instance.0), length-sort instance_before (shown_of c.live), length-map c.live (λ l. (l.session, l.instance)))
+    omega (arith, some, few, length-map c.live (λ l. l.instance.0), length-sort instance_before (shown_of c.live), length-map {B = SessionId × InstanceId} c.live (λ l. (l.session, l.instance)))
 
 pub few_live : (b : Held) → HasHistory b → length (live_shown b.cluster) ≤ 64
 few_live b told =

@@ -1,5 +1,5 @@
 -- How the reads of a kept turn go on.
-use Rattle.std.proofs.Common.{◌≡◌, ℕ, ◌+◌, ◌<◌, ◌⊎◌, true, List, [], ◌∷◌, ◌++◌, length, drop, map, get_or, Option, None, Some, refl, sym, ap, ◌∙◌, subst, add-one, arith, drop-cons}
+use Rattle.std.proofs.Common.{◌≡◌, ℕ, ◌+◌, ◌<◌, ◌⊎◌, true, List, [], ◌∷◌, ◌++◌, length, drop, map, get_or, Option, None, Some, refl, sym, ap, ◌∙◌, subst, append_assoc, add-one, arith, drop-cons}
 use Rattle.std.specs.Prelude.{Result, Ok, Err}
 use Rattle.hx_ids.specs.declared.SessionId.{SessionId}
 use Rattle.hx_ids.specs.declared.InstanceId.{InstanceId}
@@ -24,7 +24,11 @@ use Rattle.hx_control.specs.Steps.{read_step, step_of}
 use Rattle.hx_control.specs.Turning.{calls_after_mail, left_of, controller}
 use Rattle.hx_control.specs.Faults.{of_read}
 use Rattle.hx_control.specs.Made.{Tries}
-use Rattle.hx_control.proofs.Making.{with_turn, read_tried, read_refused, live_turn, mail_turn, states_turn, ideals_turn, next_step}
+use Rattle.hx_control.proofs.Making.{read_tried, live_turn, next_step}
+
+-- the calls behind the read of live
+pub all_left : (live : List (SessionId × InstanceId)) (left : List Call) → left ≡ map (λ e. Mail e.0) live ++ calls_after_mail live → left ≡ calls_after_live live
+all_left live left is = is ∙ sym (append_assoc (map (λ e. Mail e.0) live) (map (λ e. States e.0) live) (Ideals ∷ Send ∷ Post ∷ []))
 
 module _ (spec : Spec) (b d : Held) (a : Inside) where
   live_gone : has_controller b.cluster a.id ≡ true → left_of a.next a.view.live ≡ Live ∷ [] → read_refusal b a.id a.begun.pass ≡ None

@@ -4,3 +4,5 @@ mod Staged
 mod Making
 mod Going
 mod Few
+mod Given
+mod Keeping

@@ -1,5 +1,5 @@
 -- What a controller's step makes of it and of the board.
-use Rattle.std.specs.Prelude.{◌≡◌, ◌++◌, ◌∷◌, [], Option, None, Some, Result, IfOk, IfErr, OnErr}
+use Rattle.std.specs.Prelude.{◌≡◌, Bool, true, false, Option, None, Some, Result, IfOk, IfErr, OnErr, if◌then◌else◌}
 use Rattle.hx_lists.specs.Answers.{RefusedBy}
 use Rattle.hx_cluster.specs.Weight.{weight_of}
 use Rattle.hx_board.specs.Board.{Held, happened}
@@ -38,10 +38,13 @@ pub record Tries (step : Step) (b d : Held) (x y : Controller) (result : Result 
   pub kept : OnErr result ((d ≡ b) × (y ≡ x))
 
 -- a fault ends the turn, unless it is for want of memory or of room
+abbrev pub ends_turn : ControlFault → Bool
+ends_turn (faults.HistoryFull weight) = false
+ends_turn faults.OutOfMemory = false
+ends_turn _ = true
+
 abbrev pub after_fault : Controller → ControlFault → Controller
-after_fault x (faults.HistoryFull weight) = x
-after_fault x faults.OutOfMemory = x
-after_fault x _ = idle_controller x.id
+after_fault x fault = if ends_turn fault then idle_controller x.id else x
 
 -- a step is taken: it is tried, and a fault of its own ends the turn
 pub record Takes (step : Step) (b d : Held) (x y : Controller) (result : Result (Option PassOutcome) ControlFault) : Type 0 where

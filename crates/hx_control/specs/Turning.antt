@@ -1,8 +1,9 @@
 -- How a controller's turn is kept: by the call that comes next, and what was shown.
-use Rattle.std.specs.Prelude.{ℕ, ◌<◌, ◌^◌, List, [], ◌∷◌, ◌++◌, length, drop, map}
+use Rattle.std.specs.Prelude.{ℕ, ◌<◌, ◌^◌, List, [], ◌∷◌, ◌++◌, length, drop, map, Some}
 use Rattle.hx_ids.specs.declared.SessionId.{SessionId}
 use Rattle.hx_ids.specs.declared.InstanceId.{InstanceId}
-use Rattle.hx_pass.specs.Turns.{Call, Live, Mail, States, Ideals, Send, Post, calls_after_live}
+use Rattle.hx_cluster.specs.declared.planning.Plan.{Plan}
+use Rattle.hx_pass.specs.Turns.{Call, Live, Mail, States, Ideals, Send, Post}
 use Rattle.hx_control.specs.declared.controller.Next.{Next}
 use Rattle.hx_control.specs.declared.controller.Next.TheVariants as nexts
 use Rattle.hx_control.specs.declared.controller.Controller.TheInside.{Inside}
@@ -28,6 +29,9 @@ controller a = record {
   turn = record { left = left_of a.next a.view.live; begun = a.begun; view = a.view };
   plan = a.plan;
 }
+
+abbrev pub with_plan : Controller → Plan → Controller
+with_plan x p = record x { plan = Some p }
 
 -- a session is left whose mail, or whose states, are read next
 abbrev pub IsLeft : Next → ℕ → Type 0

@@ -13,6 +13,9 @@ ghost use Rattle.hx_control.specs.OfBoard.{OfBoard, StepKeeps, is_own};
 mod controller;
 mod faults;
 mod reads;
+mod sends;
+mod steps;
+mod views;
 
 pub use controller::Controller;
 use hx_cluster::Report;
