@@ -1,8 +1,10 @@
 pub mod KeepsTurns
 pub mod Proposed
+pub mod Numbers
+pub mod Given
+pub mod Sending
+pub mod Keeping
 mod Staged
 mod Making
 mod Going
 mod Few
-mod Given
-mod Keeping

@@ -3,6 +3,7 @@ ghost use Rattle.std.specs.Prelude.{◌≡◌, ◌+◌, ◌<◌, ◌^◌, None, 
 ghost use Rattle.hx_lists.specs.Lists.{count};
 ghost use Rattle.hx_lists.specs.Answers.{RefusedBy};
 ghost use Rattle.hx_cluster.specs.Steps.{has_controller};
+ghost use Rattle.hx_cluster.specs.declared.happenings.Event.TheVariants as events;
 ghost use Rattle.hx_cluster.specs.Events.{dispatched_of};
 ghost use Rattle.hx_pass.specs.Plans.{plan as plan_of};
 ghost use Rattle.hx_board.specs.Board.{happened};
@@ -59,6 +60,7 @@ impl Controller {
     }
 
     /// Makes the plan of what was shown.
+    #[tactic(auto, using(crate::proofs::Sending::view_formed))]
     pub(crate) fn make_plan(
         &mut self,
         spec: &Spec,
@@ -82,6 +84,7 @@ impl Controller {
 
     /// Dispatches what a plan proposes. More than 4,294,967,295 proposals or messages are want of
     /// memory.
+    #[tactic(auto, using(crate::proofs::Sending::proposals_fit, crate::proofs::Sending::placed_each))]
     fn dispatch(
         &self,
         spec: &Spec,
@@ -101,7 +104,7 @@ impl Controller {
             (answer ≡ dispatched_of board.old.cluster self.now.id plan.now.proposals)
             × (board.new
             ≡ happened board.old
-            (Event.Dispatch self.now.id self.now.turn.begun.epoch
+            (events.Dispatch self.now.id self.now.turn.begun.epoch
             self.now.turn.begun.pass plan.now.proposals answer))) }
         ensures few { IfOk result (λ answer.
             (length answer.placed < 2 ^ 32) × (length self.now.turn.view.mail < 2 ^ 32)) }
@@ -148,6 +151,7 @@ impl Controller {
     }
 
     /// Posts the rows that were shown, and ends the turn.
+    #[tactic(auto, using(crate::proofs::Sending::rows_fit))]
     pub(crate) fn post(
         &mut self,
         spec: &Spec,

@@ -53,6 +53,7 @@ impl Controller {
     /// Makes the next step of the turn, with the description of the board, which is also the one
     /// that its plan was made with, and the hops of its models. A fault ends the turn, unless it is
     /// want of memory or of room.
+    #[tactic(auto, using(crate::proofs::Keeping::keeps_of_board))]
     pub fn step(
         &mut self,
         spec: &Spec,

@@ -15,6 +15,5 @@ pub fn plan(alloc: Global, spec: &Spec, hops: &[Hops], view: &View) -> Result<Pl
     requires view { is_well_formed spec.now.models (length spec.now.instances) view.now ≡ true }
     ensures { IfOk result (λ plan. plan ≡ plan_of spec.now.models spec.now.rules view.now) }
 {
-    let _ = (alloc, spec, hops, view);
     Err(AllocError)
 }
