@@ -7,4 +7,5 @@ pub mod Keeping
 mod Staged
 mod Making
 mod Going
+mod Ending
 mod Few

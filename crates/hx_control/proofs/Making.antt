@@ -57,6 +57,16 @@ full_same b n made of same = one (nat_lt b.limit (weight_at b + n))
     one true = ap Some (same (weight_at b))
     one false = refl
 
+refused_so : {E : Type 0} (of : E → ControlFault) (memory : E) (refusal : Option E) (fault : Option ControlFault) → option_map of refusal ≡ fault
+    → of memory ≡ faults.OutOfMemory → (e : E) → (e ≡ memory) ⊎ (refusal ≡ Some e) → (of e ≡ faults.OutOfMemory) ⊎ (fault ≡ Some (of e))
+refused_so of memory refusal fault same wants e (inl is) = inl (ap of is ∙ wants)
+refused_so of memory refusal fault same wants e (inr is) = inr (sym same ∙ ap (option_map of) is)
+
+pub tried_in_vain : {E : Type 0} (of : E → ControlFault) (memory : E) (refusal : Option E) (step : Step) (b d : Held) (x y : Controller) → option_map of refusal ≡ step_fault b step
+    → of memory ≡ faults.OutOfMemory → (e : E) → (e ≡ memory) ⊎ (refusal ≡ Some e) → d ≡ b → y ≡ x → Tries step b d x y (Err (of e))
+tried_in_vain of memory refusal step b d x y same wants e why board turn =
+    record { refused = refused_so of memory refusal (step_fault b step) same wants e why; made = tt; kept = (board, turn) }
+
 pub tried_well : {E : Type 0} (of : E → ControlFault) (refusal : Option E) (step : Step) (b d : Held) (x y : Controller) (outcome : Option PassOutcome)
     → option_map of refusal ≡ step_fault b step → refusal ≡ None → IsMade step b d x y outcome → Tries step b d x y (Ok outcome)
 tried_well of refusal step b d x y outcome same none made = record { refused = sym same ∙ ap (option_map of) none; made = made; kept = tt }
