@@ -1,6 +1,6 @@
 -- How a kept turn makes its plan, sends it and posts.
-use Rattle.std.proofs.Common.{◌≡◌, ℕ, ◌+◌, ◌⊎◌, inl, inr, ◌&&◌, ◌==◌, not, Bool, true, false, List, [], ◌∷◌, length, drop, Option, None, Some, refl, sym, ap, ◌∙◌, subst, arith}
-use Rattle.std.specs.Prelude.{Result, Ok, Err, option_map, if◌then◌else◌}
+use Rattle.std.proofs.Common.{◌≡◌, ◌+◌, ◌⊎◌, inr, ◌&&◌, not, Bool, true, false, List, [], ◌∷◌, length, drop, Option, None, Some, refl, sym, ap, ◌∙◌, subst, arith}
+use Rattle.std.specs.Prelude.{Ok, Err, option_map, if◌then◌else◌}
 use Rattle.std.proofs.lemmas.Bool.Decides.{nat_tests}
 use Rattle.hx_cluster.specs.declared.description.Spec.{Spec}
 use Rattle.hx_cluster.specs.declared.state.Cluster.{Cluster}
@@ -12,7 +12,7 @@ use Rattle.hx_cluster.specs.declared.happenings.Event.TheVariants as events
 use Rattle.hx_cluster.specs.Reads.{pass_of}
 use Rattle.hx_cluster.specs.Events.{dispatched_of, is_epoch, is_pass}
 use Rattle.hx_pass.specs.Plans.{plan}
-use Rattle.hx_pass.specs.Turns.{Call, Send, Post, Turn, idle_turn, is_due, is_of_epoch, if_due, gone_on, when_own, turn_after, posted_of}
+use Rattle.hx_pass.specs.Turns.{Send, Post, idle_turn, is_due, is_of_epoch, if_due, gone_on, turn_after, posted_of}
 use Rattle.hx_board.specs.Board.{Held, happened}
 use Rattle.hx_board.specs.Refusals.{full, post_refusal}
 use Rattle.hx_board.specs.declared.faults.PostRefusal.{PostRefusal}
@@ -24,11 +24,11 @@ use Rattle.hx_control.specs.declared.ControlFault.TheVariants as faults
 use Rattle.hx_control.specs.declared.controller.Next.TheVariants as nexts
 use Rattle.hx_control.specs.declared.controller.Controller.TheInside.{Inside}
 use Rattle.hx_control.specs.Controllers.{Controller, idle_controller}
-use Rattle.hx_control.specs.Steps.{Step, Calls, Plans, Refuses, is_of_cluster, of_cluster, outcome_of, dispatch_step, planned_step, post_step, step_of, after_step}
+use Rattle.hx_control.specs.Steps.{Step, Calls, Plans, Refuses, is_of_cluster, of_cluster, outcome_of, dispatch_step, planned_step, post_step, step_of}
 use Rattle.hx_control.specs.OfBoard.{IsPlanOf}
-use Rattle.hx_control.specs.Turning.{left_of, controller, with_plan}
+use Rattle.hx_control.specs.Turning.{controller, with_plan}
 use Rattle.hx_control.specs.Faults.{of_post}
-use Rattle.hx_control.specs.Made.{step_fault, IsMade, Tries}
+use Rattle.hx_control.specs.Made.{step_fault, Tries}
 use Rattle.hx_control.proofs.Making.{if_true, own, with_turn, call_made, full_same, tried_in_vain, tried_well, due, next_step}
 
 pub planned_of : (spec : Spec) (a : Inside) (x : Controller) (p : Plan) → controller a ≡ x → Some p ≡ a.plan → IsPlanOf spec x.turn x.plan → p ≡ plan spec.models spec.rules a.view

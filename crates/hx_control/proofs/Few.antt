@@ -1,5 +1,5 @@
 -- A board has at most as many live sessions as instances, which are few.
-use Rattle.std.proofs.Common.{◌≡◌, ℕ, ◌+◌, ◌≤◌, ◌<◌, ◌==◌, Bool, true, false, List, [], ◌∷◌, length, map, filter, refl, ap, ◌∙◌, subst, suc, arith}
+use Rattle.std.proofs.Common.{◌≡◌, ℕ, ◌≤◌, ◌<◌, Bool, true, false, List, [], ◌∷◌, length, map, refl, ap, ◌∙◌, subst, suc, arith}
 use Rattle.std.specs.Prelude.{nat_lt}
 use Rattle.std.proofs.lemmas.List.{length-map}
 use Rattle.std.specs.List.{list_any, list_all, IsDistinct, AllByRecursion}
@@ -12,7 +12,7 @@ use Rattle.hx_ids.specs.declared.InstanceId.{InstanceId}
 use Rattle.hx_ids.specs.declared.Live.{Live as Beating}
 use Rattle.hx_cluster.specs.declared.state.Cluster.{Cluster}
 use Rattle.hx_cluster.specs.Ends.{shown_of}
-use Rattle.hx_cluster.specs.Steps.{opening, is_of, has_instance}
+use Rattle.hx_cluster.specs.Steps.{is_of}
 use Rattle.hx_cluster.specs.Reads.{live_shown, instance_before}
 use Rattle.hx_cluster.specs.Safe.{IsSafe}
 use Rattle.hx_cluster.specs.Ranged.{IsRanged}

@@ -1,17 +1,12 @@
 -- What a board has of its description.
-use Rattle.std.proofs.Common.{◌≡◌, ℕ, ◌≤◌, ◌<◌, Bool, true, List, length, refl, ap, ◌∙◌, subst, arith}
+use Rattle.std.proofs.Common.{◌≡◌, ℕ, length, ap, ◌∙◌, subst, arith}
 use Rattle.std.specs.Prelude.{nat_lt, take}
 use Rattle.std.specs.List.{list_all}
 use Rattle.std.proofs.lemmas.Bool.Decides.{nat_tests}
 use Rattle.std.proofs.lemmas.List.{length-take}
-use Rattle.hx_ids.specs.declared.InstanceId.{InstanceId}
-use Rattle.hx_ids.specs.declared.StateId.{StateId}
-use Rattle.hx_cluster.specs.declared.description.Spec.{Spec}
 use Rattle.hx_cluster.specs.declared.state.Cluster.{Cluster}
-use Rattle.hx_cluster.specs.Steps.{opening, has_instance}
-use Rattle.hx_cluster.specs.Events.{replay, has_state_name}
 use Rattle.hx_cluster.specs.Ranged.{IsRanged}
-use Rattle.hx_cluster.specs.Valid.{IsValid, is_valid_model}
+use Rattle.hx_cluster.specs.Valid.{is_valid_model}
 use Rattle.hx_safe.proofs.Whole.{reached_ranged}
 use Rattle.hx_board.specs.Board.{Held, HasHistory}
 use Rattle.hx_board.proofs.Histories.{instances_stay, states_stay}

@@ -1,28 +1,20 @@
 -- How the reads of a kept turn go on.
-use Rattle.std.proofs.Common.{◌≡◌, ℕ, ◌+◌, ◌<◌, ◌⊎◌, true, List, [], ◌∷◌, ◌++◌, length, drop, map, get_or, Option, None, Some, refl, sym, ap, ◌∙◌, subst, append_assoc, add-one, arith, drop-cons}
-use Rattle.std.specs.Prelude.{Result, Ok, Err}
+use Rattle.std.proofs.Common.{◌≡◌, true, List, [], ◌∷◌, ◌++◌, map, None, refl, sym, ap, ◌∙◌, subst, append_assoc}
+use Rattle.std.specs.Prelude.{Ok}
 use Rattle.hx_ids.specs.declared.SessionId.{SessionId}
 use Rattle.hx_ids.specs.declared.InstanceId.{InstanceId}
 use Rattle.hx_cluster.specs.declared.description.Spec.{Spec}
-use Rattle.hx_cluster.specs.declared.state.Message.{Message}
-use Rattle.hx_cluster.specs.declared.state.Row.{Row}
-use Rattle.hx_cluster.specs.declared.planning.Ideals.{Ideals as Wanted}
-use Rattle.hx_cluster.specs.declared.happenings.Event.{Event}
 use Rattle.hx_cluster.specs.declared.happenings.Event.TheVariants as events
 use Rattle.hx_cluster.specs.Steps.{has_controller}
-use Rattle.hx_cluster.specs.Reads.{live_shown, mail_shown, states_shown, ideals_shown}
-use Rattle.hx_pass.specs.Turns.{Call, Live, Mail, States, Ideals, Send, Post, Turn, gone_on, with_live, calls_after_live}
+use Rattle.hx_cluster.specs.Reads.{live_shown}
+use Rattle.hx_pass.specs.Turns.{Call, Live, Mail, States, Ideals, Send, Post, with_live, calls_after_live}
 use Rattle.hx_board.specs.Board.{Held, happened}
 use Rattle.hx_board.specs.Refusals.{read_refusal}
-use Rattle.hx_board.specs.declared.faults.ReadRefusal.{ReadRefusal}
-use Rattle.hx_board.specs.declared.faults.ReadRefusal.TheVariants as reads
 use Rattle.hx_control.specs.declared.controller.Next.{Next}
-use Rattle.hx_control.specs.declared.controller.Next.TheVariants as nexts
 use Rattle.hx_control.specs.declared.controller.Controller.TheInside.{Inside}
 use Rattle.hx_control.specs.Controllers.{Controller}
-use Rattle.hx_control.specs.Steps.{read_step, step_of}
+use Rattle.hx_control.specs.Steps.{step_of}
 use Rattle.hx_control.specs.Turning.{calls_after_mail, left_of, controller}
-use Rattle.hx_control.specs.Faults.{of_read}
 use Rattle.hx_control.specs.Made.{Tries}
 use Rattle.hx_control.proofs.Making.{read_tried, live_turn, next_step}
 

@@ -1,19 +1,17 @@
 -- A step that is taken keeps a turn of the board one of the board as it then is.
-use Rattle.std.proofs.Common.{◌≡◌, Bool, true, false, List, [], ◌∷◌, ◌++◌, Option, None, Some, refl, sym, ap, ◌∙◌, subst, inl, inr}
-use Rattle.std.specs.Prelude.{◌⊎◌, Result, Ok, Err, if◌then◌else◌}
+use Rattle.std.proofs.Common.{◌≡◌, Bool, true, false, List, ◌++◌, Option, refl, sym, subst, inl}
+use Rattle.std.specs.Prelude.{Result, Ok, Err, if◌then◌else◌}
 use Rattle.std.proofs.lemmas.List.{append-nil}
 use Rattle.hx_cluster.specs.declared.description.Spec.{Spec}
 use Rattle.hx_cluster.specs.declared.state.Cluster.{Cluster}
 use Rattle.hx_cluster.specs.declared.happenings.Event.{Event}
-use Rattle.hx_cluster.specs.Steps.{opening}
-use Rattle.hx_cluster.specs.Events.{replay}
 use Rattle.hx_board.specs.Board.{Held, HasHistory}
 use Rattle.hx_control.specs.declared.PassOutcome.{PassOutcome}
 use Rattle.hx_control.specs.declared.ControlFault.{ControlFault}
 use Rattle.hx_control.specs.Controllers.{Controller, idle_controller}
 use Rattle.hx_control.specs.Steps.{Step, Calls, Plans, Refuses, step_of, after_step}
 use Rattle.hx_control.specs.OfBoard.{OfBoard, calls_of}
-use Rattle.hx_control.specs.Made.{board_after, ends_turn, after_fault, Takes}
+use Rattle.hx_control.specs.Made.{board_after, ends_turn, Takes}
 use Rattle.hx_control.proofs.KeepsTurns.{step_keeps}
 
 history_after : (b : Held) (step : Step) → b.history ++ calls_of step ≡ (board_after b step).history

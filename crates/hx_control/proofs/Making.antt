@@ -1,33 +1,27 @@
 -- The steps that are one call of the board: what they make, and how they are refused.
-use Rattle.std.proofs.Common.{◌≡◌, ℕ, ◌+◌, ◌⊎◌, inl, inr, ◌==◌, ◌&&◌, not, Bool, true, false, List, [], ◌∷◌, ◌++◌, Option, None, Some, refl, sym, ap, ◌∙◌, subst, arith}
-use Rattle.std.specs.Prelude.{Result, Ok, Err, option_map, if◌then◌else◌, nat_lt}
+use Rattle.std.proofs.Common.{◌≡◌, ℕ, ◌+◌, ◌⊎◌, inl, inr, ◌==◌, ◌&&◌, not, Bool, true, false, List, ◌∷◌, Option, None, Some, refl, sym, ap, ◌∙◌, subst, arith}
+use Rattle.std.specs.Prelude.{Ok, Err, option_map, if◌then◌else◌, nat_lt}
 use Rattle.std.proofs.lemmas.Bool.Decides.{nat_tests}
-use Rattle.hx_lists.specs.Answers.{RefusedBy}
 use Rattle.hx_ids.specs.declared.ControllerId.{ControllerId}
-use Rattle.hx_ids.specs.declared.SessionId.{SessionId}
-use Rattle.hx_ids.specs.declared.PassNo.{PassNo}
 use Rattle.hx_cluster.specs.declared.description.Spec.{Spec}
 use Rattle.hx_cluster.specs.declared.state.Cluster.{Cluster}
 use Rattle.hx_cluster.specs.declared.happenings.Event.{Event}
 use Rattle.hx_cluster.specs.declared.happenings.Event.TheVariants as events
-use Rattle.hx_cluster.specs.Steps.{is_leader, has_controller}
-use Rattle.hx_cluster.specs.Reads.{pass_of, live_shown, mail_shown, states_shown, ideals_shown, nothing_shown}
-use Rattle.hx_cluster.specs.Events.{begun_of, is_pass}
+use Rattle.hx_cluster.specs.Steps.{has_controller}
+use Rattle.hx_cluster.specs.Reads.{pass_of}
+use Rattle.hx_cluster.specs.Events.{is_pass}
 use Rattle.hx_cluster.specs.Weight.{weight_of}
-use Rattle.hx_pass.specs.Turns.{Call, Live, Mail, States, Ideals, Send, Post, Turn, idle_turn, begun_turn, same_call, is_first, is_due, if_due, gone_on, with_live, when_own, turn_after}
+use Rattle.hx_pass.specs.Turns.{Call, Live, Turn, idle_turn, same_call, is_first, is_due, if_due, with_live, when_own, turn_after}
 use Rattle.hx_board.specs.Board.{Held, happened, weight_at}
-use Rattle.hx_board.specs.Refusals.{full, begin_refusal, read_refusal}
-use Rattle.hx_board.specs.declared.faults.BeginFault.{BeginFault}
-use Rattle.hx_board.specs.declared.faults.BeginFault.TheVariants as begins
-use Rattle.hx_board.specs.declared.faults.ReadRefusal.{ReadRefusal}
+use Rattle.hx_board.specs.Refusals.{full, read_refusal}
 use Rattle.hx_board.specs.declared.faults.ReadRefusal.TheVariants as reads
-use Rattle.hx_board.proofs.Free.{begin_free, read_free}
+use Rattle.hx_board.proofs.Free.{read_free}
 use Rattle.hx_control.specs.declared.PassOutcome.{PassOutcome}
 use Rattle.hx_control.specs.declared.ControlFault.{ControlFault}
 use Rattle.hx_control.specs.declared.ControlFault.TheVariants as faults
 use Rattle.hx_control.specs.Controllers.{Controller}
-use Rattle.hx_control.specs.Steps.{Step, Calls, Plans, Refuses, begin_step, read_step, step_at, step_of, after_step}
-use Rattle.hx_control.specs.Faults.{of_begin, of_read}
+use Rattle.hx_control.specs.Steps.{Step, Calls, Refuses, read_step, step_at, step_of}
+use Rattle.hx_control.specs.Faults.{of_read}
 use Rattle.hx_control.specs.Made.{step_fault, IsMade, Tries}
 
 pub if_true : {A : Type 0} (b : Bool) (p q : A) → b ≡ true → (if b then p else q) ≡ p

@@ -1,5 +1,5 @@
 -- A test of numbers in order, one at a time.
-use Rattle.std.proofs.Common.{◌≡◌, ℕ, ◌+◌, ◌-◌, ◌<◌, ◌≤◌, ◌&&◌, Bool, true, zero, suc, refl, ap, ◌∙◌, sym, subst, arith}
+use Rattle.std.proofs.Common.{◌≡◌, ℕ, ◌+◌, ◌-◌, ◌<◌, ◌≤◌, ◌&&◌, Bool, true, suc, ap, arith}
 use Rattle.std.specs.List.{list_all}
 use Rattle.hx_lists.specs.Lists.{numbers_from}
 

@@ -1,15 +1,11 @@
 -- What a turn of the board sends and posts is what the board has.
-use Rattle.std.proofs.Common.{◌≡◌, ℕ, Bool, true, List, length, refl, sym, ap, ◌∙◌, subst}
-use Rattle.std.specs.Prelude.{◌==◌, ◌&&◌, nat_le}
+use Rattle.std.proofs.Common.{◌≡◌, ℕ, true, List, length, sym, ap, ◌∙◌, subst}
 use Rattle.std.specs.List.{list_all}
 use Rattle.hx_cluster.specs.declared.description.Spec.{Spec}
 use Rattle.hx_cluster.specs.declared.planning.Plan.{Plan}
 use Rattle.hx_cluster.specs.declared.planning.View.{View}
-use Rattle.hx_cluster.specs.declared.happenings.Proposal.{Proposal}
 use Rattle.hx_cluster.specs.declared.happenings.Seen.{Seen}
-use Rattle.hx_cluster.specs.declared.state.Cluster.{Cluster}
 use Rattle.hx_cluster.specs.Events.{is_proposable, is_postable}
-use Rattle.hx_cluster.specs.Messages.{placed_of, placed_all, after_proposal}
 use Rattle.hx_cluster.specs.Views.{is_well_formed}
 use Rattle.hx_lists.specs.Lists.{numbers_below}
 use Rattle.hx_pass.specs.Plans.{plan}

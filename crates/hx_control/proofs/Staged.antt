@@ -1,9 +1,9 @@
 -- Where a turn is: of the calls for each shown session, those are done that aren't left.
-use Rattle.std.proofs.Common.{◌≡◌, ℕ, ◌+◌, ◌-◌, ◌<◌, List, [], ◌∷◌, ◌++◌, length, drop, map, refl, sym, ap, ◌∙◌, suc, subst, arith, length-drop}
+use Rattle.std.proofs.Common.{◌≡◌, ℕ, ◌-◌, ◌<◌, List, [], ◌∷◌, ◌++◌, length, drop, map, refl, sym, ap, ◌∙◌, suc, subst, arith, length-drop}
 use Rattle.hx_ids.specs.declared.SessionId.{SessionId}
 use Rattle.hx_ids.specs.declared.InstanceId.{InstanceId}
 use Rattle.hx_lists.specs.Lists.{count}
-use Rattle.hx_pass.specs.Turns.{Call, Live, Mail, States, Ideals, Send, Post}
+use Rattle.hx_pass.specs.Turns.{Call, Mail}
 use Rattle.hx_control.specs.declared.Stage.TheVariants as stages
 use Rattle.hx_control.specs.declared.controller.Next.{Next}
 use Rattle.hx_control.specs.declared.controller.Next.TheVariants as nexts

@@ -1,4 +1,4 @@
-use Rattle.std.proofs.Common.{◌≡◌, ◌∙◌, ap}
+use Rattle.std.proofs.Common.{◌∙◌, ap}
 use Rattle.hx_control.specs.Controllers.{stage}
 use Rattle.hx_control.proofs.Staged.{mail_read, states_read}
 use Rattle.hx_control.proofs.controller.Controller.stage.Goals as goal
