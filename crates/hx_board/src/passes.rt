@@ -1,5 +1,5 @@
 //! The passes of controllers: how they begin, and what their reads show.
-ghost use Rattle.std.specs.Prelude.{◌≡◌, true, IfOk, OnOk, OnErr};
+ghost use Rattle.std.specs.Prelude.{◌≡◌, ◌++◌, true, IfOk, OnOk, OnErr};
 ghost use Rattle.hx_lists.specs.Answers.{RefusedBy};
 ghost use Rattle.hx_cluster.specs.Steps.{has_controller};
 ghost use Rattle.hx_cluster.specs.Reads.{live_shown, mail_shown, states_shown, ideals_shown};
@@ -11,6 +11,7 @@ use crate::board::{Board, make_room, record};
 use crate::faults::{BeginFault, ReadRefusal};
 use hx_cluster::{Begun, Event, Ideals, Message, Row};
 use hx_ids::{ControllerId, InstanceId, PassNo, SessionId};
+use hx_lists::Seq;
 
 impl Board {
     fn begin_fault(&self, c: ControllerId) -> Option<BeginFault>
@@ -89,14 +90,35 @@ impl Board {
         ensures ok { OnOk result (self.new ≡ happened self.old (Event.Mail c pass session)) }
         ensures err { OnErr result (self.new ≡ self.old) }
     {
+        let mut shown = Seq::new(*self.lines.allocator());
+        self.read_mail_into(c, pass, session, &mut shown)?;
+        Ok(shown.into_vec())
+    }
+
+    /// Adds a session's pending messages, by number, to those that were shown before.
+    pub fn read_mail_into(
+        &mut self,
+        c: ControllerId,
+        pass: PassNo,
+        session: SessionId,
+        shown: &mut Seq<Message>,
+    ) -> Result<(), ReadRefusal>
+        requires { has_controller self.old.cluster c ≡ true }
+        ensures refused { RefusedBy ReadRefusal.OutOfMemory (read_refusal self.old c pass) result }
+        ensures shown { OnOk result
+            (shown.new ≡ shown.old ++ mail_shown self.old.cluster session) }
+        ensures ok { OnOk result (self.new ≡ happened self.old (Event.Mail c pass session)) }
+        ensures err { OnErr result ((self.new ≡ self.old) × (shown.new ≡ shown.old)) }
+    {
         if let Some(fault) = self.read_fault(c, pass) {
             return Err(fault);
         }
         make_room(&mut self.history, self.owed, 1)?;
         let mail = self.records.read_mail(session)?;
+        shown.extend_from_slice(mail.as_slice())?;
         record(&mut self.history, Event::Mail(c, pass, session));
         self.weight += 1;
-        Ok(mail)
+        Ok(())
     }
 
     /// A session's rows, by part; none where it has ended.
@@ -112,14 +134,35 @@ impl Board {
         ensures ok { OnOk result (self.new ≡ happened self.old (Event.States c pass session)) }
         ensures err { OnErr result (self.new ≡ self.old) }
     {
+        let mut shown = Seq::new(*self.lines.allocator());
+        self.read_states_into(c, pass, session, &mut shown)?;
+        Ok(shown.into_vec())
+    }
+
+    /// Adds a session's rows, by part, to those that were shown before.
+    pub fn read_states_into(
+        &mut self,
+        c: ControllerId,
+        pass: PassNo,
+        session: SessionId,
+        shown: &mut Seq<Row>,
+    ) -> Result<(), ReadRefusal>
+        requires { has_controller self.old.cluster c ≡ true }
+        ensures refused { RefusedBy ReadRefusal.OutOfMemory (read_refusal self.old c pass) result }
+        ensures shown { OnOk result
+            (shown.new ≡ shown.old ++ states_shown self.old.cluster session) }
+        ensures ok { OnOk result (self.new ≡ happened self.old (Event.States c pass session)) }
+        ensures err { OnErr result ((self.new ≡ self.old) × (shown.new ≡ shown.old)) }
+    {
         if let Some(fault) = self.read_fault(c, pass) {
             return Err(fault);
         }
         make_room(&mut self.history, self.owed, 1)?;
         let rows = self.records.read_states(session)?;
+        shown.extend_from_slice(rows.as_slice())?;
         record(&mut self.history, Event::States(c, pass, session));
         self.weight += 1;
-        Ok(rows)
+        Ok(())
     }
 
     /// The resources, the drained instances and the reset flags.

@@ -1,5 +1,5 @@
 -- A step keeps a controller's turn one of its board, and so does an event that is not the controller's own.
-use Rattle.std.proofs.Common.{◌≡◌, ℕ, Bool, true, false, not, List, [], ◌∷◌, ◌++◌, refl, sym, ap, subst, ◌∙◌, inl, inr, arith}
+use Rattle.std.proofs.Common.{◌≡◌, Bool, true, false, not, List, [], ◌∷◌, ◌++◌, refl, sym, ap, subst, ◌∙◌, inl, inr, arith}
 use Rattle.std.specs.Prelude.{◌⊎◌, Option, None, Some, ◌==◌, if◌then◌else◌}
 use Rattle.std.proofs.lemmas.List.{append-nil}
 use Rattle.std.proofs.lemmas.Bool.Decides.{nat_tests}
@@ -13,14 +13,13 @@ use Rattle.hx_cluster.specs.declared.happenings.Event.TheVariants as events
 use Rattle.hx_cluster.specs.Steps.{opening, is_leader}
 use Rattle.hx_cluster.specs.Reads.{pass_of}
 use Rattle.hx_cluster.specs.Events.{next, replay, begun_of, dispatched_of, is_epoch, is_pass}
-use Rattle.hx_pass.specs.Plans.{plan}
 use Rattle.hx_pass.specs.Turns.{Call, Live, Mail, States, Ideals, Send, Post, Turn, idle_turn, begun_turn, is_first, when_own, turn_after, turn_from, turn_of}
 use Rattle.hx_control.specs.declared.PassOutcome.{PassOutcome}
 use Rattle.hx_control.specs.declared.ControlFault.{ControlFault}
 use Rattle.hx_control.specs.declared.ControlFault.TheVariants as faults
-use Rattle.hx_control.specs.Controllers.{Controller, idle_controller}
-use Rattle.hx_control.specs.Steps.{Step, Calls, Plans, Refuses, begin_step, read_step, dispatch_step, planned_step, post_step, outcome_of, of_cluster, is_of_cluster, step_at, step_of, after_step}
-use Rattle.hx_control.specs.OfBoard.{IsPlanOf, IsOfBoard, OfBoard, StepKeeps, calls_of, is_own}
+use Rattle.hx_control.specs.Controllers.{Controller}
+use Rattle.hx_control.specs.Steps.{Step, Calls, Plans, Refuses, dispatch_step, planned_step, outcome_of, of_cluster, step_at, step_of, after_step}
+use Rattle.hx_control.specs.OfBoard.{IsPlanOf, OfBoard, StepKeeps, calls_of, is_own}
 
 -- the turn after one event more
 turn_from-snoc : (c : Cluster) (k : ControllerId) (t : Turn) (es : List Event) (e : Event)

@@ -1,1 +1,11 @@
 pub mod KeepsTurns
+pub mod Proposed
+pub mod Numbers
+pub mod Given
+pub mod Sending
+pub mod Keeping
+mod Staged
+mod Making
+mod Going
+mod Ending
+mod Few

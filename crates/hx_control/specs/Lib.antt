@@ -1,3 +1,6 @@
 pub mod Controllers
 pub mod Steps
 pub mod OfBoard
+pub mod Turning
+pub mod Faults
+pub mod Made

@@ -1,4 +1,4 @@
-//! The turns of a controller, and laws over their definitions.
+//! Controllers: their turns, step by step, and laws over the definitions.
 #![tactic(auto)]
 
 ghost use Rattle.std.specs.Prelude.{◌≡◌, false, List, [], ◌∷◌, ◌++◌};
@@ -6,10 +6,18 @@ ghost use Rattle.hx_cluster.specs.declared.description.Spec.{Spec};
 ghost use Rattle.hx_cluster.specs.declared.happenings.Event.{Event};
 ghost use Rattle.hx_cluster.specs.Steps.{opening};
 ghost use Rattle.hx_cluster.specs.Events.{replay};
-ghost use Rattle.hx_control.specs.Controllers.{Controller};
+ghost use Rattle.hx_control.specs.Controllers.{Controller as Seen};
 ghost use Rattle.hx_control.specs.Steps.{step_of};
 ghost use Rattle.hx_control.specs.OfBoard.{OfBoard, StepKeeps, is_own};
 
+mod controller;
+mod faults;
+mod reads;
+mod sends;
+mod steps;
+mod views;
+
+pub use controller::Controller;
 use hx_cluster::Report;
 use hx_ids::{ControllerId, Epoch, PassNo};
 
@@ -60,10 +68,10 @@ pub enum ControlFault {
 /// A step of a turn that is of its board leaves one that is, with the board's history as the step
 /// made it.
 pub fn step_keeps_the_turn_of_the_board()
-    ensures { (spec : Spec) → (h : List Event) → (x : Controller) → StepKeeps spec h x (step_of spec (replay (opening spec) h) x) }
+    ensures { (spec : Spec) → (h : List Event) → (x : Seen) → StepKeeps spec h x (step_of spec (replay (opening spec) h) x) }
 {}
 
 /// So does every event that isn't the controller's own.
 pub fn others_keep_the_turn_of_the_board()
-    ensures { (spec : Spec) → (h : List Event) → (x : Controller) → (e : Event) → is_own x.id e ≡ false → OfBoard spec h x → OfBoard spec (h ++ e ∷ []) x }
+    ensures { (spec : Spec) → (h : List Event) → (x : Seen) → (e : Event) → is_own x.id e ≡ false → OfBoard spec h x → OfBoard spec (h ++ e ∷ []) x }
 {}

@@ -1,5 +1,4 @@
 pub mod Standing
-pub mod Proposed
 pub mod Lines
 pub mod Asked
 pub mod Keeping

@@ -33,7 +33,7 @@ use Rattle.hx_safe.proofs.Ends.{same-self}
 use Rattle.hx_safe.proofs.Fixed.{IsFixed}
 use Rattle.hx_safe.proofs.Ideals.{length-put}
 use Rattle.hx_scripted.proofs.Standing.{IsScripted, ranged_there, fixed_there, turn_put, turn_called, scripted_next}
-use Rattle.hx_scripted.proofs.Proposed.{HasGiven, proposed, posted}
+use Rattle.hx_control.proofs.Proposed.{HasGiven, proposed, posted}
 use Rattle.hx_scripted.proofs.Lines.{pass-line, dispatch-line}
 use Rattle.hx_scripted.proofs.Asked.{controller_there}
 

@@ -1,0 +1,148 @@
+-- How a kept turn makes its plan, sends it and posts.
+use Rattle.std.proofs.Common.{◌≡◌, ◌+◌, ◌⊎◌, inr, ◌&&◌, not, Bool, true, false, List, [], ◌∷◌, length, drop, Option, None, Some, refl, sym, ap, ◌∙◌, subst, arith}
+use Rattle.std.specs.Prelude.{Ok, Err, option_map, if◌then◌else◌}
+use Rattle.std.proofs.lemmas.Bool.Decides.{nat_tests}
+use Rattle.hx_cluster.specs.declared.description.Spec.{Spec}
+use Rattle.hx_cluster.specs.declared.state.Cluster.{Cluster}
+use Rattle.hx_cluster.specs.declared.planning.Plan.{Plan}
+use Rattle.hx_cluster.specs.declared.happenings.Dispatched.{Dispatched}
+use Rattle.hx_cluster.specs.declared.happenings.Seen.{Seen}
+use Rattle.hx_cluster.specs.declared.happenings.Event.{Event}
+use Rattle.hx_cluster.specs.declared.happenings.Event.TheVariants as events
+use Rattle.hx_cluster.specs.Reads.{pass_of}
+use Rattle.hx_cluster.specs.Events.{dispatched_of, is_epoch, is_pass}
+use Rattle.hx_pass.specs.Plans.{plan}
+use Rattle.hx_pass.specs.Turns.{Send, Post, idle_turn, is_due, is_of_epoch, if_due, gone_on, turn_after, posted_of}
+use Rattle.hx_board.specs.Board.{Held, happened}
+use Rattle.hx_board.specs.Refusals.{full, post_refusal}
+use Rattle.hx_board.specs.declared.faults.PostRefusal.{PostRefusal}
+use Rattle.hx_board.specs.declared.faults.PostRefusal.TheVariants as posts
+use Rattle.hx_board.proofs.Free.{post_free}
+use Rattle.hx_control.specs.declared.PassOutcome.{PassOutcome}
+use Rattle.hx_control.specs.declared.ControlFault.{ControlFault}
+use Rattle.hx_control.specs.declared.ControlFault.TheVariants as faults
+use Rattle.hx_control.specs.declared.controller.Next.TheVariants as nexts
+use Rattle.hx_control.specs.declared.controller.Controller.TheInside.{Inside}
+use Rattle.hx_control.specs.Controllers.{Controller, idle_controller}
+use Rattle.hx_control.specs.Steps.{Step, Calls, Plans, Refuses, is_of_cluster, of_cluster, outcome_of, dispatch_step, planned_step, post_step, step_of}
+use Rattle.hx_control.specs.OfBoard.{IsPlanOf}
+use Rattle.hx_control.specs.Turning.{controller, with_plan}
+use Rattle.hx_control.specs.Faults.{of_post}
+use Rattle.hx_control.specs.Made.{step_fault, Tries}
+use Rattle.hx_control.proofs.Making.{if_true, own, with_turn, call_made, full_same, tried_in_vain, tried_well, due, next_step}
+
+pub planned_of : (spec : Spec) (a : Inside) (x : Controller) (p : Plan) → controller a ≡ x → Some p ≡ a.plan → IsPlanOf spec x.turn x.plan → p ≡ plan spec.models spec.rules a.view
+planned_of spec a x p seen is planned =
+    let of : IsPlanOf spec (controller a).turn a.plan = subst (λ (v : Controller). IsPlanOf spec v.turn v.plan) (sym seen) planned in
+    (subst (λ (o : Option Plan). IsPlanOf spec (controller a).turn o) (sym is) of).1
+
+-- the plan
+plan_made : (spec : Spec) (b : Held) (x y : Controller) (p : Plan) → x.turn.left ≡ Send ∷ Post ∷ [] → x.plan ≡ None → is_of_cluster spec b.cluster x.turn.view ≡ true
+    → p ≡ plan spec.models spec.rules x.turn.view → y ≡ record x { plan = Some p } → Tries (step_of spec b.cluster x) b b x y (Ok None)
+plan_made spec b x y p left none of is now =
+    let plans : step_of spec b.cluster x ≡ Plans (plan spec.models spec.rules x.turn.view) =
+    next_step spec b.cluster x (Send ∷ Post ∷ []) left ∙ (λ i. of_cluster (of i) (planned_step spec b.cluster x (none i))) in
+    subst (λ (s : Step). Tries s b b x y (Ok None)) (sym plans)
+    (record { refused = refl; made = record { answer = refl; board = refl; controller = now ∙ ap (λ (q : Plan). record x { plan = Some q }) is }; kept = tt })
+
+pub plan_done : (spec : Spec) (b : Held) (a : Inside) (x : Controller) (p : Plan) → controller a ≡ x → x.turn.left ≡ Send ∷ Post ∷ [] → x.plan ≡ None
+    → is_of_cluster spec b.cluster a.view ≡ true → p ≡ plan spec.models spec.rules a.view
+    → Tries (step_of spec b.cluster x) b b x (controller (record a { plan = Some p })) (Ok None)
+plan_done spec b a x p seen left none of is =
+    subst (λ (v : Controller). v.turn.left ≡ Send ∷ Post ∷ [] → v.plan ≡ None → Tries (step_of spec b.cluster v) b b v (controller (record a { plan = Some p })) (Ok None)) seen
+    (λ left none. plan_made spec b (controller a) (controller (record a { plan = Some p })) p left none of is refl) left none
+
+-- the dispatch
+opened : (b : Held) (of epoch pass : Bool) (e : Event) (outcome : Option PassOutcome) (f g : ControlFault)
+    → step_fault b (of_cluster of (if not epoch then Refuses f else if not pass then Refuses g else Calls e outcome)) ≡ None
+    → of_cluster of (if not epoch then Refuses f else if not pass then Refuses g else Calls e outcome) ≡ Calls e outcome
+opened b true true true e outcome f g none = refl
+opened b true true false e outcome f g none = cc
+opened b true false pass e outcome f g none = cc
+opened b false epoch pass e outcome f g none = cc
+
+sent_turn : (c : Cluster) (x : Controller) (e : Plan) (d : Dispatched) → x.turn.left ≡ Send ∷ Post ∷ []
+    → turn_after c x.id x.turn (events.Dispatch x.id x.turn.begun.epoch x.turn.begun.pass e.proposals d) ≡ gone_on x.turn x.turn.view
+sent_turn c x e d left =
+    let first : is_due x.turn Send x.turn.begun.pass ≡ true = due x.turn Send (Post ∷ []) left refl in
+    let both : (is_due x.turn Send x.turn.begun.pass && is_of_epoch x.turn x.turn.begun.epoch) ≡ true = grind (arith, nat_tests, first) in
+    own x.id x.turn (if_due (is_due x.turn Send x.turn.begun.pass && is_of_epoch x.turn x.turn.begun.epoch) (gone_on x.turn x.turn.view))
+    ∙ if_true (is_due x.turn Send x.turn.begun.pass && is_of_epoch x.turn x.turn.begun.epoch) (gone_on x.turn x.turn.view) idle_turn both
+
+send_made : (spec : Spec) (b d : Held) (x y : Controller) (p : Plan) (outcome : PassOutcome) → x.turn.left ≡ Send ∷ Post ∷ []
+    → step_fault b (step_of spec b.cluster (with_plan x p)) ≡ None
+    → d ≡ happened b (events.Dispatch x.id x.turn.begun.epoch x.turn.begun.pass p.proposals (dispatched_of b.cluster x.id p.proposals))
+    → outcome ≡ outcome_of x.turn p (dispatched_of b.cluster x.id p.proposals) → y ≡ with_turn x (gone_on x.turn x.turn.view)
+    → Tries (step_of spec b.cluster (with_plan x p)) b d (with_plan x p) y (Ok (Some outcome))
+send_made spec b d x y p outcome left none done is now =
+    let e : Event = events.Dispatch x.id x.turn.begun.epoch x.turn.begun.pass p.proposals (dispatched_of b.cluster x.id p.proposals) in
+    let ended : Option PassOutcome = Some (outcome_of x.turn p (dispatched_of b.cluster x.id p.proposals)) in
+    let step : step_of spec b.cluster (with_plan x p) ≡ of_cluster (is_of_cluster spec b.cluster x.turn.view) (dispatch_step b.cluster (with_plan x p) p (dispatched_of b.cluster x.id p.proposals)) =
+    next_step spec b.cluster (with_plan x p) (Send ∷ Post ∷ []) left in
+    let calls : step_of spec b.cluster (with_plan x p) ≡ Calls e ended =
+    step ∙ opened b (is_of_cluster spec b.cluster x.turn.view) (is_epoch b.cluster x.turn.begun.epoch) (is_pass b.cluster x.id x.turn.begun.pass) e ended
+    (faults.Fenced b.cluster.epoch) (faults.OldPass (pass_of b.cluster x.id)) (ap (step_fault b) (sym step) ∙ none) in
+    subst (λ (o : PassOutcome). Tries (step_of spec b.cluster (with_plan x p)) b d (with_plan x p) y (Ok (Some o))) (sym is)
+    (record {
+      refused = none;
+      made = call_made b d (with_plan x p) y e ended (step_of spec b.cluster (with_plan x p)) (gone_on x.turn x.turn.view) calls (sent_turn b.cluster (with_plan x p) p (dispatched_of b.cluster x.id p.proposals) left) done now;
+      kept = tt;
+    })
+
+pub send_done : (spec : Spec) (b d : Held) (a : Inside) (x : Controller) (p : Plan) (answer : Dispatched) (outcome : PassOutcome) → controller a ≡ x → x.turn.left ≡ Send ∷ Post ∷ []
+    → step_fault b (step_of spec b.cluster (with_plan x p)) ≡ None → answer ≡ dispatched_of b.cluster x.id p.proposals
+    → d ≡ happened b (events.Dispatch x.id x.turn.begun.epoch x.turn.begun.pass p.proposals answer) → outcome ≡ outcome_of x.turn p answer
+    → Tries (step_of spec b.cluster (with_plan x p)) b d (with_plan x p) (controller (record a { next = nexts.Post; plan = None })) (Ok (Some outcome))
+send_done spec b d a x p answer outcome seen left none is done ends =
+    let y : Controller = controller (record a { next = nexts.Post; plan = None }) in
+    let now : y ≡ with_turn x (gone_on x.turn x.turn.view) =
+    subst (λ (v : Controller). v.turn.left ≡ Send ∷ Post ∷ [] → controller (record a { next = nexts.Post; plan = None }) ≡ with_turn v (gone_on v.turn v.turn.view)) seen
+    (λ left. (λ i. record { id = a.id; turn = record { left = sym (ap (drop 1) left) i; begun = a.begun; view = a.view }; plan = None })) left in
+    send_made spec b d x y p outcome left none
+    (done ∙ ap (λ (o : Dispatched). happened b (events.Dispatch x.id x.turn.begun.epoch x.turn.begun.pass p.proposals o)) is)
+    (ends ∙ ap (outcome_of x.turn p) is) now
+
+-- the post
+post_same : (b : Held) (x : Controller) (rows : List Seen) → rows ≡ posted_of x.turn.view
+    → option_map of_post (post_refusal b x.turn.begun.epoch rows) ≡ step_fault b (post_step b.cluster x)
+post_same b x rows is = one (is_epoch b.cluster x.turn.begun.epoch)
+  where
+    one : (t : Bool) → option_map of_post (if not t then Some (posts.Fenced b.cluster.epoch) else full b (1 + length rows) posts.HistoryFull)
+        ≡ step_fault b (if t then Calls (events.Post x.id x.turn.begun.epoch (posted_of x.turn.view)) None else Refuses (faults.Fenced b.cluster.epoch))
+    one true = full_same b (1 + length rows) posts.HistoryFull of_post (λ w. refl) ∙ ap (λ (rs : List Seen). full b (1 + length rs) faults.HistoryFull) is
+    one false = refl
+
+post_is : (spec : Spec) (b : Held) (x : Controller) (of : Bool) → x.turn.left ≡ Post ∷ [] → is_of_cluster spec b.cluster x.turn.view ≡ of
+    → step_of spec b.cluster x ≡ of_cluster of (post_step b.cluster x)
+post_is spec b x of left is = next_step spec b.cluster x (Post ∷ []) left ∙ ap (λ (t : Bool). of_cluster t (post_step b.cluster x)) is
+
+module _ (spec : Spec) (b : Held) (a : Inside) (x : Controller) (seen : controller a ≡ x) (left : x.turn.left ≡ Post ∷ []) where
+  pub other_board : is_of_cluster spec b.cluster a.view ≡ false → Tries (step_of spec b.cluster x) b b x x (Err faults.OtherBoard)
+  other_board of =
+      let is : is_of_cluster spec b.cluster x.turn.view ≡ false = ap (λ (v : Controller). is_of_cluster spec b.cluster v.turn.view) (sym seen) ∙ of in
+      record { refused = inr (ap (step_fault b) (post_is spec b x false left is)); made = tt; kept = (refl, refl) }
+
+  module _ (of : is_of_cluster spec b.cluster a.view ≡ true) (rows : List Seen) (posted : rows ≡ posted_of a.view) where
+    same : option_map of_post (post_refusal b x.turn.begun.epoch rows) ≡ step_fault b (step_of spec b.cluster x)
+    same =
+        let is : is_of_cluster spec b.cluster x.turn.view ≡ true = ap (λ (v : Controller). is_of_cluster spec b.cluster v.turn.view) (sym seen) ∙ of in
+        post_same b x rows (posted ∙ ap (λ (v : Controller). posted_of v.turn.view) seen) ∙ ap (step_fault b) (sym (post_is spec b x true left is))
+
+    pub post_refused : (d : Held) (r : PostRefusal) → (r ≡ posts.OutOfMemory) ⊎ (post_refusal b a.begun.epoch rows ≡ Some r) → d ≡ b
+        → Tries (step_of spec b.cluster x) b d x x (Err (of_post r))
+    post_refused d r why board =
+        tried_in_vain of_post posts.OutOfMemory (post_refusal b x.turn.begun.epoch rows) (step_of spec b.cluster x) b d x x same refl r
+        (subst (λ (v : Controller). (r ≡ posts.OutOfMemory) ⊎ (post_refusal b v.turn.begun.epoch rows ≡ Some r)) seen why) board refl
+
+    pub post_done : (d : Held) (y : Controller) → post_refusal b a.begun.epoch rows ≡ None → d ≡ happened b (events.Post a.id a.begun.epoch rows) → y ≡ idle_controller x.id
+        → Tries (step_of spec b.cluster x) b d x y (Ok None)
+    post_done d y none done now =
+        let is : is_of_cluster spec b.cluster x.turn.view ≡ true = ap (λ (v : Controller). is_of_cluster spec b.cluster v.turn.view) (sym seen) ∙ of in
+        let free : post_refusal b x.turn.begun.epoch rows ≡ None = ap (λ (v : Controller). post_refusal b v.turn.begun.epoch rows) (sym seen) ∙ none in
+        let e : Event = events.Post x.id x.turn.begun.epoch (posted_of x.turn.view) in
+        let calls : step_of spec b.cluster x ≡ Calls e None = post_is spec b x true left is ∙ if_true (is_epoch b.cluster x.turn.begun.epoch) _ _ (post_free b x.turn.begun.epoch rows free).now in
+        let then_is : d ≡ happened b e =
+        done ∙ ap (λ (v : Controller). happened b (events.Post v.id v.turn.begun.epoch rows)) seen
+        ∙ ap (λ (rs : List Seen). happened b (events.Post x.id x.turn.begun.epoch rs)) (posted ∙ ap (λ (v : Controller). posted_of v.turn.view) seen) in
+        tried_well of_post (post_refusal b x.turn.begun.epoch rows) (step_of spec b.cluster x) b d x y None same free
+        (call_made b d x y e None (step_of spec b.cluster x) idle_turn calls (own x.id x.turn idle_turn) then_is now)

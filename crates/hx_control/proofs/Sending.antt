@@ -1,0 +1,38 @@
+-- What a turn of the board sends and posts is what the board has.
+use Rattle.std.proofs.Common.{◌≡◌, ℕ, true, List, length, sym, ap, ◌∙◌, subst}
+use Rattle.std.specs.List.{list_all}
+use Rattle.hx_cluster.specs.declared.description.Spec.{Spec}
+use Rattle.hx_cluster.specs.declared.planning.Plan.{Plan}
+use Rattle.hx_cluster.specs.declared.planning.View.{View}
+use Rattle.hx_cluster.specs.declared.happenings.Seen.{Seen}
+use Rattle.hx_cluster.specs.Events.{is_proposable, is_postable}
+use Rattle.hx_cluster.specs.Views.{is_well_formed}
+use Rattle.hx_lists.specs.Lists.{numbers_below}
+use Rattle.hx_pass.specs.Plans.{plan}
+use Rattle.hx_pass.specs.Turns.{posted_of}
+use Rattle.hx_safe.proofs.Counting.{and-first}
+use Rattle.hx_board.specs.Board.{Held, HasHistory}
+use Rattle.hx_control.specs.Steps.{has_parts_of, is_of_cluster}
+use Rattle.hx_control.proofs.Proposed.{HasGiven, proposed, posted}
+use Rattle.hx_control.proofs.Given.{given, instances_given}
+pub use Rattle.hx_calls.proofs.Placing.{placed_each}
+
+given_of : (spec : Spec) (b : Held) → HasHistory b → b.spec ≡ spec → HasGiven spec b.cluster
+given_of spec b told same = subst (λ (s : Spec). HasGiven s b.cluster) same (given b told)
+
+pub proposals_fit : (spec : Spec) (b : Held) (p : Plan) (view : View) → HasHistory b → b.spec ≡ spec → p ≡ plan spec.models spec.rules view
+    → is_of_cluster spec b.cluster view ≡ true → list_all (is_proposable b.cluster) p.proposals ≡ true
+proposals_fit spec b p view told same is of =
+    subst (λ (q : Plan). list_all (is_proposable b.cluster) q.proposals ≡ true) (sym is) (proposed spec b.cluster view (given_of spec b told same) of)
+
+pub rows_fit : (spec : Spec) (b : Held) (rows : List Seen) (view : View) → HasHistory b → b.spec ≡ spec → rows ≡ posted_of view
+    → is_of_cluster spec b.cluster view ≡ true → list_all (is_postable b.cluster) rows ≡ true
+rows_fit spec b rows view told same is of =
+    subst (λ (rs : List Seen). list_all (is_postable b.cluster) rs ≡ true) (sym is) (posted spec b.cluster view (given_of spec b told same) of)
+
+pub view_formed : (spec : Spec) (b : Held) (view : View) → HasHistory b → b.spec ≡ spec → is_of_cluster spec b.cluster view ≡ true
+    → is_well_formed spec.models (length spec.instances) view ≡ true
+view_formed spec b view told same of =
+    let many : length b.cluster.instances ≡ length spec.instances = instances_given b told ∙ ap (λ (s : Spec). length s.instances) same in
+    subst (λ (n : ℕ). is_well_formed spec.models n view ≡ true) many
+    (and-first (is_well_formed spec.models (length b.cluster.instances) view) (list_all (has_parts_of b.cluster view) (numbers_below (length view.ideals.resources))) of)

@@ -1,0 +1,20 @@
+use Rattle.std.proofs.Common.{◌≡◌, Some}
+use Rattle.hx_control.proofs.Ending.{planned_of}
+use Rattle.hx_control.proofs.controller.Controller.attempt.Goals as goal
+
+pub send-requires-clause-planned : goal.send-requires-clause-planned
+send-requires-clause-planned c =
+    let is : Some c.in-Some.plan ≡ c.self.inside.plan = cc (c.in-Some.ensures.value) in
+    planned_of c.args.spec.now c.self.inside c.args.self.now c.in-Some.plan c.self.view_is is c.requires.planned
+
+pub returns-in-Live : goal.returns-in-Live
+returns-in-Live c = c.read_live.ensures c.args.spec.now
+
+pub returns-in-Mail : goal.returns-in-Mail
+returns-in-Mail c = c.read_mail.ensures c.args.spec.now
+
+pub returns-in-States : goal.returns-in-States
+returns-in-States c = c.read_states.ensures c.args.spec.now
+
+pub returns-in-Ideals : goal.returns-in-Ideals
+returns-in-Ideals c = c.read_ideals.ensures c.args.spec.now

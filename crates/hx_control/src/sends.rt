@@ -1,0 +1,175 @@
+//! What a turn makes of what it was shown: the plan, its dispatch, and the post.
+ghost use Rattle.std.specs.Prelude.{◌≡◌, ◌+◌, ◌<◌, ◌^◌, None, Some, true, length, IfOk, OnErr};
+ghost use Rattle.hx_lists.specs.Lists.{count};
+ghost use Rattle.hx_lists.specs.Answers.{RefusedBy};
+ghost use Rattle.hx_cluster.specs.Steps.{has_controller};
+ghost use Rattle.hx_cluster.specs.declared.happenings.Event.TheVariants as events;
+ghost use Rattle.hx_cluster.specs.Events.{dispatched_of};
+ghost use Rattle.hx_pass.specs.Plans.{plan as plan_of};
+ghost use Rattle.hx_board.specs.Board.{happened};
+ghost use Rattle.hx_control.specs.Steps.{is_sent, outcome_of, step_of, planned_step};
+ghost use Rattle.hx_control.specs.Turning.{left_of, with_plan};
+ghost use Rattle.hx_control.specs.Made.{Tries, step_fault};
+
+use crate::controller::Next;
+use crate::views::{is_of_board, posted};
+use crate::{ControlFault, Controller, PassOutcome};
+use hx_board::Board;
+use hx_cluster::{Dispatched, Placed, Plan, Spec};
+use hx_hops::Hops;
+use hx_pass::plan;
+
+fn is_sent(placed: &Placed) -> bool
+    ensures { result ≡ is_sent placed.now }
+{
+    matches!(placed, Placed::Sent(_))
+}
+
+fn sent(answer: &Dispatched) -> u32
+    requires { length answer.now.placed < 2 ^ 32 }
+    ensures { result ≡ count is_sent answer.now.placed }
+{
+    answer
+        .placed
+        .iter()
+        .filter(|placed| is_sent(placed))
+        .count() as u32
+}
+
+impl Controller {
+    /// How a dispatch ended.
+    fn outcome(&self, plan: Plan, answer: &Dispatched) -> PassOutcome
+        requires placed { length answer.now.placed < 2 ^ 32 }
+        requires mail { length self.now.turn.view.mail < 2 ^ 32 }
+        ensures { result ≡ outcome_of self.now.turn plan answer.now }
+    {
+        if !plan.proposals.is_empty() {
+            PassOutcome::Sent(sent(answer))
+        } else if !self.view.mail.is_empty() {
+            PassOutcome::Waiting {
+                pending: self.view.mail.len() as u32,
+            }
+        } else if self.begun.change == answer.change {
+            PassOutcome::Settled(plan.report)
+        } else {
+            PassOutcome::Moved {
+                from: self.begun.change,
+                to: answer.change,
+            }
+        }
+    }
+
+    /// Makes the plan of what was shown.
+    #[tactic(auto, using(crate::proofs::Sending::view_formed))]
+    pub(crate) fn make_plan(
+        &mut self,
+        spec: &Spec,
+        hops: &[Hops],
+        board: &Board,
+    ) -> Result<Option<PassOutcome>, ControlFault>
+        requires board { board.now.spec ≡ spec.now }
+        requires hops { hops.now ≡ spec.now.models }
+        requires next { self.old.turn.left ≡ left_of Next.Send self.old.turn.view.live }
+        requires none { self.old.plan ≡ None }
+        ensures { Tries (step_of spec.now board.now.cluster self.old) board.now board.now self.old
+            self.new result }
+    {
+        let alloc = self.view.live.allocator();
+        if !is_of_board(alloc, spec, board, &self.view)? {
+            return Err(ControlFault::OtherBoard);
+        }
+        self.plan = Some(plan(alloc, spec, hops, &self.view)?);
+        Ok(None)
+    }
+
+    /// Dispatches what a plan proposes. More than 4,294,967,295 proposals or messages are want of
+    /// memory.
+    #[tactic(auto, using(crate::proofs::Sending::proposals_fit, crate::proofs::Sending::placed_each))]
+    fn dispatch(
+        &self,
+        spec: &Spec,
+        plan: &Plan,
+        board: &mut Board,
+    ) -> Result<Dispatched, ControlFault>
+        requires controller { has_controller board.old.cluster self.now.id ≡ true }
+        requires board { board.old.spec ≡ spec.now }
+        requires planned { plan.now
+            ≡ plan_of spec.now.models spec.now.rules self.now.turn.view }
+        requires next { self.now.turn.left ≡ left_of Next.Send self.now.turn.view.live }
+        ensures refused { RefusedBy ControlFault.OutOfMemory
+            (step_fault board.old
+            (step_of spec.now board.old.cluster (with_plan self.now plan.now)))
+            result }
+        ensures answer { IfOk result (λ answer.
+            (answer ≡ dispatched_of board.old.cluster self.now.id plan.now.proposals)
+            × (board.new
+            ≡ happened board.old
+            (events.Dispatch self.now.id self.now.turn.begun.epoch
+            self.now.turn.begun.pass plan.now.proposals answer))) }
+        ensures few { IfOk result (λ answer.
+            (length answer.placed < 2 ^ 32) × (length self.now.turn.view.mail < 2 ^ 32)) }
+        ensures err { OnErr result (board.new ≡ board.old) }
+    {
+        let most = u32::MAX as usize;
+        if plan.proposals.len() > most || self.view.mail.len() > most {
+            return Err(ControlFault::OutOfMemory);
+        }
+        if !is_of_board(self.view.live.allocator(), spec, board, &self.view)? {
+            return Err(ControlFault::OtherBoard);
+        }
+        let proposals = plan.proposals.as_slice();
+        let (epoch, pass) = (self.begun.epoch, self.begun.pass);
+        Ok(board.dispatch(self.id, epoch, pass, proposals)?)
+    }
+
+    /// Dispatches a plan, and goes on to the post.
+    pub(crate) fn send(
+        &mut self,
+        spec: &Spec,
+        plan: Plan,
+        board: &mut Board,
+    ) -> Result<Option<PassOutcome>, ControlFault>
+        requires controller { has_controller board.old.cluster self.old.id ≡ true }
+        requires board { board.old.spec ≡ spec.now }
+        requires planned { plan ≡ plan_of spec.now.models spec.now.rules self.old.turn.view }
+        requires next { self.old.turn.left ≡ left_of Next.Send self.old.turn.view.live }
+        ensures { Tries (step_of spec.now board.old.cluster (with_plan self.old plan)) board.old
+            board.new (with_plan self.old plan) self.new result }
+    {
+        match self.dispatch(spec, &plan, board) {
+            Ok(answer) => {
+                let outcome = self.outcome(plan, &answer);
+                self.next = Next::Post;
+                self.plan = None;
+                Ok(Some(outcome))
+            }
+            Err(fault) => {
+                self.plan = Some(plan);
+                Err(fault)
+            }
+        }
+    }
+
+    /// Posts the rows that were shown, and ends the turn.
+    #[tactic(auto, using(crate::proofs::Sending::rows_fit))]
+    pub(crate) fn post(
+        &mut self,
+        spec: &Spec,
+        board: &mut Board,
+    ) -> Result<Option<PassOutcome>, ControlFault>
+        requires controller { has_controller board.old.cluster self.old.id ≡ true }
+        requires board { board.old.spec ≡ spec.now }
+        requires next { self.old.turn.left ≡ left_of Next.Post self.old.turn.view.live }
+        ensures { Tries (step_of spec.now board.old.cluster self.old) board.old board.new self.old
+            self.new result }
+    {
+        let alloc = self.view.live.allocator();
+        if !is_of_board(alloc, spec, board, &self.view)? {
+            return Err(ControlFault::OtherBoard);
+        }
+        let rows = posted(alloc, &self.view)?;
+        board.publish(self.id, self.begun.epoch, rows.as_slice())?;
+        self.restart();
+        Ok(None)
+    }
+}
