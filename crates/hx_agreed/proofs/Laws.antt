@@ -1,11 +1,12 @@
 -- What a script begins with, and what lines and settles leave, agrees; and so do parts that are idle.
 use Rattle.std.proofs.Common.{◌≡◌, ℕ, zero, suc, ◌+◌, ◌<◌, ◌&&◌, ◌||◌, ◌==◌, not, Bool, true, false, List, [], ◌∷◌, map, find, length, Option, Some, None, refl, sym, ap, subst, arith}
-use Rattle.std.specs.Prelude.{slice_index_or, replicate, unwrap_or, nat_lt}
+use Rattle.std.specs.Prelude.{slice_index_or, replicate, unwrap_or, nat_lt, is_none}
 use Rattle.std.specs.List.{All, list_all}
-use Rattle.std.proofs.lemmas.List.Elements.{All-cons, All-nil}
+use Rattle.std.proofs.lemmas.List.Elements.{All-cons, All-nil, All-head, All-tail}
 use Rattle.hx_lists.specs.Lists.{numbers_from}
 use Rattle.hx_ids.specs.declared.SessionId.{SessionId}
 use Rattle.hx_ids.specs.declared.PartId.{PartId}
+use Rattle.hx_ids.specs.declared.InstanceId.{InstanceId}
 use Rattle.hx_cluster.specs.declared.description.Spec.{Spec}
 use Rattle.hx_cluster.specs.declared.state.Message.{Message}
 use Rattle.hx_cluster.specs.Ends.{part_eq}
@@ -13,7 +14,7 @@ use Rattle.hx_cluster.specs.Steps.{opening}
 use Rattle.hx_cluster.specs.Valid.{IsValid}
 use Rattle.hx_replicas.specs.declared.slots.Work.{Work}
 use Rattle.hx_replicas.specs.declared.slots.Work.TheVariants.{Idle, Accepted, Out}
-use Rattle.hx_replicas.specs.Participants.{Participant, Slot, new_participant, new_slot, slot_of, is_idle, is_out, all_idle}
+use Rattle.hx_replicas.specs.Participants.{Participant, Slot, new_participant, new_slot, slot_of, is_idle, is_out, all_idle, accepted_of}
 use Rattle.hx_control.specs.Controllers.{Controller, idle_controller}
 use Rattle.hx_script.specs.declared.Line.{Line}
 use Rattle.hx_sim.specs.World.{Job, State, opening_world}
@@ -21,7 +22,7 @@ use Rattle.hx_sim.specs.Runs.{state_of}
 use Rattle.hx_sim.specs.Settles
 use Rattle.hx_sim.specs.Scripts
 use Rattle.hx_sim.specs.Agree
-use Rattle.hx_safe.proofs.Counting.{and-first, and-second, all-le, all-find}
+use Rattle.hx_safe.proofs.Counting.{and-first, and-second, all-le, all-find, and-both}
 use Rattle.hx_safe.proofs.Whole.{length-replicate}
 use Rattle.hx_scripted.specs.OfHistory.{has_fetched, IsTurnOf, IsOfItsHistory}
 use Rattle.hx_scripted.proofs.Standing.{idle_there}
@@ -81,6 +82,32 @@ idle_agree given b ks ps jobs bag a turns quiet = record {
         mail = all-le (Agree.is_known p.plain s) (Agree.is_to_come p.plain s) (λ m known. to_come p.plain s m idle known) (Agree.cluster_of b).mail o.mail;
       };
 }
+
+-- where no job is open, what isn't accepted is idle
+idle_work : (i : InstanceId) (x : Slot) (w : Work) → Agree.has_job [] i x w ≡ true → is_none (accepted_of w) ≡ true → is_idle w ≡ true
+idle_work i x Idle job none = refl
+idle_work i x (Accepted m) job none = cc
+idle_work i x (Out m is_held) job none = cc
+
+idle_slots : (i : InstanceId) (xs : List Slot) → list_all (λ x. Agree.has_job [] i x x.work) xs ≡ true → list_all (λ x. is_none (accepted_of x.work)) xs ≡ true → list_all (λ x. is_idle x.work) xs ≡ true
+idle_slots i [] jobs none = refl
+idle_slots i (x ∷ xs) jobs none =
+    and-both (is_idle x.work) (list_all (λ y. is_idle y.work) xs)
+    (idle_work i x x.work (and-first (Agree.has_job [] i x x.work) (list_all (λ y. Agree.has_job [] i y y.work) xs) jobs) (and-first (is_none (accepted_of x.work)) (list_all (λ y. is_none (accepted_of y.work)) xs) none))
+    (idle_slots i xs (and-second (Agree.has_job [] i x x.work) (list_all (λ y. Agree.has_job [] i y y.work) xs) jobs) (and-second (is_none (accepted_of x.work)) (list_all (λ y. is_none (accepted_of y.work)) xs) none))
+
+idle_parts : (ps : List Agree.Stationed) → All (λ p. list_all (λ x. Agree.has_job [] p.instance x x.work) p.plain.slots ≡ true) ps → list_all (λ p. list_all (λ x. is_none (accepted_of x.work)) p.plain.slots) ps ≡ true
+    → list_all (λ p. all_idle p.plain) ps ≡ true
+idle_parts [] jobs none = refl
+idle_parts (p ∷ ps) jobs none =
+    let P = λ (q : Agree.Stationed). list_all (λ x. Agree.has_job [] q.instance x x.work) q.plain.slots ≡ true in
+    and-both (all_idle p.plain) (list_all (λ q. all_idle q.plain) ps)
+    (idle_slots p.instance p.plain.slots (All-head P p ps jobs) (and-first (list_all (λ x. is_none (accepted_of x.work)) p.plain.slots) (list_all (λ q. list_all (λ x. is_none (accepted_of x.work)) q.plain.slots) ps) none))
+    (idle_parts ps (All-tail P p ps jobs) (and-second (list_all (λ x. is_none (accepted_of x.work)) p.plain.slots) (list_all (λ q. list_all (λ x. is_none (accepted_of x.work)) q.plain.slots) ps) none))
+
+pub agree_without_work : (given : Spec) (b : Agree.BoardState) (ks : List Controller) (ps : List Agree.Stationed) (bag : List Message) → Agree.AgreeOpen given b ks ps [] bag
+    → All (λ k. k ≡ idle_controller k.id) ks → list_all (λ p. list_all (λ x. is_none (accepted_of x.work)) p.plain.slots) ps ≡ true → Agree.Agree given b ks ps
+agree_without_work given b ks ps bag a turns none = idle_agree given b ks ps [] bag a turns (idle_parts ps a.slots none)
 
 -- the world that a script begins with
 new_at : (n i : ℕ) → slice_index_or (replicate n new_participant) i new_participant ≡ new_participant

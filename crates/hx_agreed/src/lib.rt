@@ -2,12 +2,12 @@
 //! law over the definitions alone.
 #![tactic(auto)]
 
-ghost use Rattle.std.specs.Prelude.{◌≡◌, ℕ, true, List};
+ghost use Rattle.std.specs.Prelude.{◌≡◌, ℕ, true, List, [], is_none};
 ghost use Rattle.std.specs.List.{All, list_all};
 ghost use Rattle.hx_cluster.specs.declared.description.Spec.{Spec};
 ghost use Rattle.hx_cluster.specs.declared.state.Message.{Message};
 ghost use Rattle.hx_cluster.specs.Valid.{IsValid};
-ghost use Rattle.hx_replicas.specs.Participants.{all_idle};
+ghost use Rattle.hx_replicas.specs.Participants.{all_idle, accepted_of};
 ghost use Rattle.hx_control.specs.Controllers.{Controller, idle_controller};
 ghost use Rattle.hx_script.specs.declared.Line.{Line};
 ghost use Rattle.hx_sim.specs.World.{World, Job, State, opening_world};
@@ -61,4 +61,13 @@ pub fn idle_parts_agree()
         (jobs : List Job) (bag : List Message) → AgreeOpen given b ks ps jobs bag
         → All (λ k. k ≡ idle_controller k.id) ks
         → list_all (λ p. all_idle p.plain) ps ≡ true → Agree given b ks ps }
+{}
+
+/// They are idle where no job is open and no message is accepted.
+pub fn parts_without_work_agree()
+    ensures { (given : Spec) (b : BoardState) (ks : List Controller) (ps : List Stationed)
+        (bag : List Message) → AgreeOpen given b ks ps [] bag
+        → All (λ k. k ≡ idle_controller k.id) ks
+        → list_all (λ p. list_all (λ x. is_none (accepted_of x.work)) p.plain.slots) ps ≡ true
+        → Agree given b ks ps }
 {}
