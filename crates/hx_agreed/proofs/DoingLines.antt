@@ -1,0 +1,407 @@
+-- What lines of a script do keeps a world in step.
+use Rattle.std.proofs.Common.{◌≡◌, ℕ, zero, suc, ◌+◌, ◌<◌, ◌≤◌, ◌==◌, Bool, true, false, List, [], ◌∷◌, ◌++◌, map, length, refl, sym, ap, ◌∙◌, subst, arith}
+use Rattle.std.specs.Prelude.{Option, None, Some, nat_lt, if◌then◌else◌}
+use Rattle.std.specs.List.{list_any, list_all}
+use Rattle.std.specs.Option.{option_map}
+use Rattle.std.proofs.lemmas.Bool.Decides.{nat_tests}
+use Rattle.hx_lists.specs.Lists.{count}
+use Rattle.hx_ids.specs.declared.InstanceId.{InstanceId}
+use Rattle.hx_ids.specs.declared.ControllerId.{ControllerId}
+use Rattle.hx_ids.specs.declared.SessionId.{SessionId}
+use Rattle.hx_ids.specs.declared.MsgId.{MsgId}
+use Rattle.hx_ids.specs.declared.ResourceId.{ResourceId}
+use Rattle.hx_ids.specs.declared.StateId.{StateId}
+use Rattle.hx_ids.specs.declared.Live.{Live}
+use Rattle.hx_cluster.specs.declared.description.Spec.{Spec}
+use Rattle.hx_cluster.specs.declared.state.Message.{Message}
+use Rattle.hx_cluster.specs.declared.state.Cluster.{Cluster}
+use Rattle.hx_cluster.specs.declared.planning.Report.{Report}
+use Rattle.hx_cluster.specs.declared.happenings.Admin.{Admin}
+use Rattle.hx_cluster.specs.declared.happenings.Admin.TheVariants as steps
+use Rattle.hx_cluster.specs.declared.happenings.Did.TheVariants as dids
+use Rattle.hx_cluster.specs.declared.happenings.Event.{Event}
+use Rattle.hx_cluster.specs.declared.happenings.Event.TheVariants as events
+use Rattle.hx_cluster.specs.declared.happenings.Mail.{Mail}
+use Rattle.hx_cluster.specs.declared.happenings.StepFault.{StepFault}
+use Rattle.hx_cluster.specs.Ends.{shown_of}
+use Rattle.hx_cluster.specs.Steps.{opening, refusal_of, did_of, has_instance, is_in_range, session_of}
+use Rattle.hx_cluster.specs.Reads.{instance_before, live_shown, messages_for, fetched}
+use Rattle.hx_cluster.specs.Events.{replay, is_later}
+use Rattle.hx_cluster.specs.Valid.{IsValid}
+use Rattle.hx_print.specs.Texts.{view_line, view_of_part, viewed_parts}
+use Rattle.hx_replicas.specs.declared.DeliverFault.{DeliverFault}
+use Rattle.hx_replicas.specs.Participants.{deliver_fault, accept}
+use Rattle.hx_script.specs.declared.What.{What}
+use Rattle.hx_script.specs.declared.What.TheVariants as asks
+use Rattle.hx_script.specs.declared.Line.{Line}
+use Rattle.hx_script.specs.Asked.{step_asked}
+use Rattle.hx_script.specs.Ranges as Ranges
+use Rattle.hx_control.specs.declared.PassOutcome.{PassOutcome}
+use Rattle.hx_control.specs.declared.PassOutcome.TheVariants as ends
+use Rattle.hx_sim.specs.World.{State, participant_of, with_participant}
+use Rattle.hx_sim.specs.Runs.{Run, Deed, state_of, Voice, Quiet, Loud, done, gives, and_then, happened, for_each}
+use Rattle.hx_sim.specs.Jobs
+use Rattle.hx_sim.specs.Settles
+use Rattle.hx_sim.specs.Scripts
+use Rattle.hx_safe.proofs.Counting.{and-first, and-second, all-map, all-le, all-find}
+use Rattle.hx_safe.proofs.Whole.{length-replicate}
+use Rattle.hx_covers.proofs.Sorting.{all-sort}
+use Rattle.hx_scripted.proofs.Lines.{step-line}
+use Rattle.hx_scripted.proofs.Asked.{IsAskedWell, instance_there, asked_well}
+use Rattle.hx_scripted.proofs.Taking.{adopted_there, history_kept, bagged_there, fetch_fetched, accepted_there}
+use Rattle.hx_cluster.specs.Ends.{is_live, message_of}
+use Rattle.hx_cluster.specs.Steps.{is_of, live_of, ended_of}
+use Rattle.hx_cluster.specs.Messages.{is_same}
+use Rattle.hx_cluster.specs.Weight.{weight_of}
+use Rattle.hx_safe.proofs.Counting.{all-find, find-any}
+use Rattle.hx_safe.proofs.Ends.{same-self}
+use Rattle.hx_safe.proofs.Ideals.{length-put}
+use Rattle.hx_safe.proofs.Kept.{IsKept}
+use Rattle.hx_runs.proofs.Calming.{same_self}
+use Rattle.hx_runs.proofs.On.{other-live}
+use Rattle.hx_scripted.specs.OfHistory.{is_fetched, IsOfItsHistory}
+use Rattle.hx_scripted.proofs.Standing.{ranged_there, fixed_there, scripted_other}
+use Rattle.hx_scripted.proofs.Keeping.{Keeps, keeps_on, keeps_then, keeps_each, keeps_those, keeps_gives, keeps_more, keeps_after}
+use Rattle.hx_agreed.specs.InStep.{Each, of_instance, IsInBag, IsInStep}
+use Rattle.hx_agreed.proofs.Quiet.{back-without}
+use Rattle.hx_agreed.proofs.Replicas.{accept_in_step}
+use Rattle.hx_agreed.proofs.Fetching.{cluster_left, all_put_in_step, all_in_bag, bagged_now, adopt_world_in_step, mail_found}
+use Rattle.hx_agreed.proofs.Going.{whole_there, happens, happens_then, done_then, each-find, board_happens}
+use Rattle.hx_agreed.proofs.DoingTurns.{Stands, keeps_line, keeps_note, keeps_loud, keeps_entries, keeps_begin, keeps_pass, keeps_unasked, keeps_word, keeps_read}
+use Rattle.hx_agreed.proofs.Doing.{keeps_taken, keeps_write, keeps_ack, keeps_carried, keeps_message}
+
+-- a fetch leaves the history, and the cluster, as they are
+fetched_history : (is_same : Bool) (i : InstanceId) (mail : Mail) (x : State)
+    → (Jobs.bagged mail.messages (if is_same then x else Jobs.adopt_in i mail.session x)).world.history ≡ x.world.history
+fetched_history true i mail x = refl
+fetched_history false i mail x = history_kept (Jobs.jobs_of i x) x
+
+-- messages that are pending, as they are, and that the bag has
+abbrev AreFound : Cluster → List Message → Type 0
+AreFound c ms = Each (λ m. message_of c.mail m.session m.part ≡ Some m) ms
+
+record AreReady (x : State) (ms : List Message) : Type 0 where
+  pub found : AreFound x.world.cluster ms
+  pub bagged : Each (λ m. list_any (is_same m) x.world.bag ≡ true) ms
+
+-- a session that ended is that of its instance no more
+after_end : (c : Cluster) (i : InstanceId) → ((j : InstanceId) → count (is_of j) c.live ≤ 1) → (o : Option Live) → live_of c.live i ≡ o → (s : SessionId) → session_of (ended_of c o) i ≡ Some s → is_live (ended_of c o).live s ≡ true → ⊥
+after_end c i few None is s e live = absurd (let z : ◌≡◌ {A = Option SessionId} None (Some s) = sym (ap (option_map (λ l. l.session)) is) ∙ e in (cc))
+after_end c i few (Some l) is s e live =
+    let before = back-without c.live l.session s i (few i) e in
+    let same : l.session ≡ s = some_is l.session s (sym (ap (option_map (λ x. x.session)) is) ∙ before) in
+    let other = other-live c.live l.session s live in
+    absurd (let z : true ≡ false = sym (subst (λ (u : SessionId). (s.0 == u.0) ≡ true) (sym same) (same-self s.0)) ∙ other in (cc))
+  where
+    some_is : (a b : SessionId) → Some a ≡ Some b → a ≡ b
+    some_is a b e = (cc)
+
+same_session_is : (a b : Option SessionId) (s : SessionId) → a ≡ Some s → b ≡ Some s → Jobs.same_session a b ≡ true
+same_session_is a b s e f =
+    ap (λ (o : Option SessionId). Jobs.same_session o b) e ∙ ap (λ (o : Option SessionId). Jobs.same_session (Some s) o) f ∙ same-self s.0
+
+module _ (spec : Spec) (valid : IsValid spec) (last : Option ℕ) where
+  kept_now : (x : State) → Stands spec last x → IsKept x.world.cluster
+  kept_now x s = (whole_there spec last x.world valid s.scripted).kept
+
+  in_range_now : (i : InstanceId) (x : State) → Ranges.has_instance spec i ≡ true → Stands spec last x → i.0 < length x.world.participants
+  in_range_now i x there s =
+      let many = s.in_step.participants in
+      let given : length x.world.spec.instances ≡ length spec.instances = ap (λ (g : Spec). length g.instances) s.scripted.of.given in
+      grind (arith, nat_tests, there, many, given)
+
+  -- a session is adopted
+  adopted_now : (i : InstanceId) (o : Option SessionId) (x : State) → Ranges.has_instance spec i ≡ true → Stands spec last x
+      → ((s : SessionId) → (of_instance x.world.participants i).session ≡ Some s → is_live x.world.cluster.live s ≡ false) → ((s : SessionId) → o ≡ Some s → session_of x.world.cluster i ≡ Some s)
+      → Stands spec last (Jobs.adopt_in i o x)
+  adopted_now i o x there s dead theirs = record {
+    scripted = adopted_there spec last i o x s.scripted;
+    in_step = adopt_world_in_step x i o (kept_now x s) s.in_step (in_range_now i x there s) dead theirs;
+  }
+
+  -- messages go into the bag
+  bagged_here : (ms : List Message) (x : State) → Stands spec last x → list_all (is_fetched spec x.world.history) ms ≡ true → AreFound x.world.cluster ms → Stands spec last (Jobs.bagged ms x)
+  bagged_here ms x s all found = record {
+    scripted = bagged_there spec last ms x s.scripted all;
+    in_step = record {
+      parts = all_put_in_step x.world.cluster (kept_now x s) x.world.participants x.world.jobs ms found x.world.bag s.in_step.parts;
+      participants = s.in_step.participants;
+      weight = s.in_step.weight;
+    };
+  }
+
+  ready_here : (ms : List Message) (x : State) → Stands spec last x → AreFound x.world.cluster ms → AreReady (Jobs.bagged ms x) ms
+  ready_here ms x s found = record {
+    found = found;
+    bagged = all_in_bag x.world.cluster (kept_now x s) x.world.participants x.world.jobs ms found x.world.bag s.in_step.parts;
+  }
+
+  left_dead : (i : InstanceId) (x : State) → Stands spec last x → Jobs.same_session (participant_of x.world i).session (session_of x.world.cluster i) ≡ false
+      → (s : SessionId) → (of_instance x.world.participants i).session ≡ Some s → is_live x.world.cluster.live s ≡ false
+  left_dead i x st other s mine = one (is_live x.world.cluster.live s) refl
+    where
+      one : (b : Bool) → is_live x.world.cluster.live s ≡ b → b ≡ false
+      one false e = refl
+      one true e =
+          let own = (st.in_step.parts.each i).own s mine e in
+          absurd (let z : true ≡ false = sym (same_session_is (participant_of x.world i).session (session_of x.world.cluster i) s mine own) ∙ other in (cc))
+
+  record IsTaken (x : State) (ms : List Message) : Type 0 where
+    pub stands : Stands spec last x
+    pub ready : AreReady x ms
+
+  mail_taken : (b : Bool) (i : InstanceId) (mail : Mail) (x : State) → Ranges.has_instance spec i ≡ true → Jobs.same_session (participant_of x.world i).session (session_of x.world.cluster i) ≡ b
+      → mail.session ≡ session_of x.world.cluster i → Stands spec last x → list_all (is_fetched spec x.world.history) mail.messages ≡ true → AreFound x.world.cluster mail.messages
+      → IsTaken (Jobs.bagged mail.messages (if b then x else Jobs.adopt_in i mail.session x)) mail.messages
+  mail_taken true i mail x there same its s all found = record { stands = bagged_here mail.messages x s all found; ready = ready_here mail.messages x s found }
+  mail_taken false i mail x there same its s all found =
+      let y = Jobs.adopt_in i mail.session x in
+      let g = adopted_now i mail.session x there s (left_dead i x s same) (λ u e. sym its ∙ e) in
+      let f = subst (λ (c : Cluster). AreFound c mail.messages) (sym (cluster_left (Jobs.jobs_of i x) x)) found in
+      record {
+        stands = bagged_here mail.messages y g (subst (λ (h : List Event). list_all (is_fetched spec h) mail.messages ≡ true) (sym (history_kept (Jobs.jobs_of i x) x)) all) f;
+        ready = ready_here mail.messages y g f;
+      }
+
+  fetch_happens : (i : InstanceId) (x : State) → Ranges.has_instance spec i ≡ true → Stands spec last x
+      → x.world.weight + weight_of (events.Fetch i (session_of x.world.cluster i) (length (messages_for x.world.cluster (session_of x.world.cluster i)))) ≤ x.world.limit
+      → Stands spec last (happened (events.Fetch i (session_of x.world.cluster i) (length (messages_for x.world.cluster (session_of x.world.cluster i)))) x)
+  fetch_happens i x there s room =
+      let c = x.world.cluster in
+      let e : Event = events.Fetch i (session_of c i) (length (messages_for c (session_of c i))) in
+      record {
+        scripted = scripted_other spec last last x.world e (happened e x).world.weight s.scripted (instance_there spec c i (fixed_there spec last x.world s.scripted) there, refl, refl) tt s.scripted.line (λ k. refl);
+        in_step = board_happens spec valid last e x s (instance_there spec c i (fixed_there spec last x.world s.scripted) there, refl, refl) refl room;
+      }
+
+  mail_fetched : (i : InstanceId) (x : State) → Stands spec last x
+      → list_all (is_fetched spec (x.world.history ++ events.Fetch i (session_of x.world.cluster i) (length (messages_for x.world.cluster (session_of x.world.cluster i))) ∷ []))
+      (messages_for x.world.cluster (session_of x.world.cluster i)) ≡ true
+  mail_fetched i x s =
+      subst (λ (c : Cluster). list_all (is_fetched spec (x.world.history ++ events.Fetch i (session_of c i) (length (messages_for c (session_of c i))) ∷ [])) (messages_for c (session_of c i)) ≡ true)
+      (sym s.scripted.of.cluster)
+      (let c = replay (opening spec) x.world.history in fetch_fetched spec x.world.history i (session_of c i) (length (messages_for c (session_of c i))))
+
+  fetched_now : (i : InstanceId) (x : State) → Ranges.has_instance spec i ≡ true → Stands spec last x
+      → x.world.weight + weight_of (events.Fetch i (session_of x.world.cluster i) (length (messages_for x.world.cluster (session_of x.world.cluster i)))) ≤ x.world.limit
+      → IsTaken (Jobs.fetched_as i (fetched x.world.cluster i) (happened (events.Fetch i (session_of x.world.cluster i) (length (messages_for x.world.cluster (session_of x.world.cluster i)))) x)) (messages_for x.world.cluster (session_of x.world.cluster i))
+  fetched_now i x there s room =
+      let c = x.world.cluster in
+      let y = happened (events.Fetch i (session_of c i) (length (messages_for c (session_of c i)))) x in
+      mail_taken (Jobs.same_session (participant_of y.world i).session (session_of c i)) i (fetched x.world.cluster i) y there refl refl (fetch_happens i x there s room) (mail_fetched i x s) (mail_found c (kept_now x s) (session_of c i))
+
+  fetched_then : (i : InstanceId) (x : State) (g : State → Deed) → Ranges.has_instance spec i ≡ true → Stands spec last x
+      → ((y : State) → IsTaken y (fetched x.world.cluster i).messages → list_all (is_fetched spec y.world.history) (fetched x.world.cluster i).messages ≡ true → Keeps (Stands spec last) (g y))
+      → Keeps (Stands spec last) (and_then (Jobs.fetch_mail i (fetched x.world.cluster i) x) g)
+  fetched_then i x g there s next =
+      let mail = fetched x.world.cluster i in
+      let e : Event = events.Fetch i mail.session (length mail.messages) in
+      let y = happened e x in
+      let b = Jobs.same_session (participant_of y.world i).session mail.session in
+      done_then (Stands spec last) e x (λ y. Jobs.fetched_as i mail y) g s
+      (λ room. next (Jobs.fetched_as i mail y) (fetched_now i x there s room)
+      (subst (λ (h : List Event). list_all (is_fetched spec h) mail.messages ≡ true) (sym (fetched_history b i mail y)) (mail_fetched i x s)))
+
+  fetch_done : (i : InstanceId) (x : State) → Ranges.has_instance spec i ≡ true → Stands spec last x → Keeps (Stands spec last) (Jobs.do_fetch i x)
+  fetch_done i x there s =
+      let mail = fetched x.world.cluster i in
+      let e : Event = events.Fetch i mail.session (length mail.messages) in
+      happens_then (Stands spec last) e x (λ y. done (Jobs.fetched_as i mail y)) s (λ room. record { left = (fetched_now i x there s room).stands })
+
+  -- deliveries
+  accepted_now : (i : InstanceId) (m : Message) (x : State) → Stands spec last x → is_fetched spec x.world.history m ≡ true → deliver_fault (participant_of x.world i) m ≡ None
+      → IsInBag x.world.cluster x.world.participants m → list_any (is_same m) x.world.bag ≡ true → Stands spec last (with_participant i (accept (participant_of x.world i) m) x)
+  accepted_now i m x s is none its there = record {
+    scripted = accepted_there spec last i m x s.scripted is;
+    in_step = record {
+      parts = accept_in_step x.world.cluster x.world.participants x.world.jobs x.world.bag (kept_now x s) s.in_step.parts i m none its there;
+      participants = length-put x.world.participants i.0 (accept (participant_of x.world i) m) ∙ s.in_step.participants;
+      weight = s.in_step.weight;
+    };
+  }
+
+  delivered : (v : Voice) (i : InstanceId) (m : Message) (f : Option DeliverFault) (x : State) → deliver_fault (participant_of x.world i) m ≡ f → Stands spec last x → is_fetched spec x.world.history m ≡ true
+      → IsInBag x.world.cluster x.world.participants m → list_any (is_same m) x.world.bag ≡ true → Keeps (Stands spec last) (Jobs.delivered v i m f x)
+  delivered v i m (Some f) x e s is its there = keeps_note spec valid last v _ x s
+  delivered v i m None x e s is its there =
+      keeps_loud spec valid last v 1 _ (with_participant i (accept (participant_of x.world i) m) x) (accepted_now i m x s is e its there)
+
+  from_bag : (v : Voice) (i : InstanceId) (id : MsgId) (o : Option Message) (x : State) → Stands spec last x → Jobs.in_bag id x ≡ o → Keeps (Stands spec last) (Jobs.deliver_from_bag v i o x)
+  from_bag v i id None x s is = keeps_note spec valid last v _ x s
+  from_bag v i id (Some m) x s is =
+      delivered v i m _ x refl s (all-find (is_fetched spec x.world.history) (λ m. m.id.0 == id.0) x.world.bag m s.scripted.of.bag is)
+      (each-find (IsInBag x.world.cluster x.world.participants) (λ m. m.id.0 == id.0) x.world.bag m s.in_step.parts.bagged is) (find-any (λ m. m.id.0 == id.0) (is_same m) x.world.bag m is (same_self m))
+
+  delivered_then : (i : InstanceId) (m : Message) (ms : List Message) (f : Option DeliverFault) (x : State) (g : State → Deed) → deliver_fault (participant_of x.world i) m ≡ f → Stands spec last x → AreReady x ms
+      → is_fetched spec x.world.history m ≡ true → IsInBag x.world.cluster x.world.participants m → list_any (is_same m) x.world.bag ≡ true
+      → ((y : State) → y.world.history ≡ x.world.history → Stands spec last y → AreReady y ms → Keeps (Stands spec last) (g y)) → Keeps (Stands spec last) (and_then (Jobs.delivered Quiet i m f x) g)
+  delivered_then i m ms (Some f) x g e s ready is its there next = keeps_after (Stands spec last) [] (g x) (next x refl s ready)
+  delivered_then i m ms None x g e s ready is its there next =
+      let y = with_participant i (accept (participant_of x.world i) m) x in
+      keeps_after (Stands spec last) [] (g y) (next y refl (accepted_now i m x s is e its there) (record { found = ready.found; bagged = ready.bagged }))
+
+  all_delivered : (i : InstanceId) (ms : List Message) (x : State) → Stands spec last x → AreReady x ms → list_all (is_fetched spec x.world.history) ms ≡ true
+      → Keeps (Stands spec last) (for_each (Jobs.deliver Quiet i) ms x)
+  all_delivered i [] x s ready all = record { left = s }
+  all_delivered i (m ∷ ms) x s ready all =
+      delivered_then i m ms (deliver_fault (participant_of x.world i) m) x (λ y. for_each (Jobs.deliver Quiet i) ms y) refl s (record { found = ready.found.1; bagged = ready.bagged.1 })
+      (and-first (is_fetched spec x.world.history m) (list_all (is_fetched spec x.world.history) ms) all)
+      (bagged_now x.world.cluster (kept_now x s) x.world.participants x.world.jobs x.world.bag s.in_step.parts m ready.found.0) ready.bagged.0
+      (λ y same there now. all_delivered i ms y there now
+      (subst (λ (h : List Event). list_all (is_fetched spec h) ms ≡ true) (sym same) (and-second (is_fetched spec x.world.history m) (list_all (is_fetched spec x.world.history) ms) all)))
+
+  work_done : (i : InstanceId) (x : State) → Ranges.has_instance spec i ≡ true → Stands spec last x → Keeps (Stands spec last) (Jobs.do_work i x)
+  work_done i x there s =
+      keeps_then (Stands spec last) _ _
+      (keeps_each (Stands spec last) (λ j y. Jobs.carry i j.message.id y) (λ j y here. keeps_carried spec valid last i j.message.id y here) (Jobs.jobs_of i x) x s) (λ y here.
+      keeps_then (Stands spec last) _ _
+      (fetched_then i y (λ z. for_each (Jobs.deliver Quiet i) (fetched y.world.cluster i).messages z) there here (λ z now all. all_delivered i (fetched y.world.cluster i).messages z now.stands now.ready all))
+      (λ z now. keeps_each (Stands spec last) (Jobs.run_message i) (λ m u so. keeps_message spec valid last i m u so) _ z now))
+
+  -- settles
+  live_instances : (x : State) → Stands spec last x → list_all (Ranges.has_instance spec) (map (λ e. e.1) (live_shown x.world.cluster)) ≡ true
+  live_instances x s =
+      let c = x.world.cluster in
+      let instances : length c.instances ≡ length spec.instances = (fixed_there spec last x.world s.scripted).instances ∙ length-replicate (length spec.instances) false in
+      all-map (Ranges.has_instance spec) (λ (e : SessionId × InstanceId). e.1) (live_shown c)
+      ∙ all-sort (λ (e : SessionId × InstanceId). Ranges.has_instance spec e.1) instance_before (shown_of c.live)
+      ∙ all-map (λ (e : SessionId × InstanceId). Ranges.has_instance spec e.1) (λ (l : Live). (l.session, l.instance)) c.live
+      ∙ all-le (λ (l : Live). has_instance c l.instance) (λ (l : Live). Ranges.has_instance spec l.instance) (λ (l : Live) (is : has_instance c l.instance ≡ true). ap (nat_lt l.instance.0) (sym instances) ∙ is) c.live
+      (ranged_there spec last x.world valid s.scripted).live
+
+  all_worked : (x : State) → Stands spec last x → Keeps (Stands spec last) (Settles.work_all x)
+  all_worked x s = keeps_those (Stands spec last) (Ranges.has_instance spec) Jobs.do_work (λ i y there here. work_done i y there here) (map (λ e. e.1) (live_shown x.world.cluster)) x (live_instances x s) s
+
+  round_ended : (n : ℕ) (o : Option PassOutcome) (f : State → Run Settles.Settled) → ((x : State) → Stands spec last x → Keeps (Stands spec last) (f x)) → (x : State) → Stands spec last x
+      → Keeps (Stands spec last) (Settles.unless_settled n o f x)
+  round_ended n None f k x s = keeps_then (Stands spec last) _ _ (all_worked x s) k
+  round_ended n (Some (ends.Sent sent)) f k x s = keeps_then (Stands spec last) _ _ (all_worked x s) k
+  round_ended n (Some (ends.Waiting pending)) f k x s = keeps_then (Stands spec last) _ _ (all_worked x s) k
+  round_ended n (Some (ends.Moved from to)) f k x s = keeps_then (Stands spec last) _ _ (all_worked x s) k
+  round_ended n (Some (ends.Settled report)) f k x s = record { left = s }
+
+  rounds_made : (m : ℕ) (k : ControllerId) (n : ℕ) (x : State) → Stands spec last x → Keeps (Stands spec last) (Settles.rounds m k n x)
+  rounds_made zero k n x s = record { left = s }
+  rounds_made (suc m) k n x s =
+      keeps_on (Stands spec last) _ _ (keeps_pass spec valid last Quiet k x s) (λ o y there. round_ended (n + 1) o (λ z. Settles.rounds m k (n + 1) z) (λ z here. rounds_made m k (n + 1) z here) y there)
+
+  settled : (k : Option ControllerId) (x : State) → Stands spec last x → Keeps (Stands spec last) (Settles.settle_led k x)
+  settled None x s = record { left = s }
+  settled (Some k) x s =
+      keeps_on (Stands spec last) _ (λ o y. gives y (Some o)) (rounds_made (Settles.enough_rounds x.world.cluster) k 0 x s)
+      (λ o y there. keeps_gives (Stands spec last) y (Some o) there)
+
+  report_lines : (r : Option Report) (x : State) → Stands spec last x → Keeps (Stands spec last) (Settles.say_report r x)
+  report_lines None x s = record { left = s }
+  report_lines (Some report) x s = keeps_entries spec valid last report.entries x s
+
+  settle_told : (v : Voice) (k : Option ControllerId) (o : Option Settles.Settled) (x : State) → Stands spec last x → Keeps (Stands spec last) (Settles.tell_settle v k o x)
+  settle_told v None o x s = keeps_note spec valid last v _ x s
+  settle_told v (Some k) None x s = keeps_note spec valid last v _ x s
+  settle_told v (Some k) (Some o) x s = keeps_then (Stands spec last) _ _ (keeps_line spec valid last 1 _ x s) (λ y there. report_lines o.report y there)
+
+  settle_done : (v : Voice) (x : State) → Stands spec last x → Keeps (Stands spec last) (Settles.do_settle v x)
+  settle_done v x s = keeps_on (Stands spec last) _ _ (settled _ x s) (λ o y there. settle_told v x.world.cluster.leader o y there)
+
+  -- steps
+  step_happens : (step : Admin) (x : State) → is_in_range x.world.cluster step ≡ true → refusal_of x.world.cluster step ≡ None → Stands spec last x
+      → x.world.weight + weight_of (events.Admin step (did_of x.world.cluster step)) ≤ x.world.limit → Stands spec last (happened (events.Admin step (did_of x.world.cluster step)) x)
+  step_happens step x well is s room =
+      let e : Event = events.Admin step (did_of x.world.cluster step) in
+      record {
+        scripted = scripted_other spec last last x.world e (happened e x).world.weight s.scripted (well, is, refl) tt (step-line x.world.cluster step ∙ s.scripted.line) (λ k. refl);
+        in_step = board_happens spec valid last e x s (well, is, refl) refl room;
+      }
+
+  stepped : (v : Voice) (step : Admin) (f : Option StepFault) (x : State) → refusal_of x.world.cluster step ≡ f → is_in_range x.world.cluster step ≡ true → Stands spec last x
+      → Keeps (Stands spec last) (Scripts.stepped v step f x)
+  stepped v step (Some f) x is well s = keeps_note spec valid last v _ x s
+  stepped v step None x is well s = happens (Stands spec last) (events.Admin step (did_of x.world.cluster step)) x s (step_happens step x well is s)
+
+  asked : (v : Voice) (step : Option Admin) (x : State) → IsAskedWell x.world.cluster step → Stands spec last x → Keeps (Stands spec last) (Scripts.do_asked v step x)
+  asked v None x well s = keeps_note spec valid last v _ x s
+  asked v (Some step) x well s = stepped v step _ x refl well s
+
+  end_dead : (i : InstanceId) (x : State) → Stands spec last x → (y : State) → y.world.cluster ≡ ended_of x.world.cluster (live_of x.world.cluster.live i) → Stands spec last y
+      → (s : SessionId) → (of_instance y.world.participants i).session ≡ Some s → is_live y.world.cluster.live s ≡ false
+  end_dead i x st y same now s mine = one (is_live y.world.cluster.live s) refl
+    where
+      one : (b : Bool) → is_live y.world.cluster.live s ≡ b → b ≡ false
+      one false e = refl
+      one true e =
+          let own = (now.in_step.parts.each i).own s mine e in
+          absurd (after_end x.world.cluster i (whole_there spec last x.world valid st.scripted).seated.instances (live_of x.world.cluster.live i) refl s
+          (subst (λ (c : Cluster). session_of c i ≡ Some s) same own) (subst (λ (c : Cluster). is_live c.live s ≡ true) same e))
+
+  died : (v : Voice) (i : InstanceId) (f : Option StepFault) (x : State) → Ranges.has_instance spec i ≡ true → refusal_of x.world.cluster (steps.End i) ≡ f → is_in_range x.world.cluster (steps.End i) ≡ true → Stands spec last x
+      → Keeps (Stands spec last) (Scripts.died v i f x)
+  died v i (Some f) x there is well s = keeps_note spec valid last v _ x s
+  died v i None x there is well s =
+      let e : Event = events.Admin (steps.End i) dids.Done in
+      happens_then (Stands spec last) e x (λ y. done (Jobs.adopt_in i None y)) s
+      (λ room. let now = step_happens (steps.End i) x well is s room in
+      record { left = adopted_now i None (happened e x) there now (end_dead i x s (happened e x) refl now) (λ u none. absurd (never u none)) })
+    where
+      never : (u : SessionId) → ◌≡◌ {A = Option SessionId} None (Some u) → ⊥
+      never u e = (cc)
+
+  view_done : (x : State) → Stands spec last x → Keeps (Stands spec last) (Scripts.do_view x)
+  view_done x s =
+      keeps_each (Stands spec last) (λ p y. Scripts.say_view_of p (view_of_part y.world.cluster p) y)
+      (λ p y there. keeps_line spec valid last (1 + length (view_of_part y.world.cluster p)) (view_line y.world.spec y.world.cluster.resources p (view_of_part y.world.cluster p)) y there)
+      (viewed_parts x.world.cluster) x s
+
+  routed : (v : Voice) (index : ℕ) (t : StateId) (r : Option ResourceId) (x : State) → Stands spec last x → Keeps (Stands spec last) (Scripts.route_on v index t r x)
+  routed v index t None x s = keeps_note spec valid last v _ x s
+  routed v index t (Some r) x s = keeps_line spec valid last _ _ x s
+
+  what_done : (v : Voice) (what : What) (x : State) → Ranges.is_in_range spec what ≡ true → Stands spec last x → Keeps (Stands spec last) (Scripts.do_what v what x)
+  what_done v (asks.Die i) x is s = died v i _ x is refl (instance_there spec x.world.cluster i (fixed_there spec last x.world s.scripted) is) s
+  what_done v (asks.Begin k) x is s = keeps_unasked spec valid last _ (keeps_begin spec valid last v k x s)
+  what_done v (asks.Read k kind) x is s = keeps_read spec valid last v k kind x s
+  what_done v (asks.Send k) x is s = keeps_word spec valid last v k _ x s
+  what_done v (asks.Post k) x is s = keeps_word spec valid last v k _ x s
+  what_done v (asks.Pass k) x is s = keeps_unasked spec valid last _ (keeps_pass spec valid last v k x s)
+  what_done v (asks.Fetch i) x is s = fetch_done i x is s
+  what_done v (asks.Deliver i id) x is s = from_bag v i id _ x s refl
+  what_done v (asks.Take i id) x is s = keeps_taken spec valid last v i id _ x s refl
+  what_done v (asks.Write i id) x is s = keeps_write spec valid last v i id x s
+  what_done v (asks.Ack i id) x is s = keeps_ack spec valid last v i id x s
+  what_done v (asks.Work i) x is s = work_done i x is s
+  what_done v asks.Settle x is s = settle_done v x s
+  what_done v asks.View x is s = view_done x s
+  what_done v (asks.Route name part state) x is s = routed v part state _ x s
+  what_done v asks.Summary x is s = keeps_line spec valid last 1 _ x s
+  what_done v what x is s = asked v (step_asked x.world.cluster what) x (asked_well spec x.world.cluster what valid (fixed_there spec last x.world s.scripted) is) s
+
+-- it holds of a state after some line
+record HasStood (spec : Spec) (x : State) : Type 0 where
+  pub last : Option ℕ
+  pub stands : Stands spec last x
+
+line_happens : (spec : Spec) (valid : IsValid spec) (last : Option ℕ) (l : Line) (x : State) → is_later last l.number ≡ true → Stands spec last x → x.world.weight + weight_of (events.Line l.number) ≤ x.world.limit
+    → Stands spec (Some l.number) (happened (events.Line l.number) x)
+line_happens spec valid last l x later s room =
+    let e : Event = events.Line l.number in
+    let step = ap (λ (o : Option ℕ). is_later o l.number) s.scripted.line ∙ later in
+    record {
+      scripted = scripted_other spec last (Some l.number) x.world e (happened e x).world.weight s.scripted step tt refl (λ k. refl);
+      in_step = board_happens spec valid last e x s step refl room;
+    }
+
+-- what a line and a settle leave
+pub line_left : (spec : Spec) (l : Line) (x : State) → IsValid spec → IsOfItsHistory spec x.world → IsInStep x.world → Scripts.is_next_line spec x.world.cluster.line l ≡ true
+    → IsInStep (state_of (Scripts.do_line l x)).world
+line_left spec l x valid of in_step next =
+    let last = x.world.cluster.line in
+    let s : Stands spec last x = record { scripted = record { of = of; line = refl }; in_step = in_step } in
+    let later = and-first (is_later last l.number) (Ranges.is_line_in_range spec l) next in
+    let ranged = and-second (is_later last l.number) (Ranges.is_line_in_range spec l) next in
+    (happens_then (HasStood spec) (events.Line l.number) x (λ y. Scripts.do_what (Loud l.number) l.what y) (record { last = last; stands = s })
+    (λ room. keeps_more (Stands spec (Some l.number)) (HasStood spec) (Scripts.do_what (Loud l.number) l.what (happened (events.Line l.number) x))
+    (what_done spec valid (Some l.number) (Loud l.number) l.what (happened (events.Line l.number) x) ranged (line_happens spec valid last l x later s room))
+    (λ y there. record { last = Some l.number; stands = there }))).left.stands.in_step
+
+pub settle_left : (spec : Spec) (x : State) → IsValid spec → IsOfItsHistory spec x.world → IsInStep x.world → IsInStep (state_of (Settles.settle x)).world
+settle_left spec x valid of in_step =
+    (settled spec valid x.world.cluster.line x.world.cluster.leader x (record { scripted = record { of = of; line = refl }; in_step = in_step })).left.in_step
