@@ -8,6 +8,8 @@ use Rattle.hx_cluster.specs.declared.happenings.Seen.{Seen}
 use Rattle.hx_cluster.specs.Events.{is_proposable, is_postable}
 use Rattle.hx_cluster.specs.Views.{is_well_formed}
 use Rattle.hx_lists.specs.Lists.{numbers_below}
+use Rattle.hx_gen.specs.Modelled.{has_models}
+use Rattle.hx_gen.proofs.Modelled.{well_formed-modelled}
 use Rattle.hx_pass.specs.Plans.{plan}
 use Rattle.hx_pass.specs.Turns.{posted_of}
 use Rattle.hx_safe.proofs.Counting.{and-first}
@@ -36,3 +38,7 @@ view_formed spec b view told same of =
     let many : length b.cluster.instances ≡ length spec.instances = instances_given b told ∙ ap (λ (s : Spec). length s.instances) same in
     subst (λ (n : ℕ). is_well_formed spec.models n view ≡ true) many
     (and-first (is_well_formed spec.models (length b.cluster.instances) view) (list_all (has_parts_of b.cluster view) (numbers_below (length view.ideals.resources))) of)
+
+pub view_modelled : (spec : Spec) (b : Held) (view : View) → HasHistory b → b.spec ≡ spec → is_of_cluster spec b.cluster view ≡ true
+    → has_models spec.models view ≡ true
+view_modelled spec b view told same of = well_formed-modelled spec.models (length spec.instances) view (view_formed spec b view told same of)

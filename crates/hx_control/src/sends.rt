@@ -60,7 +60,7 @@ impl Controller {
     }
 
     /// Makes the plan of what was shown.
-    #[tactic(auto, using(crate::proofs::Sending::view_formed))]
+    #[tactic(auto, using(crate::proofs::Sending::view_modelled))]
     pub(crate) fn make_plan(
         &mut self,
         spec: &Spec,
