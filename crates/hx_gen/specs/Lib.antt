@@ -1,3 +1,4 @@
 pub mod Candidates
 pub mod Stage
 pub mod Order
+pub mod Modelled

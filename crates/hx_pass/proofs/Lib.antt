@@ -3,3 +3,4 @@ mod PreferenceList
 mod BoundReached
 mod ThrottledParts
 mod FirstPass
+pub mod Made

@@ -1,5 +1,5 @@
-use Rattle.hx_gen.proofs.Modelled.{targets_modelled}
+use Rattle.hx_gen.proofs.Modelled.{all_targets-modelled}
 use Rattle.hx_gen.proofs.laws.targets_have_models.Goals as goal
 
 pub returns : goal.returns
-returns c = targets_modelled
+returns c = all_targets-modelled

@@ -1,0 +1,13 @@
+use Rattle.std.proofs.Common.{ℕ, List, ◌++◌, ◌∙◌, ap, sym}
+use Rattle.hx_cluster.specs.declared.planning.Target.{Target}
+use Rattle.hx_best.specs.Targets.{targets}
+use Rattle.hx_best.proofs.Found.{flat_map-numbers_below_more}
+use Rattle.hx_pass.proofs.all_targets.Goals as goal
+
+pub loop-number-preserved : goal.loop-number-preserved
+loop-number-preserved c =
+    let of : ℕ → List Target = λ n. targets c.args.models.now c.args.index.now (record { 0 = n }) in
+    c.in_ok-extend_from_slice.ensures.items
+    ∙ ap (λ (ts : List Target). c.loop-number.found.items ++ ts) (c.as_slice.ensures.value ∙ c.in_ok-more.ensures)
+    ∙ ap (λ (ts : List Target). ts ++ of c.loop-number.number) c.loop-number.invariant
+    ∙ sym (flat_map-numbers_below_more of c.loop-number.number)
