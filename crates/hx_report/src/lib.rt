@@ -4,11 +4,10 @@
 mod fates;
 mod places;
 
-pub use fates::Fates;
-
 ghost use Rattle.std.specs.Prelude.{◌≡◌, IfOk};
 ghost use Rattle.hx_report.specs.Findings.{report, is_failed, finding_of};
 
+pub use fates::Fates;
 use hx_cluster::{Entry, Finding, Report, Selection, Target, Throttled, View};
 use hx_lists::Seq;
 use hx_model::ERROR;
