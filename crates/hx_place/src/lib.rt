@@ -37,3 +37,6 @@ pub fn round_robin(
     }
     Ok(all)
 }
+
+#[cfg(test)]
+mod tests;

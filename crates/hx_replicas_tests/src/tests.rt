@@ -9,8 +9,6 @@ use hx_replicas::{DeliverFault, Participant};
 use std::process::Abort;
 use std::test::Fail;
 
-mod handlers;
-
 const N1: InstanceId = InstanceId(0);
 
 const FIRST: SessionId = SessionId(1);

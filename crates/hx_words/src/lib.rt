@@ -59,3 +59,6 @@ impl From<AllocError> for WordsFault {
         WordsFault::OutOfMemory
     }
 }
+
+#[cfg(test)]
+mod tests;

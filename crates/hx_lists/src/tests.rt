@@ -1,4 +1,4 @@
-use hx_lists::{Log, Seq};
+use super::*;
 use std::test::Fail;
 
 #[test]

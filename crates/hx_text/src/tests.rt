@@ -1,4 +1,4 @@
-use hx_text::{Page, Piece, TextFault, cut, split_lines};
+use super::*;
 use std::test::Fail;
 
 #[test]

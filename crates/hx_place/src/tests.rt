@@ -1,4 +1,4 @@
-use hx_place::round_robin;
+use super::*;
 use std::test::Fail;
 
 #[test]

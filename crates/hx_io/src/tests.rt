@@ -1,6 +1,4 @@
-use hx_io::{
-    Failed, MemSink, MemSource, ReadFault, Source, StdSink, StdSource, read_all, write_all,
-};
+use super::*;
 use std::io;
 use std::test::Fail;
 

@@ -1,11 +1,21 @@
 ghost use Rattle.std.specs.Prelude.{◌≡◌};
 
-use super::{OFFLINE, ONLINE, part};
+use super::*;
 use hx_cluster::Failure;
-use hx_handler::{Factory, Handler, Kept, MakeFault, ScriptedFactory, ScriptedHandler};
-use hx_ids::{InstanceId, PartId};
+use hx_ids::{InstanceId, ResourceId};
 use std::process::Abort;
 use std::test::Fail;
+
+const ONLINE: StateId = StateId(2);
+
+const OFFLINE: StateId = StateId(3);
+
+fn part(index: u32) -> PartId {
+    PartId {
+        resource: ResourceId(0),
+        index,
+    }
+}
 
 fn failure(index: u32, make: bool, number: u32) -> Failure {
     Failure {

@@ -1,4 +1,4 @@
-use hx_words::{RunMode, Task, Words, WordsFault, read_words, usage, version};
+use super::*;
 use std::alloc::{AllocError, Global};
 use std::test::Fail;
 

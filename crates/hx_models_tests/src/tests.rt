@@ -1,0 +1,3 @@
+mod hops;
+mod ideals;
+mod models;

@@ -1,0 +1,4 @@
+mod counts;
+mod links;
+mod sessions;
+mod store;
