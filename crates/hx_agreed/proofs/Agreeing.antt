@@ -19,9 +19,9 @@ use Rattle.hx_replicas.specs.declared.slots.Work.{Work}
 use Rattle.hx_replicas.specs.declared.slots.Work.TheVariants.{Idle, Accepted, Out}
 use Rattle.hx_replicas.specs.Participants.{Participant, Slot, new_participant, slot_of, is_session}
 use Rattle.hx_replicas.proofs.Parts.{part_eq-self}
-use Rattle.hx_sim.specs.World.{Job}
-use Rattle.hx_sim.specs.Jobs.{is_job}
-use Rattle.hx_sim.specs.Agree
+use Rattle.hx_worlds.specs.World.{Job}
+use Rattle.hx_worlds.specs.Jobs.{is_job}
+use Rattle.hx_worlds.specs.Agree
 use Rattle.hx_safe.proofs.Counting.{and-first, and-second, and-both, find-passes, find-any, find-single, none-find}
 use Rattle.hx_safe.proofs.Ends.{same-self, session_same}
 use Rattle.hx_runs.proofs.Waiting.{any-le}

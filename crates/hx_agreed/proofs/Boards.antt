@@ -25,8 +25,8 @@ use Rattle.hx_cluster.specs.Steps.{after, ended_by, is_of, live_of, without, wit
 use Rattle.hx_cluster.specs.Messages.{is_same, placed_of, message_from, after_placed, next_pass, after_dispatch}
 use Rattle.hx_cluster.specs.Events.{next, begun_of, is_proposable, IsStep}
 use Rattle.hx_replicas.specs.Participants.{Participant, slot_of}
-use Rattle.hx_sim.specs.World.{Job}
-use Rattle.hx_sim.specs.Agree.{is_known_at}
+use Rattle.hx_worlds.specs.World.{Job}
+use Rattle.hx_worlds.specs.Agree.{is_known_at}
 use Rattle.hx_safe.proofs.Counting.{any-append, count-filter, count-removed, find-passes, find-any, find-single, any-count}
 use Rattle.hx_safe.proofs.Ends.{session_same, same-self}
 use Rattle.hx_safe.proofs.Kept.{IsKept, kept_beside, kept_raised}

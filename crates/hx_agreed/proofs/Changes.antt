@@ -20,8 +20,8 @@ use Rattle.hx_replicas.specs.declared.slots.Work.{Work}
 use Rattle.hx_replicas.specs.declared.slots.Work.TheVariants.{Out}
 use Rattle.hx_replicas.specs.Participants.{Participant, Slot, slot_of, counts_as, is_out, is_session}
 use Rattle.hx_replicas.specs.Layout.{AreDistinct}
-use Rattle.hx_sim.specs.World.{Job}
-use Rattle.hx_sim.specs.Agree.{is_below, is_known_at, StandsAsRow}
+use Rattle.hx_worlds.specs.World.{Job}
+use Rattle.hx_worlds.specs.Agree.{is_below, is_known_at, StandsAsRow}
 use Rattle.hx_safe.proofs.Counting.{and-first, and-second}
 use Rattle.hx_safe.proofs.Ends.{session_same, part_same}
 use Rattle.hx_safe.proofs.Kept.{IsKept}

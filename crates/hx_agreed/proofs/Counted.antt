@@ -21,7 +21,7 @@ use Rattle.hx_cluster.specs.Steps.{after, ended_by, live_of, without, without_al
 use Rattle.hx_cluster.specs.Messages.{placed_of, placed_all, after_placed, after_proposal, after_proposals, next_pass, pending_of, written_of}
 use Rattle.hx_cluster.specs.Events.{next, replay, IsStep, IsLegal}
 use Rattle.hx_control.specs.Steps.{is_sent}
-use Rattle.hx_sim.specs.Summaries.{joined_in, sent_in}
+use Rattle.hx_worlds.specs.Summaries.{joined_in, sent_in}
 use Rattle.hx_safe.proofs.Beside.{IsBeside, beside_step, beside_pass}
 
 -- the next numbers rise by so much

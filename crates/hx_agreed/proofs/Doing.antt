@@ -22,9 +22,11 @@ use Rattle.hx_cluster.specs.Valid.{IsValid}
 use Rattle.hx_print.specs.declared.Note.TheVariants as notes
 use Rattle.hx_replicas.specs.declared.slots.Work.TheVariants.{Accepted}
 use Rattle.hx_replicas.specs.Participants.{Participant, slot_of, accepted_by, makes, made_ready, hand_out, finish}
-use Rattle.hx_sim.specs.World.{State, Job, Answers, rest_of, participant_of, with_participant}
-use Rattle.hx_sim.specs.Runs.{Voice, Quiet, done, happened}
-use Rattle.hx_sim.specs.Jobs
+use Rattle.hx_worlds.specs.World.{State, Job, Answers, rest_of, participant_of, with_participant}
+use Rattle.hx_worlds.specs.declared.Voice.{Voice}
+use Rattle.hx_worlds.specs.declared.Voice.TheVariants.{Quiet}
+use Rattle.hx_worlds.specs.Runs.{done, happened}
+use Rattle.hx_worlds.specs.Jobs
 use Rattle.hx_safe.proofs.Counting.{and-first, and-second, find-passes}
 use Rattle.hx_safe.proofs.Ideals.{length-put}
 use Rattle.hx_safe.proofs.Kept.{IsKept}

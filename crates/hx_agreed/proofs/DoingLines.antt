@@ -38,11 +38,14 @@ use Rattle.hx_script.specs.Asked.{step_asked}
 use Rattle.hx_script.specs.Ranges as Ranges
 use Rattle.hx_control.specs.declared.PassOutcome.{PassOutcome}
 use Rattle.hx_control.specs.declared.PassOutcome.TheVariants as ends
-use Rattle.hx_sim.specs.World.{State, participant_of, with_participant}
-use Rattle.hx_sim.specs.Runs.{Run, Deed, state_of, Voice, Quiet, Loud, done, gives, and_then, happened, for_each}
-use Rattle.hx_sim.specs.Jobs
-use Rattle.hx_sim.specs.Settles
-use Rattle.hx_sim.specs.Scripts
+use Rattle.hx_worlds.specs.World.{State, participant_of, with_participant}
+use Rattle.hx_worlds.specs.declared.Settled.{Settled}
+use Rattle.hx_worlds.specs.declared.Voice.{Voice}
+use Rattle.hx_worlds.specs.declared.Voice.TheVariants.{Quiet, Loud}
+use Rattle.hx_worlds.specs.Runs.{Run, Deed, state_of, done, gives, and_then, happened, for_each}
+use Rattle.hx_worlds.specs.Jobs
+use Rattle.hx_worlds.specs.Settles
+use Rattle.hx_worlds.specs.Scripts
 use Rattle.hx_safe.proofs.Counting.{and-first, and-second, all-map, all-le, all-find}
 use Rattle.hx_safe.proofs.Whole.{length-replicate}
 use Rattle.hx_covers.proofs.Sorting.{all-sort}
@@ -272,7 +275,7 @@ module _ (spec : Spec) (valid : IsValid spec) (last : Option ℕ) where
   all_worked : (x : State) → Stands spec last x → Keeps (Stands spec last) (Settles.work_all x)
   all_worked x s = keeps_those (Stands spec last) (Ranges.has_instance spec) Jobs.do_work (λ i y there here. work_done i y there here) (map (λ e. e.1) (live_shown x.world.cluster)) x (live_instances x s) s
 
-  round_ended : (n : ℕ) (o : Option PassOutcome) (f : State → Run Settles.Settled) → ((x : State) → Stands spec last x → Keeps (Stands spec last) (f x)) → (x : State) → Stands spec last x
+  round_ended : (n : ℕ) (o : Option PassOutcome) (f : State → Run Settled) → ((x : State) → Stands spec last x → Keeps (Stands spec last) (f x)) → (x : State) → Stands spec last x
       → Keeps (Stands spec last) (Settles.unless_settled n o f x)
   round_ended n None f k x s = keeps_then (Stands spec last) _ _ (all_worked x s) k
   round_ended n (Some (ends.Sent sent)) f k x s = keeps_then (Stands spec last) _ _ (all_worked x s) k
@@ -295,7 +298,7 @@ module _ (spec : Spec) (valid : IsValid spec) (last : Option ℕ) where
   report_lines None x s = record { left = s }
   report_lines (Some report) x s = keeps_entries spec valid last report.entries x s
 
-  settle_told : (v : Voice) (k : Option ControllerId) (o : Option Settles.Settled) (x : State) → Stands spec last x → Keeps (Stands spec last) (Settles.tell_settle v k o x)
+  settle_told : (v : Voice) (k : Option ControllerId) (o : Option Settled) (x : State) → Stands spec last x → Keeps (Stands spec last) (Settles.tell_settle v k o x)
   settle_told v None o x s = keeps_note spec valid last v _ x s
   settle_told v (Some k) None x s = keeps_note spec valid last v _ x s
   settle_told v (Some k) (Some o) x s = keeps_then (Stands spec last) _ _ (keeps_line spec valid last 1 _ x s) (λ y there. report_lines o.report y there)

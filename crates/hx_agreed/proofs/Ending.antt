@@ -23,9 +23,9 @@ use Rattle.hx_replicas.specs.declared.slots.Work.TheVariants.{Out}
 use Rattle.hx_replicas.specs.Participants.{Participant, Slot, slot_of, state_for, counts_as, brought, end_of, finish}
 use Rattle.hx_replicas.specs.Layout.{AreDistinct}
 use Rattle.hx_replicas.proofs.Putting.{part-slot_in, slot_in-put}
-use Rattle.hx_sim.specs.World.{Job}
-use Rattle.hx_sim.specs.Jobs.{is_job}
-use Rattle.hx_sim.specs.Agree.{is_at_end}
+use Rattle.hx_worlds.specs.World.{Job}
+use Rattle.hx_worlds.specs.Jobs.{is_job}
+use Rattle.hx_worlds.specs.Agree.{is_at_end}
 use Rattle.hx_safe.proofs.Counting.{and-first, and-second, and-both, all-filter_more, all-find, any-filter_kept, find-passes}
 use Rattle.hx_safe.proofs.Ends.{same-self, session_same, part_same, part_eq-self, find-filter}
 use Rattle.hx_safe.proofs.Kept.{IsKept}

@@ -17,9 +17,9 @@ use Rattle.hx_cluster.specs.Steps.{session_of}
 use Rattle.hx_cluster.specs.Messages.{initial_of, standing_of, is_same}
 use Rattle.hx_replicas.specs.Participants.{Participant, Slot, new_slot, slot_of, counts_as, is_session, finish, brought, end_of, adopt}
 use Rattle.hx_replicas.specs.Layout.{AreDistinct}
-use Rattle.hx_sim.specs.World.{Job, State, participant_of}
-use Rattle.hx_sim.specs.Jobs
-use Rattle.hx_sim.specs.Agree.{is_below, is_known_at, is_lent_to}
+use Rattle.hx_worlds.specs.World.{Job, State, participant_of}
+use Rattle.hx_worlds.specs.Jobs
+use Rattle.hx_worlds.specs.Agree.{is_below, is_known_at, is_lent_to}
 use Rattle.hx_safe.proofs.Counting.{and-first, and-second, and-both, any-filter_kept, count-none, all-filter_more, none-from-all, find-any, any-count}
 use Rattle.hx_safe.proofs.Ends.{same-self, part_eq-self}
 use Rattle.hx_safe.proofs.Ideals.{length-put}

@@ -23,8 +23,8 @@ use Rattle.hx_cluster.specs.Safe.{is_pending, is_kept}
 use Rattle.hx_replicas.specs.declared.slots.Work.{Work}
 use Rattle.hx_replicas.specs.declared.slots.Work.TheVariants.{Idle, Accepted, Out}
 use Rattle.hx_replicas.specs.Participants.{Participant, Slot, slot_of, counts_as, state_for}
-use Rattle.hx_sim.specs.World.{Job}
-use Rattle.hx_sim.specs.Agree.{is_below, is_known_at, is_accepted_as, is_out_as, is_lent_to, is_at_end}
+use Rattle.hx_worlds.specs.World.{Job}
+use Rattle.hx_worlds.specs.Agree.{is_below, is_known_at, is_accepted_as, is_out_as, is_lent_to, is_at_end}
 use Rattle.hx_safe.proofs.Counting.{and-first, and-second, and-both, find-passes, find-any, find-single, all-find}
 use Rattle.hx_safe.proofs.Ends.{same-self, session_same, part_same}
 use Rattle.hx_safe.proofs.Kept.{IsKept, number-below}

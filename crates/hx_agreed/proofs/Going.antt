@@ -12,9 +12,9 @@ use Rattle.hx_cluster.specs.Events.{replay, IsStep}
 use Rattle.hx_cluster.specs.Weight.{weight_of}
 use Rattle.hx_cluster.specs.Valid.{IsValid}
 use Rattle.hx_control.specs.OfBoard.{is_own}
-use Rattle.hx_sim.specs.World.{World, State}
-use Rattle.hx_sim.specs.Items.{Happens, Says}
-use Rattle.hx_sim.specs.Runs.{Run, Deed, GoesOn, Stops, done, and_then, happened, make, happen, charged, say}
+use Rattle.hx_worlds.specs.World.{World, State}
+use Rattle.hx_worlds.specs.Items.{Happens, Says}
+use Rattle.hx_worlds.specs.Runs.{Run, Deed, GoesOn, Stops, done, and_then, happened, make, happen, charged, say}
 use Rattle.hx_safe.proofs.Whole.{IsWhole, whole_from, reached_safe, reached_ranged}
 use Rattle.hx_scripted.proofs.Standing.{IsScripted}
 use Rattle.hx_scripted.proofs.Keeping.{Keeps, keeps_after}

@@ -17,11 +17,11 @@ use Rattle.hx_replicas.specs.declared.slots.Work.TheVariants.{Idle, Accepted, Ou
 use Rattle.hx_replicas.specs.Participants.{Participant, Slot, new_participant, new_slot, slot_of, is_idle, is_out, all_idle, accepted_of}
 use Rattle.hx_control.specs.Controllers.{Controller, idle_controller}
 use Rattle.hx_script.specs.declared.Line.{Line}
-use Rattle.hx_sim.specs.World.{Job, State, opening_world}
-use Rattle.hx_sim.specs.Runs.{state_of}
-use Rattle.hx_sim.specs.Settles
-use Rattle.hx_sim.specs.Scripts
-use Rattle.hx_sim.specs.Agree
+use Rattle.hx_worlds.specs.World.{Job, State, opening_world}
+use Rattle.hx_worlds.specs.Runs.{state_of}
+use Rattle.hx_worlds.specs.Settles
+use Rattle.hx_worlds.specs.Scripts
+use Rattle.hx_worlds.specs.Agree
 use Rattle.hx_safe.proofs.Counting.{and-first, and-second, all-le, all-find, and-both}
 use Rattle.hx_safe.proofs.Whole.{length-replicate}
 use Rattle.hx_scripted.specs.OfHistory.{has_fetched, IsTurnOf, IsOfItsHistory}

@@ -6,7 +6,7 @@ use Rattle.std.proofs.lemmas.Bool.Decides.{nat_tests}
 use Rattle.std.proofs.lemmas.List.Elements.{All-cons, All-nil}
 use Rattle.hx_lists.specs.Lists.{count}
 use Rattle.hx_replicas.specs.Participants.{Participant, new_participant}
-use Rattle.hx_sim.specs.Agree.{Stationed, stationed_from}
+use Rattle.hx_worlds.specs.Agree.{Stationed, stationed_from}
 use Rattle.hx_safe.proofs.Counting.{and-both, find-passes, find-single, none-find}
 use Rattle.hx_agreed.specs.InStep.{Each}
 

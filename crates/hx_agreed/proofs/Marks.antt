@@ -24,9 +24,9 @@ use Rattle.hx_replicas.specs.declared.slots.Work.TheVariants.{Idle, Accepted, Ou
 use Rattle.hx_replicas.specs.Participants.{Participant, Slot, slot_in, slot_of, accepted_of, has_accepted, accepted_in, accepted_by, is_out, brought, finish, hand_out, made_ready, emptied_for}
 use Rattle.hx_replicas.specs.Layout.{AreDistinct}
 use Rattle.hx_replicas.proofs.Putting.{part-slot_in, slot_in-put, slots-hand_out}
-use Rattle.hx_sim.specs.World.{Job}
-use Rattle.hx_sim.specs.Jobs.{is_job}
-use Rattle.hx_sim.specs.Agree.{is_known_at, is_lent_to, is_at_end}
+use Rattle.hx_worlds.specs.World.{Job}
+use Rattle.hx_worlds.specs.Jobs.{is_job}
+use Rattle.hx_worlds.specs.Agree.{is_known_at, is_lent_to, is_at_end}
 use Rattle.hx_safe.proofs.Counting.{and-first, and-second, and-both, any-append, count-append, count-none, find-passes, find-any, find-single, none-find}
 use Rattle.hx_safe.proofs.Ends.{same-self, session_same, part_eq-self}
 use Rattle.hx_safe.proofs.Kept.{IsKept}

@@ -17,7 +17,7 @@ use Rattle.hx_cluster.specs.Ends.{is_message, is_live, state_of, message_of, mod
 use Rattle.hx_cluster.specs.Steps.{is_of, live_of, session_of, without}
 use Rattle.hx_cluster.specs.Events.{has_part}
 use Rattle.hx_replicas.specs.Participants.{Participant}
-use Rattle.hx_sim.specs.World.{Job}
+use Rattle.hx_worlds.specs.World.{Job}
 use Rattle.hx_safe.proofs.Ends.{find-filter_kept, find-filter}
 use Rattle.hx_safe.proofs.Kept.{IsKept}
 use Rattle.hx_safe.proofs.Leaving.{state-without}

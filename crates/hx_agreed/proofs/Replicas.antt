@@ -20,8 +20,8 @@ use Rattle.hx_replicas.specs.declared.slots.Work.TheVariants.{Idle, Accepted, Ou
 use Rattle.hx_replicas.specs.Participants.{Participant, Slot, new_participant, slot_of, state_for, counts_as, is_out, is_session, slot_fault, deliver_fault, accepted, accept}
 use Rattle.hx_replicas.specs.Layout.{AreDistinct}
 use Rattle.hx_replicas.proofs.Putting.{part-slot_in, slot_in-put}
-use Rattle.hx_sim.specs.World.{Job}
-use Rattle.hx_sim.specs.Agree.{is_known_at, is_accepted_as, is_out_as, is_lent_to}
+use Rattle.hx_worlds.specs.World.{Job}
+use Rattle.hx_worlds.specs.Agree.{is_known_at, is_accepted_as, is_out_as, is_lent_to}
 use Rattle.hx_safe.proofs.Counting.{and-both}
 use Rattle.hx_safe.proofs.Ends.{same-self, part_same}
 use Rattle.hx_safe.proofs.Kept.{IsKept}

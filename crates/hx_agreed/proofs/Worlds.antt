@@ -16,8 +16,8 @@ use Rattle.hx_pass.specs.Lawful.{IsLawful}
 use Rattle.hx_replicas.specs.Participants.{Participant}
 use Rattle.hx_control.specs.Controllers.{Controller, idle_controller}
 use Rattle.hx_control.specs.OfBoard.{OfBoard}
-use Rattle.hx_sim.specs.World.{World, Job}
-use Rattle.hx_sim.specs.Agree
+use Rattle.hx_worlds.specs.World.{World, Job}
+use Rattle.hx_worlds.specs.Agree
 use Rattle.hx_safe.proofs.Whole.{reached_safe}
 use Rattle.hx_scripted.specs.OfHistory.{IsTurnOf, IsOfItsHistory}
 use Rattle.hx_agreed.specs.InStep.{AreInStep, IsInStep}

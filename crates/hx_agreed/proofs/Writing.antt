@@ -20,9 +20,9 @@ use Rattle.hx_cluster.specs.Messages.{is_same, state_after, as_written, row_put,
 use Rattle.hx_replicas.specs.declared.slots.Work.{Work}
 use Rattle.hx_replicas.specs.declared.slots.Work.TheVariants.{Idle, Accepted, Out}
 use Rattle.hx_replicas.specs.Participants.{Participant, Slot, slot_of, is_out}
-use Rattle.hx_sim.specs.World.{Job}
-use Rattle.hx_sim.specs.Jobs.{is_job, as_written_job}
-use Rattle.hx_sim.specs.Agree.{is_known_at, is_out_as, is_lent_to, is_at_end}
+use Rattle.hx_worlds.specs.World.{Job}
+use Rattle.hx_worlds.specs.Jobs.{is_job, as_written_job}
+use Rattle.hx_worlds.specs.Agree.{is_known_at, is_out_as, is_lent_to, is_at_end}
 use Rattle.hx_safe.proofs.Ends.{same-self, put-other, put-here}
 use Rattle.hx_safe.proofs.Kept.{IsKept}
 use Rattle.hx_agreed.specs.InStep.{Each, of_instance, IsOfSlot, is_lent_as, HasWork, row_after, IsTakenBy, IsHeldJob, AreInStep}

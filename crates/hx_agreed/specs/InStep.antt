@@ -18,9 +18,9 @@ use Rattle.hx_replicas.specs.declared.slots.Work.{Work}
 use Rattle.hx_replicas.specs.declared.slots.Work.TheVariants.{Idle, Accepted, Out}
 use Rattle.hx_replicas.specs.Participants.{Participant, Slot, new_participant, slot_of, is_out, is_session}
 use Rattle.hx_replicas.specs.Layout.{AreDistinct}
-use Rattle.hx_sim.specs.World.{World, Job}
-use Rattle.hx_sim.specs.Jobs.{is_job}
-use Rattle.hx_sim.specs.Agree.{is_below, is_known_at, StandsAsRow, is_lent_to, IsTakenAs}
+use Rattle.hx_worlds.specs.World.{World, Job}
+use Rattle.hx_worlds.specs.Jobs.{is_job}
+use Rattle.hx_worlds.specs.Agree.{is_below, is_known_at, StandsAsRow, is_lent_to, IsTakenAs}
 
 -- what holds of each item of a list
 abbrev pub Each : {X : Type 0} → (X → Type 0) → List X → Type 0

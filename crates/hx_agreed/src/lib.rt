@@ -10,11 +10,11 @@ ghost use Rattle.hx_cluster.specs.Valid.{IsValid};
 ghost use Rattle.hx_replicas.specs.Participants.{all_idle, accepted_of};
 ghost use Rattle.hx_control.specs.Controllers.{Controller, idle_controller};
 ghost use Rattle.hx_script.specs.declared.Line.{Line};
-ghost use Rattle.hx_sim.specs.World.{World, Job, State, opening_world};
-ghost use Rattle.hx_sim.specs.Runs.{state_of};
-ghost use Rattle.hx_sim.specs.Settles.{settle};
-ghost use Rattle.hx_sim.specs.Scripts.{do_line, is_next_line};
-ghost use Rattle.hx_sim.specs.Agree.{
+ghost use Rattle.hx_worlds.specs.World.{World, Job, State, opening_world};
+ghost use Rattle.hx_worlds.specs.Runs.{state_of};
+ghost use Rattle.hx_worlds.specs.Settles.{settle};
+ghost use Rattle.hx_worlds.specs.Scripts.{do_line, is_next_line};
+ghost use Rattle.hx_worlds.specs.Agree.{
   Agree,
   AgreeOpen,
   BoardState,

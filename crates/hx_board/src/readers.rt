@@ -1,6 +1,7 @@
-//! What stands on a board. No reader takes memory.
-ghost use Rattle.std.specs.Prelude.{◌≡◌, option_copied};
-ghost use Rattle.hx_cluster.specs.Ends.{state_of, message_of, resource_at};
+//! What stands on a board. No reader takes memory, but those that answer a list of their own.
+ghost use Rattle.std.specs.Prelude.{◌≡◌, option_copied, IfOk};
+ghost use Rattle.hx_cluster.specs.Ends.{state_of, message_of, resource_at, shown_of};
+ghost use Rattle.hx_cluster.specs.Reads.{live_shown};
 ghost use Rattle.hx_cluster.specs.Steps.{opening, session_of, is_drained, newest, refusal_of};
 ghost use Rattle.hx_cluster.specs.Safe.{SafeAlong};
 ghost use Rattle.hx_cluster.specs.Runs.{IsOneRunEach};
@@ -9,6 +10,7 @@ ghost use Rattle.hx_board.specs.Board.{weight_at, HasHistory};
 use crate::board::Board;
 use hx_cluster::{Admin, History, Message, Resource, Seen, StepFault};
 use hx_ids::{ControllerId, InstanceId, PartId, ResourceId, SessionId, StateId};
+use std::alloc::AllocError;
 
 impl Board {
     /// The live session of an instance.
@@ -16,6 +18,20 @@ impl Board {
         ensures { result ≡ session_of self.now.cluster instance }
     {
         self.records.session_of(instance)
+    }
+
+    /// The live sessions in order of last beat, with their instances.
+    pub fn roster(&self) -> Result<Vec<(SessionId, InstanceId)>, AllocError>
+        ensures { IfOk result (λ shown. shown.items ≡ shown_of self.now.cluster.live) }
+    {
+        self.records.roster(*self.lines.allocator())
+    }
+
+    /// The live sessions with their instances, by instance.
+    pub fn shown(&self) -> Result<Vec<(SessionId, InstanceId)>, AllocError>
+        ensures { IfOk result (λ shown. shown.items ≡ live_shown self.now.cluster) }
+    {
+        self.records.read_live()
     }
 
     /// Whether an instance is drained.
@@ -44,6 +60,13 @@ impl Board {
         ensures { option_copied result ≡ resource_at self.now.cluster.resources resource }
     {
         self.records.resource(resource)
+    }
+
+    /// The resources by number, dropped or not.
+    pub fn resources(&self) -> &[Resource]
+        ensures { result.now ≡ self.now.cluster.resources }
+    {
+        self.records.resources()
     }
 
     /// The newest resource of a name, by the name's place among the resource names.

@@ -5,6 +5,7 @@ pub mod Given
 pub mod Sending
 pub mod Keeping
 mod Staged
+pub mod Left
 mod Making
 mod Going
 mod Ending

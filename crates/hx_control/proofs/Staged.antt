@@ -11,15 +11,15 @@ use Rattle.hx_control.specs.declared.controller.Controller.TheInside.{Inside}
 use Rattle.hx_control.specs.Controllers.{Controller, is_mail_call, is_states_call, stage, stage_at}
 use Rattle.hx_control.specs.Turning.{calls_after_mail, left_of, controller, IsLeft, IsTurn}
 
-no_mails : (live : List (SessionId × InstanceId)) → count is_mail_call (calls_after_mail live) ≡ 0
+pub no_mails : (live : List (SessionId × InstanceId)) → count is_mail_call (calls_after_mail live) ≡ 0
 no_mails [] = refl
 no_mails (e ∷ live) = no_mails live
 
-count_mails : (xs live : List (SessionId × InstanceId)) → count is_mail_call (map (λ e. Mail e.0) xs ++ calls_after_mail live) ≡ length xs
+pub count_mails : (xs live : List (SessionId × InstanceId)) → count is_mail_call (map (λ e. Mail e.0) xs ++ calls_after_mail live) ≡ length xs
 count_mails [] live = no_mails live
 count_mails (e ∷ xs) live = ap suc (count_mails xs live)
 
-count_states : (xs : List (SessionId × InstanceId)) → count is_states_call (calls_after_mail xs) ≡ length xs
+pub count_states : (xs : List (SessionId × InstanceId)) → count is_states_call (calls_after_mail xs) ≡ length xs
 count_states [] = refl
 count_states (e ∷ xs) = ap suc (count_states xs)
 

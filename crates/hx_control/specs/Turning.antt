@@ -1,5 +1,5 @@
 -- How a controller's turn is kept: by the call that comes next, and what was shown.
-use Rattle.std.specs.Prelude.{ℕ, ◌<◌, ◌^◌, List, [], ◌∷◌, ◌++◌, length, drop, map, Some}
+use Rattle.std.specs.Prelude.{ℕ, ◌-◌, ◌<◌, ◌^◌, List, [], ◌∷◌, ◌++◌, length, drop, map, Some}
 use Rattle.hx_ids.specs.declared.SessionId.{SessionId}
 use Rattle.hx_ids.specs.declared.InstanceId.{InstanceId}
 use Rattle.hx_cluster.specs.declared.planning.Plan.{Plan}
@@ -22,6 +22,25 @@ left_of (nexts.States n) live = calls_after_mail (drop n live)
 left_of nexts.Ideals live = Ideals ∷ Send ∷ Post ∷ []
 left_of nexts.Send live = Send ∷ Post ∷ []
 left_of nexts.Post live = Post ∷ []
+
+-- how many of them are reads of mail, reads of states, and others, where so many sessions were shown
+abbrev pub mails_at : Next → ℕ → ℕ
+mails_at (nexts.Mail n) sessions = sessions - n
+mails_at _ sessions = 0
+
+abbrev pub states_at : Next → ℕ → ℕ
+states_at (nexts.Mail n) sessions = sessions
+states_at (nexts.States n) sessions = sessions - n
+states_at _ sessions = 0
+
+abbrev pub others_at : Next → ℕ
+others_at nexts.Begin = 0
+others_at nexts.Live = 1
+others_at (nexts.Mail n) = 3
+others_at (nexts.States n) = 3
+others_at nexts.Ideals = 3
+others_at nexts.Send = 2
+others_at nexts.Post = 1
 
 abbrev pub controller : Inside → Controller
 controller a = record {

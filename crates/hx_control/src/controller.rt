@@ -1,7 +1,8 @@
 //! A controller: its number, where its turn is, and what the turn was shown.
-ghost use Rattle.std.specs.Prelude.{◌≡◌};
+ghost use Rattle.std.specs.Prelude.{◌≡◌, length};
+ghost use Rattle.hx_lists.specs.Lists.{count};
 ghost use Rattle.hx_cluster.specs.Reads.{nothing_shown};
-ghost use Rattle.hx_control.specs.Controllers.{idle_controller, stage};
+ghost use Rattle.hx_control.specs.Controllers.{idle_controller, stage, is_mail_call, is_states_call};
 
 use crate::Stage;
 use hx_cluster::{Begun, Ideals, Plan, View};
@@ -100,6 +101,51 @@ impl Controller {
             Next::Send => Stage::Send,
             Next::Post => Stage::Post,
         }
+    }
+
+    /// How many sessions the turn was shown. It takes no memory.
+    pub fn shown(&self) -> usize
+        ensures { result ≡ length self.now.turn.view.live }
+    {
+        self.view.live.len()
+    }
+
+    /// How many reads of mail are left. It takes no memory.
+    #[tactic(auto, using(crate::proofs::Left::mail_left))]
+    pub fn mail_left(&self) -> usize
+        ensures { result ≡ count is_mail_call self.now.turn.left }
+    {
+        match self.next {
+            Next::Mail(read) => self.shown() - read as usize,
+            _ => 0,
+        }
+    }
+
+    /// How many reads of states are left. It takes no memory.
+    #[tactic(auto, using(crate::proofs::Left::states_left))]
+    pub fn states_left(&self) -> usize
+        ensures { result ≡ count is_states_call self.now.turn.left }
+    {
+        match self.next {
+            Next::Mail(_) => self.shown(),
+            Next::States(read) => self.shown() - read as usize,
+            _ => 0,
+        }
+    }
+
+    /// How many calls of the turn are left, none where it is idle. The reads of each session count
+    /// once the sessions are known. It takes no memory.
+    #[tactic(auto, using(crate::proofs::Left::calls_left))]
+    pub fn calls_left(&self) -> usize
+        ensures { result ≡ length self.now.turn.left }
+    {
+        let behind = match self.next {
+            Next::Begin => 0,
+            Next::Live | Next::Post => 1,
+            Next::Send => 2,
+            Next::Mail(_) | Next::States(_) | Next::Ideals => 3,
+        };
+        self.mail_left() + self.states_left() + behind
     }
 
     /// Ends its turn. It takes no memory.

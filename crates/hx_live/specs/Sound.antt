@@ -5,7 +5,7 @@ use Rattle.hx_cluster.specs.declared.description.Spec.{Spec}
 use Rattle.hx_cluster.specs.declared.happenings.Event.{Event}
 use Rattle.hx_script.specs.declared.Line.{Line}
 use Rattle.hx_control.specs.Controllers.{Controller}
-use Rattle.hx_sim.specs.Agree.{Stationed, Agree}
+use Rattle.hx_worlds.specs.Agree.{Stationed, Agree}
 use Rattle.hx_live.specs.Follows.{follows, follows_cut_off}
 use Rattle.hx_live.specs.Thrifty.{is_thrifty}
 

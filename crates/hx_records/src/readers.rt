@@ -1,6 +1,6 @@
-//! What stands in a cluster. No reader takes memory.
-ghost use Rattle.std.specs.Prelude.{◌≡◌, ◌<◌, length, option_copied};
-ghost use Rattle.hx_cluster.specs.Ends.{state_of, message_of, resource_at};
+//! What stands in a cluster. No reader takes memory, but the one that answers a list of its own.
+ghost use Rattle.std.specs.Prelude.{◌≡◌, ◌<◌, length, option_copied, IfOk};
+ghost use Rattle.hx_cluster.specs.Ends.{state_of, message_of, resource_at, shown_of};
 ghost use Rattle.hx_cluster.specs.Steps.{session_of, is_drained, is_leader, newest};
 ghost use Rattle.hx_cluster.specs.Steps.{has_instance, has_controller, is_in_range};
 ghost use Rattle.hx_cluster.specs.Reads.{pass_of};
@@ -10,6 +10,7 @@ ghost use Rattle.hx_cluster.specs.Numbered.{IsNumbered};
 use crate::Records;
 use hx_cluster::{Admin, Message, Proposal, Resource, Seen, state_on};
 use hx_ids::{ControllerId, Epoch, InstanceId, PartId, PassNo, ResourceId, SessionId, StateId};
+use std::alloc::{AllocError, Global};
 
 impl Records {
     /// The live session of an instance.
@@ -17,6 +18,14 @@ impl Records {
         ensures { result ≡ session_of self.now instance }
     {
         self.rest.session_of(instance)
+    }
+
+    /// The live sessions in order of last beat, with their instances.
+    pub fn roster(&self, alloc: Global) -> Result<Vec<(SessionId, InstanceId)>, AllocError>
+        ensures { IfOk result (λ shown. shown.items ≡ shown_of self.now.live) }
+    {
+        let live = self.rest.live.as_slice();
+        live.iter().map(|l| (l.session, l.instance)).collect(alloc)
     }
 
     /// Whether an instance is drained.
@@ -45,6 +54,13 @@ impl Records {
         ensures { option_copied result ≡ resource_at self.now.resources resource }
     {
         self.rest.resource(resource)
+    }
+
+    /// The resources by number, dropped or not.
+    pub fn resources(&self) -> &[Resource]
+        ensures { result.now ≡ self.now.resources }
+    {
+        self.rest.resources.as_slice()
     }
 
     /// The newest resource of a name, by the name's place among the resource names.

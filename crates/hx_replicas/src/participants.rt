@@ -144,6 +144,13 @@ impl<F: Factory> Participant<F> {
         count_used(&self.slots) as u64
     }
 
+    /// The accepted messages, by number.
+    pub fn accepted(&self) -> Result<Vec<Message>, AllocError>
+        ensures { IfOk result (λ messages. messages.items ≡ accepted_all self.now.plain) }
+    {
+        accepted_messages(*self.slots.allocator(), &self.slots)
+    }
+
     /// Makes room for so many deliveries.
     pub fn reserve(&mut self, n: usize) -> Result<(), AllocError>
         ensures room { OnOk result (n ≤ self.new.spare) }

@@ -18,9 +18,9 @@ use Rattle.hx_cluster.specs.declared.description.Spec.{Spec}
 use Rattle.hx_script.specs.declared.Line.{Line}
 use Rattle.hx_script.specs.declared.faults.ScriptFault.{ScriptFault}
 use Rattle.hx_script.specs.Grammar.{script_of}
-use Rattle.hx_sim.specs.World.{World}
-use Rattle.hx_sim.specs.Runs.{state_of}
-use Rattle.hx_sim.specs.Scripts.{sim_run, sim_text}
+use Rattle.hx_worlds.specs.World.{World}
+use Rattle.hx_worlds.specs.Runs.{state_of}
+use Rattle.hx_worlds.specs.Scripts.{sim_run, sim_text}
 use Rattle.hx_check.specs.Judge.{verdict_of, verdict_text}
 
 -- models, by the numbers of their states

@@ -4,10 +4,10 @@ use Rattle.std.specs.Prelude.{◌≡◌, List, ◌++◌, take, drop, codes}
 use Rattle.std.specs.Fmt.{digits}
 use Rattle.std.proofs.Common.{refl}
 use Rattle.hx_script.specs.declared.Line.{Line}
-use Rattle.hx_sim.specs.World.{State, opening_world, told_by}
-use Rattle.hx_sim.specs.Items.{items_text}
-use Rattle.hx_sim.specs.Runs.{items_of, state_of, for_each}
-use Rattle.hx_sim.specs.Scripts.{do_line, do_script, run_text}
+use Rattle.hx_worlds.specs.World.{State, opening_world, told_by}
+use Rattle.hx_worlds.specs.Items.{items_text}
+use Rattle.hx_worlds.specs.Runs.{items_of, state_of, for_each}
+use Rattle.hx_worlds.specs.Scripts.{do_line, do_script, run_text}
 use Rattle.hx_rows.proofs.Fixtures.{demo, read}
 
 abbrev the_lines : List Line

@@ -18,7 +18,7 @@ use Rattle.hx_script.specs.declared.log.LogEntry.{LogEntry}
 use Rattle.hx_script.specs.declared.log.LogEntry.TheVariants as logs
 use Rattle.hx_script.specs.Logs.{log_of}
 use Rattle.hx_script.specs.LogEntries.{entry_told_by}
-use Rattle.hx_sim.specs.Scripts.{sim_history}
+use Rattle.hx_worlds.specs.Scripts.{sim_history}
 use Rattle.hx_check.specs.Judge.{built}
 use Rattle.hx_live.specs.Follows.{follows, follows_cut_off}
 use Rattle.hx_live.specs.Thrifty.{is_thrifty}

@@ -6,7 +6,7 @@ use Rattle.std.proofs.Common.{refl}
 use Rattle.serde_json.proofs.OnLiterals.{serde_json_on_literals}
 use Rattle.hx_cluster.specs.declared.description.Spec.{Spec}
 use Rattle.hx_cluster.specs.declared.description.Scope.TheVariants as scopes
-use Rattle.hx_sim.specs.Summaries.{summary_of}
+use Rattle.hx_worlds.specs.Summaries.{summary_of}
 use Rattle.hx_desc.specs.Description.{input_spec}
 use Rattle.hx_genwork.specs.Made.{made, script}
 use Rattle.hx_rows.proofs.Fixtures.{bare, by_lists, rule, fault, world_after}

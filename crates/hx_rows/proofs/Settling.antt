@@ -5,8 +5,8 @@ use Rattle.std.specs.Fmt.{digits}
 use Rattle.std.proofs.Common.{refl}
 use Rattle.hx_pass.specs.Left.{left_of}
 use Rattle.hx_replicas.specs.Ledger.{held_by}
-use Rattle.hx_sim.specs.World.{World}
-use Rattle.hx_sim.specs.Settles.{enough_rounds}
+use Rattle.hx_worlds.specs.World.{World}
+use Rattle.hx_worlds.specs.Settles.{enough_rounds}
 use Rattle.hx_rows.proofs.Fixtures.{one_list, world_after}
 
 abbrev joins : List ℕ

@@ -1,5 +1,5 @@
 -- What controllers do in a world keeps what holds of it.
-use Rattle.std.proofs.Common.{ℕ, Bool, true, false, List, [], ◌∷◌}
+use Rattle.std.proofs.Common.{ℕ, Bool, true, false, List, [], ◌∷◌, zero, suc, length}
 use Rattle.std.specs.Prelude.{Option, None, Some}
 use Rattle.hx_ids.specs.declared.ControllerId.{ControllerId}
 use Rattle.hx_cluster.specs.declared.description.Spec.{Spec}
@@ -19,9 +19,11 @@ use Rattle.hx_control.specs.declared.ControlFault.{ControlFault}
 use Rattle.hx_control.specs.declared.ControlFault.TheVariants as faults
 use Rattle.hx_control.specs.Controllers.{Controller, idle_controller}
 use Rattle.hx_control.specs.Steps.{Step, Calls, Plans, Refuses, step_of, after_step}
-use Rattle.hx_sim.specs.World.{State, controller_of, with_controller}
-use Rattle.hx_sim.specs.Runs.{Run, Deed, Voice, Loud, Quiet, done, gives, happened, charged, say, note, say_if_loud}
-use Rattle.hx_sim.specs.Turns
+use Rattle.hx_worlds.specs.World.{State, controller_of, with_controller}
+use Rattle.hx_worlds.specs.declared.Voice.{Voice}
+use Rattle.hx_worlds.specs.declared.Voice.TheVariants.{Loud, Quiet}
+use Rattle.hx_worlds.specs.Runs.{Run, Deed, done, gives, happened, charged, say, note, say_if_loud}
+use Rattle.hx_worlds.specs.Turns
 use Rattle.hx_scripted.proofs.Standing.{IsScripted}
 use Rattle.hx_scripted.proofs.Keeping.{Keeps, keeps_on, keeps_then, keeps_each, keeps_gives, happens_then, says}
 use Rattle.hx_scripted.proofs.Taking.{weighed_there}
@@ -102,25 +104,26 @@ module _ (spec : Spec) (valid : IsValid spec) (last : Option ℕ) where
   plan_made v k None x s = keeps_step v k x s
   plan_made v k (Some p) x s = record { left = s }
 
-  call_made : (v : Voice) (k : ControllerId) (call : Call) (x : State) → Stands spec last x → Keeps (Stands spec last) (Turns.do_call v k call x)
-  call_made v k Live x s = keeps_step v k x s
-  call_made v k (Mail u) x s = keeps_step v k x s
-  call_made v k (States u) x s = keeps_step v k x s
-  call_made v k Ideals x s = keeps_step v k x s
-  call_made v k Send x s =
+  call_made : (v : Voice) (k : ControllerId) (calls : List Call) (x : State) → Stands spec last x → Keeps (Stands spec last) (Turns.do_call_of v k calls x)
+  call_made v k [] x s = keeps_step v k x s
+  call_made v k (Live ∷ calls) x s = keeps_step v k x s
+  call_made v k (Mail u ∷ calls) x s = keeps_step v k x s
+  call_made v k (States u ∷ calls) x s = keeps_step v k x s
+  call_made v k (Ideals ∷ calls) x s = keeps_step v k x s
+  call_made v k (Send ∷ calls) x s =
       keeps_on (Stands spec last) _ _ (plan_made v k (controller_of x.world k).plan x s)
       (λ o y there. under_way _ (λ z. Turns.step v k z) (λ z here. keeps_step v k z here) y there)
-  call_made v k Post x s = keeps_step v k x s
+  call_made v k (Post ∷ calls) x s = keeps_step v k x s
 
-  calls_made : (v : Voice) (k : ControllerId) (calls : List Call) (x : State) → Stands spec last x → Keeps (Stands spec last) (Turns.do_calls v k calls x)
-  calls_made v k [] x s = record { left = s }
-  calls_made v k (call ∷ calls) x s =
-      keeps_on (Stands spec last) _ _ (call_made v k call x s) (λ o y there.
-      keeps_on (Stands spec last) _ _ (under_way _ (λ z. Turns.do_calls v k calls z) (λ z here. calls_made v k calls z here) y there)
+  calls_made : (v : Voice) (k : ControllerId) (n : ℕ) (x : State) → Stands spec last x → Keeps (Stands spec last) (Turns.do_calls v k n x)
+  calls_made v k zero x s = record { left = s }
+  calls_made v k (suc n) x s =
+      keeps_on (Stands spec last) _ _ (call_made v k (Turns.left_of x k) x s) (λ o y there.
+      keeps_on (Stands spec last) _ _ (under_way _ (λ z. Turns.do_calls v k n z) (λ z here. calls_made v k n z here) y there)
       (λ p z here. keeps_gives (Stands spec last) z (Turns.or_earlier o p) here))
 
   rest_made : (v : Voice) (k : ControllerId) (x : State) → Stands spec last x → Keeps (Stands spec last) (Turns.do_rest v k x)
-  rest_made v k x s = calls_made v k (Turns.left_of x k) x s
+  rest_made v k x s = calls_made v k (length (Turns.left_of x k)) x s
 
   begun : (v : Voice) (k : ControllerId) (calls : List Call) (x : State) → Stands spec last x → Keeps (Stands spec last) (Turns.begin_if_idle v k calls x)
   begun v k [] x s = keeps_step v k x s
@@ -146,16 +149,18 @@ module _ (spec : Spec) (valid : IsValid spec) (last : Option ℕ) where
   turn_of_word is_of [] f g kf kg x s = kg x s
   turn_of_word is_of (call ∷ calls) f g kf kg x s = chosen (is_of call) f g kf kg x s
 
-  word : (v : Voice) (k : ControllerId) (is_of : Call → Bool) (g : State → Deed) → ((x : State) → Stands spec last x → Keeps (Stands spec last) (g x)) → (x : State) → Stands spec last x
-      → Keeps (Stands spec last) (Turns.do_word v k is_of g x)
-  word v k is_of g kg x s =
-      turn_of_word is_of _ _ g (λ y there. keeps_unasked _ (calls_made v k _ y there)) kg x s
-
   out_of_turn : (v : Voice) (k : ControllerId) (x : State) → Stands spec last x → Keeps (Stands spec last) (Turns.out_of_turn v k x)
   out_of_turn v k x s = keeps_note v _ x s
 
-  pub keeps_word : (v : Voice) (k : ControllerId) (is_of : Call → Bool) (x : State) → Stands spec last x → Keeps (Stands spec last) (Turns.do_word_in_turn v k is_of x)
-  keeps_word v k is_of x s = word v k is_of (λ y. Turns.out_of_turn v k y) (λ y there. out_of_turn v k y there) x s
+  word : (v : Voice) (k : ControllerId) (is_of : Call → Bool) (x : State) → Stands spec last x → Keeps (Stands spec last) (Turns.do_word v k is_of x)
+  word v k is_of x s =
+      turn_of_word is_of _ _ (λ y. Turns.out_of_turn v k y)
+      (λ y there. keeps_unasked _ (call_made v k (Turns.left_of y k) y there)) (λ y there. out_of_turn v k y there) x s
+
+  words : (v : Voice) (k : ControllerId) (is_of : Call → Bool) (g : State → Deed) → ((x : State) → Stands spec last x → Keeps (Stands spec last) (g x)) → (x : State) → Stands spec last x
+      → Keeps (Stands spec last) (Turns.do_words v k is_of g x)
+  words v k is_of g kg x s =
+      turn_of_word is_of _ _ g (λ y there. keeps_unasked _ (calls_made v k _ y there)) kg x s
 
   passed_over : (v : Voice) (k : ControllerId) (x : State) → Stands spec last x → Keeps (Stands spec last) (Turns.pass_over v k x)
   passed_over v k x s =
@@ -163,7 +168,10 @@ module _ (spec : Spec) (valid : IsValid spec) (last : Option ℕ) where
       (λ y there. keeps_gives (Stands spec last) y tt there) (λ y there. out_of_turn v k y there) x s
 
   pub keeps_read : (v : Voice) (k : ControllerId) (kind : ReadKind) (x : State) → Stands spec last x → Keeps (Stands spec last) (Turns.do_read v k kind x)
-  keeps_read v k kinds.Live x s = keeps_word v k _ x s
-  keeps_read v k kinds.Mail x s = word v k _ (λ y. Turns.pass_over v k y) (λ y there. passed_over v k y there) x s
-  keeps_read v k kinds.States x s = word v k _ (λ y. Turns.pass_over v k y) (λ y there. passed_over v k y there) x s
-  keeps_read v k kinds.Ideals x s = keeps_word v k _ x s
+  keeps_read v k kinds.Live x s = word v k _ x s
+  keeps_read v k kinds.Mail x s = words v k _ (λ y. Turns.pass_over v k y) (λ y there. passed_over v k y there) x s
+  keeps_read v k kinds.States x s = words v k _ (λ y. Turns.pass_over v k y) (λ y there. passed_over v k y there) x s
+  keeps_read v k kinds.Ideals x s = word v k _ x s
+
+  pub keeps_word : (v : Voice) (k : ControllerId) (is_of : Call → Bool) (x : State) → Stands spec last x → Keeps (Stands spec last) (Turns.do_word v k is_of x)
+  keeps_word v k is_of x s = word v k is_of x s

@@ -10,7 +10,7 @@ use Rattle.hx_pass.specs.Lawful.{IsLawful}
 use Rattle.hx_script.specs.declared.What.{What}
 use Rattle.hx_script.specs.declared.What.TheVariants as asks
 use Rattle.hx_script.specs.declared.Line.{Line}
-use Rattle.hx_sim.specs.Scripts.{are_next_lines, sim_history}
+use Rattle.hx_worlds.specs.Scripts.{are_next_lines, sim_history}
 use Rattle.hx_scripted.proofs.DoingLines.{lawful_scripts}
 
 -- one instance, and one partition that it is to lead

@@ -5,9 +5,9 @@ use Rattle.std.specs.List.{list_all}
 use Rattle.hx_cluster.specs.declared.happenings.Event.{Event}
 use Rattle.hx_cluster.specs.Weight.{weight_of}
 use Rattle.hx_safe.proofs.Counting.{and-first, and-second}
-use Rattle.hx_sim.specs.World.{State}
-use Rattle.hx_sim.specs.Items.{Item, Happens, Says}
-use Rattle.hx_sim.specs.Runs.{Run, Deed, GoesOn, Stops, state_of, gives, done, after_items, go_on, and_then, happened, make, happen, charged, say, for_each}
+use Rattle.hx_worlds.specs.World.{State}
+use Rattle.hx_worlds.specs.Items.{Item, Happens, Says}
+use Rattle.hx_worlds.specs.Runs.{Run, Deed, GoesOn, Stops, state_of, gives, done, after_items, go_on, and_then, happened, make, happen, charged, say, for_each}
 
 -- it holds of the state that a run leaves, whether it goes on or stops
 pub record Keeps {A : Type 0} (I : State → Type 0) (r : Run A) : Type 0 where

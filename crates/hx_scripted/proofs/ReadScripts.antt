@@ -24,7 +24,7 @@ use Rattle.hx_script.proofs.Scripts.{keeps_itself, kept_on, adds_after}
 use Rattle.hx_script.proofs.LinesAgain.{begun, lines_asked}
 use Rattle.hx_script.proofs.NamesKept.{names_kept}
 use Rattle.hx_script.proofs.RangesGiven.{all_asked_in_range}
-use Rattle.hx_sim.specs.Scripts.{is_next_line, are_next_lines, sim_history}
+use Rattle.hx_worlds.specs.Scripts.{is_next_line, are_next_lines, sim_history}
 use Rattle.hx_safe.proofs.Counting.{and-first, and-second, and-both, count-append, count-none, all-append, all-le}
 use Rattle.hx_scripted.proofs.DoingLines.{lawful_scripts}
 

@@ -21,7 +21,7 @@ use Rattle.hx_replicas.specs.Participants.{Participant, Slot}
 use Rattle.hx_control.specs.Controllers.{Controller, idle_controller}
 use Rattle.hx_control.specs.OfBoard.{OfBoard, is_own}
 use Rattle.hx_control.proofs.KeepsTurns.{others_keep}
-use Rattle.hx_sim.specs.World.{World, controller_of}
+use Rattle.hx_worlds.specs.World.{World, controller_of}
 use Rattle.hx_scripted.specs.OfHistory.{is_fetched, is_work_fetched, is_slot_fetched, has_fetched, IsTurnOf, IsOfItsHistory}
 use Rattle.hx_safe.proofs.Counting.{any-append, all-le}
 use Rattle.hx_safe.proofs.Fixed.{IsFixed}

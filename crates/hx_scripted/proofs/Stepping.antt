@@ -26,8 +26,8 @@ use Rattle.hx_control.specs.Controllers.{Controller, idle_controller}
 use Rattle.hx_control.specs.Steps.{Step, Calls, Plans, Refuses, outcome_of, is_of_cluster, begin_step, read_step, planned_step, post_step, of_cluster, step_at, step_of, after_step}
 use Rattle.hx_control.specs.OfBoard.{IsPlanOf, OfBoard, calls_of, is_own}
 use Rattle.hx_control.proofs.KeepsTurns.{step_keeps}
-use Rattle.hx_sim.specs.World.{World, State, controller_of, with_controller}
-use Rattle.hx_sim.specs.Runs.{happened}
+use Rattle.hx_worlds.specs.World.{World, State, controller_of, with_controller}
+use Rattle.hx_worlds.specs.Runs.{happened}
 use Rattle.hx_safe.proofs.Counting.{and-both}
 use Rattle.hx_safe.proofs.Ends.{same-self}
 use Rattle.hx_safe.proofs.Fixed.{IsFixed}

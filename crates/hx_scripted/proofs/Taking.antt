@@ -20,8 +20,8 @@ use Rattle.hx_pass.specs.Lawful.{fetched_from}
 use Rattle.hx_replicas.specs.declared.slots.Work.{Work}
 use Rattle.hx_replicas.specs.declared.slots.Work.TheVariants.{Idle, Accepted, Out}
 use Rattle.hx_replicas.specs.Participants.{Participant, Slot, new_participant, new_slot, slot_in, slot_of, put_slot, accepted, accept, accepted_of, has_accepted, accepted_in, accepted_by, made_ready, readied, emptied_for, hand_out, end_of, brought, finish, emptied, adopt}
-use Rattle.hx_sim.specs.World.{World, Job, State, participant_of, with_participant}
-use Rattle.hx_sim.specs.Jobs
+use Rattle.hx_worlds.specs.World.{World, Job, State, participant_of, with_participant}
+use Rattle.hx_worlds.specs.Jobs
 use Rattle.hx_safe.proofs.Counting.{and-first, and-second, any-append, all-le, all-find}
 use Rattle.hx_safe.proofs.Ends.{same-self}
 use Rattle.hx_safe.proofs.Ideals.{all-put}

@@ -14,7 +14,7 @@ use Rattle.hx_replicas.specs.declared.slots.Work.TheVariants.{Accepted}
 use Rattle.hx_replicas.specs.Participants.{Participant, Slot}
 use Rattle.hx_control.specs.Controllers.{Controller}
 use Rattle.hx_control.specs.OfBoard.{OfBoard}
-use Rattle.hx_sim.specs.World.{World, controller_of}
+use Rattle.hx_worlds.specs.World.{World, controller_of}
 
 -- a message was fetched, and so was what a participant has accepted
 abbrev pub is_fetched : Spec → List Event → Message → Bool

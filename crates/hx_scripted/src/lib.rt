@@ -9,10 +9,10 @@ ghost use Rattle.hx_cluster.specs.Valid.{IsValid};
 ghost use Rattle.hx_script.specs.declared.Line.{Line};
 ghost use Rattle.hx_script.specs.Grammar.{script_of};
 ghost use Rattle.hx_pass.specs.Lawful.{IsLawful};
-ghost use Rattle.hx_sim.specs.World.{State};
-ghost use Rattle.hx_sim.specs.Runs.{state_of};
-ghost use Rattle.hx_sim.specs.Settles.{settle};
-ghost use Rattle.hx_sim.specs.Scripts.{do_line, is_next_line, are_next_lines, sim_history};
+ghost use Rattle.hx_worlds.specs.World.{State};
+ghost use Rattle.hx_worlds.specs.Runs.{state_of};
+ghost use Rattle.hx_worlds.specs.Settles.{settle};
+ghost use Rattle.hx_worlds.specs.Scripts.{do_line, is_next_line, are_next_lines, sim_history};
 ghost use Rattle.hx_lawful.specs.Holding.{HoldsOfLawful};
 ghost use Rattle.hx_scripted.specs.OfHistory.{IsOfItsHistory};
 

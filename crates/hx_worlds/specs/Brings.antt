@@ -4,9 +4,9 @@ use Rattle.hx_cluster.specs.declared.description.Spec.{Spec}
 use Rattle.hx_cluster.specs.declared.state.Cluster.{Cluster}
 use Rattle.hx_cluster.specs.declared.happenings.Event.{Event}
 use Rattle.hx_cluster.specs.Events.{replay}
-use Rattle.hx_sim.specs.World.{State}
-use Rattle.hx_sim.specs.Items.{Item, events_in, items_weight}
-use Rattle.hx_sim.specs.Runs.{Run, items_of, state_of}
+use Rattle.hx_worlds.specs.World.{State}
+use Rattle.hx_worlds.specs.Items.{Item, events_in, items_weight}
+use Rattle.hx_worlds.specs.Runs.{Run, items_of, state_of}
 
 -- what a world's board has, apart from its controllers and participants
 pub record Past : Type 0 where

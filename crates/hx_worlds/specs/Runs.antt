@@ -6,8 +6,10 @@ use Rattle.hx_cluster.specs.Events.{next}
 use Rattle.hx_cluster.specs.Weight.{weight_of}
 use Rattle.hx_print.specs.declared.Note.{Note}
 use Rattle.hx_print.specs.Texts.{note_text}
-use Rattle.hx_sim.specs.Items.{Item, Happens, Says}
-use Rattle.hx_sim.specs.World.{State}
+use Rattle.hx_worlds.specs.declared.Voice.{Voice}
+use Rattle.hx_worlds.specs.declared.Voice.TheVariants.{Loud, Quiet}
+use Rattle.hx_worlds.specs.Items.{Item, Happens, Says}
+use Rattle.hx_worlds.specs.World.{State}
 
 -- an operation that goes on has an answer
 pub data Run (A : Type 0) : Type 0 where
@@ -71,11 +73,6 @@ abbrev pub say : ℕ → List ℕ → State → Deed
 say charge text x =
     if nat_lt x.world.limit (x.world.weight + charge) then Stops [] x
     else GoesOn (Says charge text ∷ []) (charged charge x) tt
-
--- whether a script line's refusals are noted; inside `work` and the rounds of `settle` nothing is said
-pub data Voice : Type 0 where
-  Loud : (line : ℕ) → Voice
-  Quiet : Voice
 
 abbrev pub note : Voice → Note → State → Deed
 note Quiet n x = done x

@@ -22,9 +22,9 @@ use Rattle.hx_replicas.specs.declared.slots.Work.TheVariants as works
 use Rattle.hx_replicas.specs.Participants.{Participant, Slot, slot_of, counts_as, all_idle, is_out, is_session}
 use Rattle.hx_control.specs.Controllers.{Controller, idle_controller}
 use Rattle.hx_control.specs.OfBoard.{OfBoard}
-use Rattle.hx_sim.specs.World.{World, Job}
-use Rattle.hx_sim.specs.Jobs.{is_job}
-use Rattle.hx_sim.specs.Summaries.{joined_in, sent_in}
+use Rattle.hx_worlds.specs.World.{World, Job}
+use Rattle.hx_worlds.specs.Jobs.{is_job}
+use Rattle.hx_worlds.specs.Summaries.{joined_in, sent_in}
 
 -- a board, as far as it matters here: its description and its history
 pub record BoardState : Type 0 where

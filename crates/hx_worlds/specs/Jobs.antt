@@ -20,8 +20,10 @@ use Rattle.hx_handler.specs.Makings.{tried_of}
 use Rattle.hx_replicas.specs.declared.DeliverFault.{DeliverFault}
 use Rattle.hx_replicas.specs.declared.DeliverFault.TheVariants as faults
 use Rattle.hx_replicas.specs.Participants.{slot_of, deliver_fault, accept, accepted_by, accepted_all, makes, leaves_error, made_ready, hand_out, finish, adopt}
-use Rattle.hx_sim.specs.World.{Job, State, participant_of, with_participant, with_jobs, with_bag, answer_of, answered}
-use Rattle.hx_sim.specs.Runs.{Deed, Voice, done, and_then, make, happen, note, say_if_loud, for_each}
+use Rattle.hx_worlds.specs.declared.Voice.{Voice}
+use Rattle.hx_worlds.specs.declared.Voice.TheVariants.{Quiet}
+use Rattle.hx_worlds.specs.World.{Job, State, participant_of, with_participant, with_jobs, with_bag, answer_of, answered}
+use Rattle.hx_worlds.specs.Runs.{Deed, done, and_then, make, happen, note, say_if_loud, for_each}
 
 -- the open jobs of an instance, by number
 abbrev pub is_job_of : InstanceId → Job → Bool
@@ -208,19 +210,19 @@ do_ack v i id x = ack_job v (job_of i id x) x
 
 -- work: the open jobs are carried to their ends, what is fetched is delivered, and each accepted message is taken, written and acknowledged
 abbrev pub carry : InstanceId → MsgId → State → Deed
-carry i id x = and_then (do_write Voice.Quiet i id x) (λ y. do_ack Voice.Quiet i id y)
+carry i id x = and_then (do_write Quiet i id x) (λ y. do_ack Quiet i id y)
 
 abbrev pub carry_jobs : InstanceId → State → Deed
 carry_jobs i x = for_each (λ j y. carry i j.message.id y) (jobs_of i x) x
 
 abbrev pub run_message : InstanceId → Message → State → Deed
-run_message i m x = and_then (do_take Voice.Quiet i m.id x) (λ y. carry i m.id y)
+run_message i m x = and_then (do_take Quiet i m.id x) (λ y. carry i m.id y)
 
 abbrev pub run_accepted : InstanceId → State → Deed
 run_accepted i x = for_each (run_message i) (accepted_all (participant_of x.world i)) x
 
 abbrev pub fetch_and_deliver : InstanceId → Mail → State → Deed
-fetch_and_deliver i mail x = and_then (fetch_mail i mail x) (λ y. for_each (deliver Voice.Quiet i) mail.messages y)
+fetch_and_deliver i mail x = and_then (fetch_mail i mail x) (λ y. for_each (deliver Quiet i) mail.messages y)
 
 abbrev pub do_work : InstanceId → State → Deed
 do_work i x =

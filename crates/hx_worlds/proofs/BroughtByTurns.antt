@@ -1,5 +1,5 @@
 -- What controllers and settles bring is what they add.
-use Rattle.std.proofs.Common.{ℕ, Bool, true, false, List, [], ◌∷◌}
+use Rattle.std.proofs.Common.{ℕ, zero, suc, length, Bool, true, false, List, [], ◌∷◌}
 use Rattle.std.specs.Prelude.{Option, None, Some}
 use Rattle.hx_ids.specs.declared.ControllerId.{ControllerId}
 use Rattle.hx_cluster.specs.declared.planning.Entry.{Entry}
@@ -17,11 +17,13 @@ use Rattle.hx_control.specs.declared.ControlFault.{ControlFault}
 use Rattle.hx_control.specs.declared.ControlFault.TheVariants as faults
 use Rattle.hx_control.specs.Controllers.{Controller}
 use Rattle.hx_control.specs.Steps.{Step, Calls, Plans, Refuses}
-use Rattle.hx_sim.specs.World.{State, controller_of}
-use Rattle.hx_sim.specs.Runs.{Run, Deed, Voice, Loud, Quiet, note, say_if_loud}
-use Rattle.hx_sim.specs.Brings.{past_of, BringsIts}
-use Rattle.hx_sim.specs.Turns
-use Rattle.hx_sim.proofs.Brought.{brings_gives, brings_on, brings_then, brings_each, brings_happening, brings_line}
+use Rattle.hx_worlds.specs.World.{State, controller_of}
+use Rattle.hx_worlds.specs.declared.Voice.{Voice}
+use Rattle.hx_worlds.specs.declared.Voice.TheVariants.{Loud, Quiet}
+use Rattle.hx_worlds.specs.Runs.{Run, Deed, note, say_if_loud}
+use Rattle.hx_worlds.specs.Brings.{past_of, BringsIts}
+use Rattle.hx_worlds.specs.Turns
+use Rattle.hx_worlds.proofs.Brought.{brings_gives, brings_on, brings_then, brings_each, brings_happening, brings_line}
 
 -- notes and lines
 pub brings_note : (v : Voice) (n : Note) (x : State) → BringsIts (past_of x) (note v n x)
@@ -84,23 +86,24 @@ plan_made : (v : Voice) (k : ControllerId) (p : Option Plan) (x : State) → Bri
 plan_made v k None x = brings_step v k x
 plan_made v k (Some p) x = brings_gives x None
 
-call_made : (v : Voice) (k : ControllerId) (call : Call) (x : State) → BringsIts (past_of x) (Turns.do_call v k call x)
-call_made v k Live x = brings_step v k x
-call_made v k (Mail s) x = brings_step v k x
-call_made v k (States s) x = brings_step v k x
-call_made v k Ideals x = brings_step v k x
-call_made v k Send x =
+call_made : (v : Voice) (k : ControllerId) (calls : List Call) (x : State) → BringsIts (past_of x) (Turns.do_call_of v k calls x)
+call_made v k [] x = brings_step v k x
+call_made v k (Live ∷ calls) x = brings_step v k x
+call_made v k (Mail s ∷ calls) x = brings_step v k x
+call_made v k (States s ∷ calls) x = brings_step v k x
+call_made v k (Ideals ∷ calls) x = brings_step v k x
+call_made v k (Send ∷ calls) x =
     brings_on (past_of x) _ _ (plan_made v k (controller_of x.world k).plan x) (λ o y. under_way _ _ (λ z. brings_step v k z) y)
-call_made v k Post x = brings_step v k x
+call_made v k (Post ∷ calls) x = brings_step v k x
 
-calls_made : (v : Voice) (k : ControllerId) (calls : List Call) (x : State) → BringsIts (past_of x) (Turns.do_calls v k calls x)
-calls_made v k [] x = brings_gives _ _
-calls_made v k (call ∷ calls) x =
-    brings_on (past_of x) _ _ (call_made v k call x) (λ o y.
-    brings_on (past_of y) _ _ (under_way _ _ (λ z. calls_made v k calls z) y) (λ p z. brings_gives _ _))
+calls_made : (v : Voice) (k : ControllerId) (n : ℕ) (x : State) → BringsIts (past_of x) (Turns.do_calls v k n x)
+calls_made v k zero x = brings_gives _ _
+calls_made v k (suc n) x =
+    brings_on (past_of x) _ _ (call_made v k (Turns.left_of x k) x) (λ o y.
+    brings_on (past_of y) _ _ (under_way _ _ (λ z. calls_made v k n z) y) (λ p z. brings_gives _ _))
 
 rest_made : (v : Voice) (k : ControllerId) (x : State) → BringsIts (past_of x) (Turns.do_rest v k x)
-rest_made v k x = calls_made v k (Turns.left_of x k) x
+rest_made v k x = calls_made v k (length (Turns.left_of x k)) x
 
 begun : (v : Voice) (k : ControllerId) (calls : List Call) (x : State) → BringsIts (past_of x) (Turns.begin_if_idle v k calls x)
 begun v k [] x = brings_step v k x
@@ -127,17 +130,20 @@ turn_of_word is_of (call ∷ calls) f g bf bg x = chosen (is_of call) f g bf bg 
 out_of_turn : (v : Voice) (k : ControllerId) (x : State) → BringsIts (past_of x) (Turns.out_of_turn v k x)
 out_of_turn v k x = brings_note v _ x
 
-word : (v : Voice) (k : ControllerId) (is_of : Call → Bool) (g : State → Deed) → ((x : State) → BringsIts (past_of x) (g x)) → (x : State) → BringsIts (past_of x) (Turns.do_word v k is_of g x)
-word v k is_of g bg x = turn_of_word is_of _ _ g (λ y. brings_unasked _ y (calls_made v k _ y)) bg x
+word : (v : Voice) (k : ControllerId) (is_of : Call → Bool) (x : State) → BringsIts (past_of x) (Turns.do_word v k is_of x)
+word v k is_of x = turn_of_word is_of _ _ _ (λ y. brings_unasked _ y (call_made v k (Turns.left_of y k) y)) (λ y. out_of_turn v k y) x
 
-pub brings_word : (v : Voice) (k : ControllerId) (is_of : Call → Bool) (x : State) → BringsIts (past_of x) (Turns.do_word_in_turn v k is_of x)
-brings_word v k is_of x = word v k is_of _ (λ y. out_of_turn v k y) x
+words : (v : Voice) (k : ControllerId) (is_of : Call → Bool) (g : State → Deed) → ((x : State) → BringsIts (past_of x) (g x)) → (x : State) → BringsIts (past_of x) (Turns.do_words v k is_of g x)
+words v k is_of g bg x = turn_of_word is_of _ _ g (λ y. brings_unasked _ y (calls_made v k _ y)) bg x
+
+pub brings_word : (v : Voice) (k : ControllerId) (is_of : Call → Bool) (x : State) → BringsIts (past_of x) (Turns.do_word v k is_of x)
+brings_word v k is_of x = word v k is_of x
 
 passed_over : (v : Voice) (k : ControllerId) (x : State) → BringsIts (past_of x) (Turns.pass_over v k x)
 passed_over v k x = chosen (Turns.is_passed_over (controller_of x.world k)) _ _ (λ y. brings_gives _ _) (λ y. out_of_turn v k y) x
 
 pub brings_read : (v : Voice) (k : ControllerId) (kind : ReadKind) (x : State) → BringsIts (past_of x) (Turns.do_read v k kind x)
-brings_read v k kinds.Live x = brings_word v k _ x
-brings_read v k kinds.Mail x = word v k _ _ (λ y. passed_over v k y) x
-brings_read v k kinds.States x = word v k _ _ (λ y. passed_over v k y) x
-brings_read v k kinds.Ideals x = brings_word v k _ x
+brings_read v k kinds.Live x = word v k _ x
+brings_read v k kinds.Mail x = words v k _ _ (λ y. passed_over v k y) x
+brings_read v k kinds.States x = words v k _ _ (λ y. passed_over v k y) x
+brings_read v k kinds.Ideals x = word v k _ x

@@ -9,7 +9,7 @@ use Rattle.hx_cluster.specs.declared.happenings.Event.{Event}
 use Rattle.hx_cluster.specs.declared.happenings.Event.TheVariants as events
 use Rattle.hx_print.specs.Texts.{summary_text}
 use Rattle.hx_control.specs.Steps.{is_sent}
-use Rattle.hx_sim.specs.Jobs.{is_failed}
+use Rattle.hx_worlds.specs.Jobs.{is_failed}
 
 -- messages sent, writes by outcome, joins, and sessions that ended
 abbrev pub sent_in : Event → ℕ

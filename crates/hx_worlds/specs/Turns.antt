@@ -1,5 +1,6 @@
 -- What controllers do in a world: they make the steps of their turns, one by one, several of a kind, or all that are left.
-use Rattle.std.specs.Prelude.{ℕ, ◌+◌, Bool, true, false, ◌==◌, List, [], ◌∷◌, length, filter, Option, None, Some}
+use Rattle.std.specs.Prelude.{ℕ, zero, suc, ◌+◌, Bool, true, false, ◌==◌, List, [], ◌∷◌, length, Option, None, Some}
+use Rattle.hx_lists.specs.Lists.{count}
 use Rattle.hx_ids.specs.declared.ControllerId.{ControllerId}
 use Rattle.hx_cluster.specs.declared.planning.Entry.{Entry}
 use Rattle.hx_cluster.specs.declared.planning.Plan.{Plan}
@@ -20,8 +21,10 @@ use Rattle.hx_control.specs.declared.ControlFault.{ControlFault}
 use Rattle.hx_control.specs.declared.ControlFault.TheVariants as faults
 use Rattle.hx_control.specs.Controllers.{Controller, idle_controller, is_mail_call, is_states_call}
 use Rattle.hx_control.specs.Steps.{Step, Calls, Plans, Refuses, step_of, after_step}
-use Rattle.hx_sim.specs.World.{State, controller_of, with_controller}
-use Rattle.hx_sim.specs.Runs.{Run, Deed, Voice, gives, done, go_on, and_then, happen, say, note, for_each}
+use Rattle.hx_worlds.specs.declared.Voice.{Voice}
+use Rattle.hx_worlds.specs.declared.Voice.TheVariants.{Loud, Quiet}
+use Rattle.hx_worlds.specs.World.{State, controller_of, with_controller}
+use Rattle.hx_worlds.specs.Runs.{Run, Deed, gives, done, go_on, and_then, happen, say, note, for_each}
 
 -- the calls of a controller's turn that are left
 abbrev pub left_of : State → ControllerId → List Call
@@ -45,7 +48,7 @@ say_outcome k (ends.Moved from to) x = say 1 (moved_text k from to) x
 say_outcome k (ends.Settled report) x = and_then (say 1 (settled_text k) x) (λ y. say_entries report.entries y)
 
 abbrev pub tell_outcome : Voice → ControllerId → Option PassOutcome → State → Deed
-tell_outcome (Voice.Loud line) k (Some outcome) x = say_outcome k outcome x
+tell_outcome (Loud line) k (Some outcome) x = say_outcome k outcome x
 tell_outcome _ k _ x = done x
 
 -- the note of a refusal. In a world every pass number stands, since only its controller raises it, and each turn is of the board
@@ -81,31 +84,34 @@ abbrev pub if_under_way : List Call → (State → Run (Option PassOutcome)) →
 if_under_way [] f x = gives x None
 if_under_way (call ∷ calls) f x = f x
 
--- a call of a turn; before the dispatch the plan is made, where it wasn't made before
+-- the next call of a turn; before the dispatch the plan is made, where it wasn't made before
 abbrev pub make_plan : Voice → ControllerId → Option Plan → State → Run (Option PassOutcome)
 make_plan v k None x = step v k x
 make_plan v k (Some plan) x = gives x None
 
-abbrev pub do_call : Voice → ControllerId → Call → State → Run (Option PassOutcome)
-do_call v k Send x =
+abbrev pub do_call_of : Voice → ControllerId → List Call → State → Run (Option PassOutcome)
+do_call_of v k (Send ∷ calls) x =
     go_on (make_plan v k (controller_of x.world k).plan x) (λ _ y. if_under_way (left_of y k) (λ z. step v k z) y)
-do_call v k _ x = step v k x
+do_call_of v k _ x = step v k x
+
+abbrev pub do_call : Voice → ControllerId → State → Run (Option PassOutcome)
+do_call v k x = do_call_of v k (left_of x k) x
 
 -- the later of two outcomes, if there is one
 abbrev pub or_earlier : Option PassOutcome → Option PassOutcome → Option PassOutcome
 or_earlier earlier None = earlier
 or_earlier earlier (Some outcome) = Some outcome
 
--- calls of a turn, in order, up to one that is refused
-abbrev pub do_calls : Voice → ControllerId → List Call → State → Run (Option PassOutcome)
-do_calls v k [] x = gives x None
-do_calls v k (call ∷ calls) x =
-    go_on (do_call v k call x) (λ o y.
-    go_on (if_under_way (left_of y k) (λ z. do_calls v k calls z) y) (λ p z. gives z (or_earlier o p)))
+-- so many calls of a turn, up to one that is refused
+abbrev pub do_calls : Voice → ControllerId → ℕ → State → Run (Option PassOutcome)
+do_calls v k zero x = gives x None
+do_calls v k (suc n) x =
+    go_on (do_call v k x) (λ o y.
+    go_on (if_under_way (left_of y k) (λ z. do_calls v k n z) y) (λ p z. gives z (or_earlier o p)))
 
 -- the calls that are left
 abbrev pub do_rest : Voice → ControllerId → State → Run (Option PassOutcome)
-do_rest v k x = do_calls v k (left_of x k) x
+do_rest v k x = do_calls v k (length (left_of x k)) x
 
 -- a whole turn where it is idle, and else its rest. Which calls come after live is known once it was made
 abbrev pub begin_if_idle : Voice → ControllerId → List Call → State → Run (Option PassOutcome)
@@ -160,12 +166,15 @@ abbrev pub in_turn : (Call → Bool) → List Call → (State → Deed) → (Sta
 in_turn is_of [] f otherwise x = otherwise x
 in_turn is_of (call ∷ calls) f otherwise x = chosen (is_of call) f otherwise x
 
-abbrev pub do_word : Voice → ControllerId → (Call → Bool) → (State → Deed) → State → Deed
-do_word v k is_of otherwise x =
-    in_turn is_of (left_of x k) (λ y. without_outcome (do_calls v k (filter is_of (left_of y k)) y)) otherwise x
+-- a word for the one call that is next
+abbrev pub do_word : Voice → ControllerId → (Call → Bool) → State → Deed
+do_word v k is_of x =
+    in_turn is_of (left_of x k) (λ y. without_outcome (do_call v k y)) (λ y. out_of_turn v k y) x
 
-abbrev pub do_word_in_turn : Voice → ControllerId → (Call → Bool) → State → Deed
-do_word_in_turn v k is_of x = do_word v k is_of (λ y. out_of_turn v k y) x
+-- a word for all calls of its kind, one for each session that was shown
+abbrev pub do_words : Voice → ControllerId → (Call → Bool) → (State → Deed) → State → Deed
+do_words v k is_of otherwise x =
+    in_turn is_of (left_of x k) (λ y. without_outcome (do_calls v k (count is_of (left_of y k)) y)) otherwise x
 
 -- where `live` showed no session there is no mail and there are no states to read: these words do nothing before the ideals
 abbrev pub is_nothing_shown : List Call → ℕ → Bool
@@ -179,13 +188,13 @@ abbrev pub pass_over : Voice → ControllerId → State → Deed
 pass_over v k x = chosen (is_passed_over (controller_of x.world k)) (λ y. done y) (λ y. out_of_turn v k y) x
 
 abbrev pub do_read : Voice → ControllerId → ReadKind → State → Deed
-do_read v k kinds.Live x = do_word_in_turn v k is_live_call x
-do_read v k kinds.Mail x = do_word v k is_mail_call (λ y. pass_over v k y) x
-do_read v k kinds.States x = do_word v k is_states_call (λ y. pass_over v k y) x
-do_read v k kinds.Ideals x = do_word_in_turn v k is_ideals_call x
+do_read v k kinds.Live x = do_word v k is_live_call x
+do_read v k kinds.Mail x = do_words v k is_mail_call (λ y. pass_over v k y) x
+do_read v k kinds.States x = do_words v k is_states_call (λ y. pass_over v k y) x
+do_read v k kinds.Ideals x = do_word v k is_ideals_call x
 
 abbrev pub do_send : Voice → ControllerId → State → Deed
-do_send v k x = do_word_in_turn v k is_send_call x
+do_send v k x = do_word v k is_send_call x
 
 abbrev pub do_post : Voice → ControllerId → State → Deed
-do_post v k x = do_word_in_turn v k is_post_call x
+do_post v k x = do_word v k is_post_call x

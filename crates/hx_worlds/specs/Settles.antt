@@ -11,10 +11,13 @@ use Rattle.hx_print.specs.declared.Note.TheVariants as notes
 use Rattle.hx_print.specs.Texts.{settle_text}
 use Rattle.hx_control.specs.declared.PassOutcome.{PassOutcome}
 use Rattle.hx_control.specs.declared.PassOutcome.TheVariants as ends
-use Rattle.hx_sim.specs.World.{State}
-use Rattle.hx_sim.specs.Runs.{Run, Deed, Voice, gives, done, go_on, and_then, say, note, for_each}
-use Rattle.hx_sim.specs.Turns.{do_pass, say_entries}
-use Rattle.hx_sim.specs.Jobs.{do_work}
+use Rattle.hx_worlds.specs.declared.Settled.{Settled}
+use Rattle.hx_worlds.specs.declared.Voice.{Voice}
+use Rattle.hx_worlds.specs.declared.Voice.TheVariants.{Quiet}
+use Rattle.hx_worlds.specs.World.{State}
+use Rattle.hx_worlds.specs.Runs.{Run, Deed, gives, done, go_on, and_then, say, note, for_each}
+use Rattle.hx_worlds.specs.Turns.{do_pass, say_entries}
+use Rattle.hx_worlds.specs.Jobs.{do_work}
 
 -- how many rounds are enough
 abbrev pub all_parts : List Resource → ℕ
@@ -29,12 +32,6 @@ enough_rounds c =
     let replicas = length c.live * all_parts c.resources in
     (2 * replicas + 2) * (replicas * (most_states c.models + 2) + 2)
 
--- what a settle came to: how many rounds there were, and the report of the turn that settled. It has one wherever the settle goes on to
--- its end, since these rounds are enough
-pub record Settled : Type 0 where
-  pub passes : ℕ
-  pub report : Option Report
-
 -- work on each live instance, in order
 abbrev pub work_all : State → Deed
 work_all x = for_each do_work (map (λ e. e.1) (live_shown x.world.cluster)) x
@@ -46,7 +43,7 @@ unless_settled n _ f x = and_then (work_all x) f
 
 abbrev pub rounds : ℕ → ControllerId → ℕ → State → Run Settled
 rounds zero k n x = gives x (record { passes = n; report = None })
-rounds (suc m) k n x = go_on (do_pass Voice.Quiet k x) (λ outcome y. unless_settled (n + 1) outcome (λ z. rounds m k (n + 1) z) y)
+rounds (suc m) k n x = go_on (do_pass Quiet k x) (λ outcome y. unless_settled (n + 1) outcome (λ z. rounds m k (n + 1) z) y)
 
 -- nobody leads, or the rounds of the leader
 abbrev pub settle_led : Option ControllerId → State → Run (Option Settled)

@@ -23,13 +23,15 @@ use Rattle.hx_script.specs.declared.What.TheVariants as asks
 use Rattle.hx_script.specs.declared.Line.{Line}
 use Rattle.hx_script.specs.Asked.{part_at, step_asked}
 use Rattle.hx_script.specs.Ranges.{is_line_in_range}
-use Rattle.hx_sim.specs.World.{World, State, Answered, opening_world, told_by}
-use Rattle.hx_sim.specs.Items.{Item, events_in, items_text}
-use Rattle.hx_sim.specs.Runs.{Deed, GoesOn, Stops, Voice, items_of, is_stopped, done, and_then, happen, say, note, for_each}
-use Rattle.hx_sim.specs.Turns.{do_begin, do_read, do_send, do_post, do_pass, without_outcome}
-use Rattle.hx_sim.specs.Jobs.{adopt_in, do_fetch, do_deliver, do_take, do_write, do_ack, do_work}
-use Rattle.hx_sim.specs.Settles.{do_settle}
-use Rattle.hx_sim.specs.Summaries.{summary_of}
+use Rattle.hx_worlds.specs.declared.Voice.{Voice}
+use Rattle.hx_worlds.specs.declared.Voice.TheVariants.{Loud}
+use Rattle.hx_worlds.specs.World.{World, State, Answered, opening_world, told_by}
+use Rattle.hx_worlds.specs.Items.{Item, events_in, items_text}
+use Rattle.hx_worlds.specs.Runs.{Deed, GoesOn, Stops, items_of, is_stopped, done, and_then, happen, say, note, for_each}
+use Rattle.hx_worlds.specs.Turns.{do_begin, do_read, do_send, do_post, do_pass, without_outcome}
+use Rattle.hx_worlds.specs.Jobs.{adopt_in, do_fetch, do_deliver, do_take, do_write, do_ack, do_work}
+use Rattle.hx_worlds.specs.Settles.{do_settle}
+use Rattle.hx_worlds.specs.Summaries.{summary_of}
 
 -- a step of the cluster
 abbrev pub stepped : Voice → Admin → Option StepFault → State → Deed
@@ -99,7 +101,7 @@ do_what v what x = do_asked v (step_asked x.world.cluster what) x
 
 -- a line is recorded as taken, then done
 abbrev pub do_line : Line → State → Deed
-do_line l x = and_then (happen (events.Line l.number) x) (λ y. do_what (Voice.Loud l.number) l.what y)
+do_line l x = and_then (happen (events.Line l.number) x) (λ y. do_what (Loud l.number) l.what y)
 
 -- a line that a world can be given: what it asks for is in range, and its number is above the last; and lines that it can be given in turn
 abbrev pub is_next_line : Spec → Option ℕ → Line → Bool

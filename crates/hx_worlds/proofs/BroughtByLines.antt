@@ -25,15 +25,18 @@ use Rattle.hx_script.specs.declared.Line.{Line}
 use Rattle.hx_script.specs.Asked.{step_asked}
 use Rattle.hx_control.specs.declared.PassOutcome.{PassOutcome}
 use Rattle.hx_control.specs.declared.PassOutcome.TheVariants as ends
-use Rattle.hx_sim.specs.World.{State, Job, participant_of, with_participant}
-use Rattle.hx_sim.specs.Items.{events_in}
-use Rattle.hx_sim.specs.Runs.{Run, Deed, GoesOn, Stops, items_of, state_of, Voice, Quiet, Loud, done}
-use Rattle.hx_sim.specs.Brings.{Past, past_of, BringsIts}
-use Rattle.hx_sim.specs.Jobs
-use Rattle.hx_sim.specs.Settles
-use Rattle.hx_sim.specs.Scripts
-use Rattle.hx_sim.proofs.Brought.{brings_gives, brings_on, brings_then, brings_each, brings_happening, brings_event, brings_line}
-use Rattle.hx_sim.proofs.BroughtByTurns.{brings_note, brings_loud, brings_entries, brings_begin, brings_pass, brings_unasked, brings_word, brings_read}
+use Rattle.hx_worlds.specs.World.{State, Job, participant_of, with_participant}
+use Rattle.hx_worlds.specs.Items.{events_in}
+use Rattle.hx_worlds.specs.declared.Settled.{Settled}
+use Rattle.hx_worlds.specs.declared.Voice.{Voice}
+use Rattle.hx_worlds.specs.declared.Voice.TheVariants.{Quiet, Loud}
+use Rattle.hx_worlds.specs.Runs.{Run, Deed, GoesOn, Stops, items_of, state_of, done}
+use Rattle.hx_worlds.specs.Brings.{Past, past_of, BringsIts}
+use Rattle.hx_worlds.specs.Jobs
+use Rattle.hx_worlds.specs.Settles
+use Rattle.hx_worlds.specs.Scripts
+use Rattle.hx_worlds.proofs.Brought.{brings_gives, brings_on, brings_then, brings_each, brings_happening, brings_event, brings_line}
+use Rattle.hx_worlds.proofs.BroughtByTurns.{brings_note, brings_loud, brings_entries, brings_begin, brings_pass, brings_unasked, brings_word, brings_read}
 
 -- what is done to participants and jobs alone leaves the past as it is
 jobs_ended : (js : List Job) (x : State) → past_of (Jobs.end_jobs js x) ≡ past_of x
@@ -122,7 +125,7 @@ brings_work i x =
     brings_each (Jobs.run_message i) (message_run i) _ z))
 
 -- settles
-round_ended : (n : ℕ) (o : Option PassOutcome) (f : State → Run Settles.Settled) → ((x : State) → BringsIts (past_of x) (f x)) → (x : State)
+round_ended : (n : ℕ) (o : Option PassOutcome) (f : State → Run Settled) → ((x : State) → BringsIts (past_of x) (f x)) → (x : State)
     → BringsIts (past_of x) (Settles.unless_settled n o f x)
 round_ended n None f b x = brings_then (past_of x) _ _ (brings_each Jobs.do_work brings_work _ x) b
 round_ended n (Some (ends.Sent sent)) f b x = brings_then (past_of x) _ _ (brings_each Jobs.do_work brings_work _ x) b
@@ -143,7 +146,7 @@ report_lines : (r : Option Report) (x : State) → BringsIts (past_of x) (Settle
 report_lines None x = brings_gives _ _
 report_lines (Some report) x = brings_entries report.entries x
 
-settle_told : (v : Voice) (k : Option ControllerId) (s : Option Settles.Settled) (x : State) → BringsIts (past_of x) (Settles.tell_settle v k s x)
+settle_told : (v : Voice) (k : Option ControllerId) (s : Option Settled) (x : State) → BringsIts (past_of x) (Settles.tell_settle v k s x)
 settle_told v None s x = brings_note v _ x
 settle_told v (Some k) None x = brings_note v _ x
 settle_told v (Some k) (Some s) x = brings_then (past_of x) _ _ (brings_line 1 _ x) (λ y. report_lines s.report y)

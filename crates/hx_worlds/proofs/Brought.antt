@@ -5,10 +5,10 @@ use Rattle.std.proofs.lemmas.List.{append-nil}
 use Rattle.hx_cluster.specs.declared.state.Cluster.{Cluster}
 use Rattle.hx_cluster.specs.declared.happenings.Event.{Event}
 use Rattle.hx_cluster.specs.Events.{next, replay}
-use Rattle.hx_sim.specs.World.{State}
-use Rattle.hx_sim.specs.Items.{Item, Happens, Says, events_in, items_weight}
-use Rattle.hx_sim.specs.Runs.{Run, Deed, GoesOn, Stops, gives, after_items, go_on, and_then, make, happen, charged, say, for_each}
-use Rattle.hx_sim.specs.Brings.{Past, past_of, Brings, BringsIts}
+use Rattle.hx_worlds.specs.World.{State}
+use Rattle.hx_worlds.specs.Items.{Item, Happens, Says, events_in, items_weight}
+use Rattle.hx_worlds.specs.Runs.{Run, Deed, GoesOn, Stops, gives, after_items, go_on, and_then, make, happen, charged, say, for_each}
+use Rattle.hx_worlds.specs.Brings.{Past, past_of, Brings, BringsIts}
 
 events_in-append : (is js : List Item) → events_in (is ++ js) ≡ events_in is ++ events_in js
 events_in-append [] js = refl

@@ -1,5 +1,0 @@
-use Rattle.hx_sim.proofs.BroughtByLines.{prints_its_history}
-use Rattle.hx_sim.proofs.script_prints_its_history.Goals as goal
-
-pub returns : goal.returns
-returns c = prints_its_history
