@@ -10,7 +10,8 @@ use crate::simulation::{print_full, simulate};
 use hx_desc::DescFault;
 use hx_script::ScriptFault;
 use hx_genwork::make;
-use hx_sim::print_summary_of;
+use hx_scene::print_counts;
+use hx_sim::summary_of;
 use hx_text::{Page, Piece};
 use hx_words::{RunMode, Task};
 use std::alloc::{AllocError, Global};
@@ -91,7 +92,8 @@ fn summarized(alloc: Global, scenario: Scenario) -> Result<Reply, AllocError> {
     let mut text = Page::new(alloc);
     match run.full {
         None => {
-            print_summary_of(run.board.history().entries.as_slice(), &mut text)?;
+            let summary = summary_of(run.board.history().entries.as_slice())?;
+            print_counts(&summary, &mut text)?;
             Ok(Reply {
                 status: Status::DONE,
                 text,

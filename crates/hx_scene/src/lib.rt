@@ -13,3 +13,4 @@ mod telling;
 mod turns;
 
 pub use scene::Scene;
+pub use telling::{Summary, print_counts};

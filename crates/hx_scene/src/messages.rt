@@ -1,5 +1,13 @@
 //! How messages come to participants.
 
+ghost use Rattle.std.specs.Prelude.{◌≡◌, true, IfOk};
+ghost use Rattle.std.specs.List.{All};
+ghost use Rattle.hx_cluster.specs.Reads.{fetched};
+ghost use Rattle.hx_cluster.specs.Steps.{has_instance};
+ghost use Rattle.hx_worlds.specs.Jobs.{do_fetch, deliver as delivers, note_of};
+ghost use Rattle.hx_scene.specs.Doing.{DoesDeed};
+ghost use Rattle.hx_scene.specs.Scenes.{IsBagged};
+
 use crate::Scene;
 use crate::bag::put_all;
 use hx_board::RoomFault;
@@ -11,7 +19,9 @@ use hx_replicas::DeliverFault;
 use hx_text::Page;
 use hx_worlds::Voice;
 
-fn note_of(fault: DeliverFault) -> Note {
+fn note_of(fault: DeliverFault) -> Note
+    ensures { result ≡ note_of fault }
+{
     match fault {
         DeliverFault::OtherSession { mine } => Note::OtherSession { mine },
         DeliverFault::Running { id } => Note::Running { id },
@@ -27,7 +37,14 @@ impl<F: Factory> Scene<F> {
         &mut self,
         instance: InstanceId,
         out: &mut Page,
-    ) -> Result<Vec<Message>, RoomFault> {
+    ) -> Result<Vec<Message>, RoomFault>
+        requires { has_instance self.old.board.cluster instance ≡ true }
+        ensures does { DoesDeed (λ x. do_fetch instance x)
+            self.old out.old self.new out.new result }
+        ensures messages { IfOk result (λ messages.
+            messages.items ≡ (fetched self.old.board.cluster instance).messages) }
+        ensures bagged { IfOk result (λ messages. All (IsBagged self.new.bag) messages.items) }
+    {
         let open = self.open_jobs(instance)?;
         let mail = self.board.fetch(instance)?;
         self.bag.reserve(mail.messages.len())?;
@@ -39,14 +56,20 @@ impl<F: Factory> Scene<F> {
         Ok(mail.messages.into_vec())
     }
 
-    /// Delivers a message to an instance's participant, which accepts it or says why not.
+    /// Delivers a message of the bag to an instance's participant, which accepts it or says why not.
     pub fn deliver(
         &mut self,
         voice: Voice,
         instance: InstanceId,
         message: &Message,
         out: &mut Page,
-    ) -> Result<(), RoomFault> {
+    ) -> Result<(), RoomFault>
+        requires instance { has_instance self.old.board.cluster instance ≡ true }
+        requires bagged { IsBagged self.old.bag message.now }
+        ensures does { DoesDeed (λ x. delivers voice instance message.now x)
+            self.old out.old self.new out.new result }
+        ensures bag { self.new.bag ≡ self.old.bag }
+    {
         let participant = &mut self.participants[instance.0 as usize];
         participant.reserve(1)?;
         match participant.deliver(message) {

@@ -1,5 +1,10 @@
 //! How accepted messages are run: taken, written and acknowledged.
 
+ghost use Rattle.std.specs.Prelude.{◌≡◌, true};
+ghost use Rattle.hx_cluster.specs.Steps.{has_instance};
+ghost use Rattle.hx_worlds.specs.Jobs.{do_take, do_write, do_ack};
+ghost use Rattle.hx_scene.specs.Doing.{DoesDeed};
+
 use crate::Scene;
 use crate::jobs::{OpenJob, end_at, place_of};
 use hx_board::RoomFault;
@@ -21,7 +26,11 @@ impl<F: Factory> Scene<F> {
         instance: InstanceId,
         id: MsgId,
         out: &mut Page,
-    ) -> Result<(), RoomFault> {
+    ) -> Result<(), RoomFault>
+        requires { has_instance self.old.board.cluster instance ≡ true }
+        ensures { DoesDeed (λ x. do_take voice instance id x)
+            self.old out.old self.new out.new result }
+    {
         if self.handed >= MOST_HANDED {
             return Err(RoomFault::OutOfMemory);
         }
@@ -55,7 +64,11 @@ impl<F: Factory> Scene<F> {
         instance: InstanceId,
         id: MsgId,
         out: &mut Page,
-    ) -> Result<(), RoomFault> {
+    ) -> Result<(), RoomFault>
+        requires { has_instance self.old.board.cluster instance ≡ true }
+        ensures { DoesDeed (λ x. do_write voice instance id x)
+            self.old out.old self.new out.new result }
+    {
         let Some(place) = place_of(&self.jobs, instance, id) else {
             return self.note(voice, &Note::NoJob, out);
         };
@@ -83,7 +96,11 @@ impl<F: Factory> Scene<F> {
         instance: InstanceId,
         id: MsgId,
         out: &mut Page,
-    ) -> Result<(), RoomFault> {
+    ) -> Result<(), RoomFault>
+        requires { has_instance self.old.board.cluster instance ≡ true }
+        ensures { DoesDeed (λ x. do_ack voice instance id x)
+            self.old out.old self.new out.new result }
+    {
         let Some(place) = place_of(&self.jobs, instance, id) else {
             return self.note(voice, &Note::NoJob, out);
         };

@@ -1,5 +1,12 @@
 //! The parts of a world, and what stands in them.
 
+ghost use Rattle.std.specs.Prelude.{◌≡◌, true, [], IfOk};
+ghost use Rattle.hx_cluster.specs.Steps.{has_instance, has_controller};
+ghost use Rattle.hx_replicas.specs.Participants.{accepted_all};
+ghost use Rattle.hx_worlds.specs.World.{controller_of, participant_of};
+ghost use Rattle.hx_scene.specs.Scenes.{world_of};
+ghost use Rattle.hx_scene.specs.Kept.{IsScene};
+
 use crate::jobs::{OpenJob, end_all};
 use hx_board::Board;
 use hx_cluster::{Message, Spec};
@@ -7,9 +14,10 @@ use hx_control::Controller;
 use hx_handler::Factory;
 use hx_hops::Hops;
 use hx_ids::{ControllerId, InstanceId};
-use hx_model::Model;
+use hx_model::Model as StateModel;
 use hx_replicas::Participant;
 use std::alloc::{AllocError, Global};
+use std::marker::Model;
 
 /// A board with the controllers and participants that act on it. It can't be dropped: it has to be
 /// closed.
@@ -27,8 +35,40 @@ pub struct Scene<F: Factory> {
     pub(crate) handed: u64,
 }
 
+impl<F: Factory> Model for Scene<F> {
+    ghost use Rattle.std.specs.Prelude.{◌≡◌};
+    ghost use Rattle.hx_scene.specs.Scenes.{SceneState};
+    ghost use Rattle.hx_scene.specs.Kept.{IsScene};
+
+    ghost Value = { SceneState };
+
+    ghost view = { λ a. record {
+      spec = a.spec;
+      board = a.board;
+      controllers = a.controllers.items;
+      staff = a.participants.items;
+      open = a.jobs.items;
+      bag = a.bag.items;
+      handed = a.handed;
+    } };
+
+    ghost invariant = { λ a.
+        IsScene (record {
+          spec = a.spec;
+          board = a.board;
+          controllers = a.controllers.items;
+          staff = a.participants.items;
+          open = a.jobs.items;
+          bag = a.bag.items;
+          handed = a.handed;
+        })
+        × (a.hops.items ≡ a.spec.models) };
+}
+
 /// The hops of models, in their order.
-fn hops_of(alloc: Global, models: &[Model]) -> Result<Vec<Hops>, AllocError> {
+fn hops_of(alloc: Global, models: &[StateModel]) -> Result<Vec<Hops>, AllocError>
+    ensures { IfOk result (λ hops. hops.items ≡ models.now) }
+{
     let mut hops = Vec::with_capacity(alloc, models.len())?;
     for model in models {
         hops.push_reserved(Hops::build(alloc, model)?);
@@ -53,7 +93,26 @@ impl<F: Factory> Scene<F> {
         board: Board,
         controllers: Vec<Controller>,
         participants: Vec<Participant<F>>,
-    ) -> Result<Scene<F>, AllocError> {
+    ) -> Result<Scene<F>, AllocError>
+        requires { IsScene (record {
+          spec = spec;
+          board = board;
+          controllers = controllers.items;
+          staff = participants.items;
+          open = [];
+          bag = [];
+          handed = 0;
+        }) }
+        ensures { IfOk result (λ scene. scene ≡ record {
+          spec = spec;
+          board = board;
+          controllers = controllers.items;
+          staff = participants.items;
+          open = [];
+          bag = [];
+          handed = 0;
+        }) }
+    {
         match hops_of(alloc, spec.models.as_slice()) {
             Ok(hops) => Ok(Scene {
                 spec,
@@ -73,7 +132,9 @@ impl<F: Factory> Scene<F> {
     }
 
     /// Ends all that is open and closes the participants, and gives the board. It takes no memory.
-    pub fn close(self) -> Board {
+    pub fn close(self) -> Board
+        ensures { result ≡ self.board }
+    {
         let Scene {
             spec: _,
             hops: _,
@@ -96,22 +157,34 @@ impl<F: Factory> Scene<F> {
     }
 
     /// The description. It takes no memory.
-    pub fn spec(&self) -> &Spec {
+    pub fn spec(&self) -> &Spec
+        ensures { result.now ≡ self.now.spec }
+    {
         &self.spec
     }
 
     /// The board. It takes no memory.
-    pub fn board(&self) -> &Board {
+    pub fn board(&self) -> &Board
+        ensures board { result.now ≡ self.now.board }
+        ensures scene { IsScene self.now }
+    {
         &self.board
     }
 
     /// A controller. It takes no memory.
-    pub fn controller(&self, controller: ControllerId) -> &Controller {
+    pub fn controller(&self, controller: ControllerId) -> &Controller
+        requires { has_controller self.now.board.cluster controller ≡ true }
+        ensures { result.now ≡ controller_of (world_of self.now) controller }
+    {
         &self.controllers[controller.0 as usize]
     }
 
-    /// The numbers of an instance's accepted messages, rising.
-    pub fn accepted(&self, instance: InstanceId) -> Result<Vec<Message>, AllocError> {
+    /// The accepted messages of an instance, by number.
+    pub fn accepted(&self, instance: InstanceId) -> Result<Vec<Message>, AllocError>
+        requires { has_instance self.now.board.cluster instance ≡ true }
+        ensures { IfOk result (λ messages.
+            messages.items ≡ accepted_all (participant_of (world_of self.now) instance)) }
+    {
         self.participants[instance.0 as usize].accepted()
     }
 }

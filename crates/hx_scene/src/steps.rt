@@ -1,8 +1,16 @@
 //! Lines that are taken, and steps of the cluster.
 
+ghost use Rattle.std.specs.Prelude.{◌≡◌, true, Some};
+ghost use Rattle.hx_cluster.specs.Steps.{has_instance, is_in_range};
+ghost use Rattle.hx_cluster.specs.Events.{is_later};
+ghost use Rattle.hx_board.specs.Board.{next_line_of};
+ghost use Rattle.hx_worlds.specs.Runs.{happen};
+ghost use Rattle.hx_worlds.specs.Scripts.{do_step, do_die};
+ghost use Rattle.hx_scene.specs.Doing.{DoesDeed};
+
 use crate::Scene;
 use hx_board::{BoardFault, RoomFault};
-use hx_cluster::Admin;
+use hx_cluster::{Admin, Event};
 use hx_handler::Factory;
 use hx_ids::InstanceId;
 use hx_print::Note;
@@ -10,17 +18,23 @@ use hx_text::Page;
 use hx_worlds::Voice;
 
 impl<F: Factory> Scene<F> {
-    /// Takes the script's next line, unless all are taken.
-    pub fn take_line(&mut self, out: &mut Page) -> Result<Option<u32>, RoomFault> {
-        let line = self.board.next_line()?;
-        if line.is_some() {
-            self.print_last(&self.no_roll(), out)?;
-        }
-        Ok(line)
+    /// Takes the script's next line, which has this number.
+    pub fn take_line(&mut self, number: u32, out: &mut Page) -> Result<(), RoomFault>
+        requires next { next_line_of self.old.board ≡ Some number }
+        requires later { is_later self.old.board.cluster.line number ≡ true }
+        ensures { DoesDeed (λ x. happen (Event.Line number) x)
+            self.old out.old self.new out.new result }
+    {
+        self.board.next_line()?;
+        self.print_last(&self.no_roll(), out)?;
+        Ok(())
     }
 
     /// Makes a step, or notes why not.
-    pub fn step(&mut self, voice: Voice, step: &Admin, out: &mut Page) -> Result<(), RoomFault> {
+    pub fn step(&mut self, voice: Voice, step: &Admin, out: &mut Page) -> Result<(), RoomFault>
+        requires { is_in_range self.old.board.cluster step.now ≡ true }
+        ensures { DoesDeed (λ x. do_step voice step.now x) self.old out.old self.new out.new result }
+    {
         let roll = self.roll()?;
         match self.board.admin(step) {
             Ok(_) => {
@@ -39,7 +53,10 @@ impl<F: Factory> Scene<F> {
         voice: Voice,
         instance: InstanceId,
         out: &mut Page,
-    ) -> Result<(), RoomFault> {
+    ) -> Result<(), RoomFault>
+        requires { has_instance self.old.board.cluster instance ≡ true }
+        ensures { DoesDeed (λ x. do_die voice instance x) self.old out.old self.new out.new result }
+    {
         let roll = self.roll()?;
         let open = self.open_jobs(instance)?;
         match self.board.admin(&Admin::End { instance }) {

@@ -11,5 +11,5 @@ mod views;
 mod work;
 mod world;
 
-pub use summaries::print_summary_of;
+pub use summaries::summary_of;
 pub use world::World;

@@ -4,7 +4,7 @@ use crate::World;
 use hx_board::RoomFault;
 use hx_cluster::{Admin, Did, Event, Outcome, Placed};
 use hx_handler::Factory;
-use hx_print::print_summary;
+use hx_scene::Summary;
 use hx_text::Page;
 use std::alloc::AllocError;
 
@@ -78,27 +78,22 @@ fn written(events: &[Event], outcome: Outcome) -> u64 {
     events.iter().filter(|event| is_write(event, outcome)).count() as u64
 }
 
-/// The counts of a summary. One past a number of 64 bits is want of memory.
-fn counts(events: &[Event]) -> Option<[u64; 5]> {
-    let sent = sent(events)?;
-    let joined = joined(events)?;
-    let ended = ended(events)?;
-    let ok = written(events, Outcome::Ok);
-    let failed = written(events, Outcome::Failed);
-    Some([sent, ok, failed, joined, ended])
-}
-
-/// Prints what happened in a history, in numbers. One past a number of 64 bits is want of memory.
-pub fn print_summary_of(events: &[Event], out: &mut Page) -> Result<(), AllocError> {
-    let [sent, ok, failed, joined, ended] = counts(events).ok_or(AllocError)?;
-    print_summary(sent, ok, failed, joined, ended, out)
+/// What happened in a history. A number past 64 bits is want of memory.
+pub fn summary_of(events: &[Event]) -> Result<Summary, AllocError> {
+    Ok(Summary {
+        sent: sent(events).ok_or(AllocError)?,
+        ok: written(events, Outcome::Ok),
+        failed: written(events, Outcome::Failed),
+        joined: joined(events).ok_or(AllocError)?,
+        ended: ended(events).ok_or(AllocError)?,
+    })
 }
 
 impl<F: Factory> World<F> {
     /// Prints what happened so far, in numbers.
     pub(crate) fn summary(&mut self, out: &mut Page) -> Result<(), RoomFault> {
         let events = self.scene.board().history().entries.as_slice();
-        let counts = counts(events).ok_or(AllocError)?;
-        self.scene.say_summary(counts, out)
+        let summary = summary_of(events)?;
+        self.scene.say_summary(&summary, out)
     }
 }

@@ -44,7 +44,7 @@ impl<F: Factory> World<F> {
 
     /// Takes a script line and does it, and prints what it brings.
     pub fn line(&mut self, line: &Line, out: &mut Page) -> Result<(), RoomFault> {
-        self.scene.take_line(out)?;
+        self.scene.take_line(line.number, out)?;
         self.what(Voice::Loud(line.number), &line.what, out)
     }
 
