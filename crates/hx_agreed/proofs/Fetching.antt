@@ -147,12 +147,12 @@ any-insert : {X : Type 0} (p : X → Bool) (before : X → X → Bool) (x : X) (
 any-insert p before x [] = refl
 any-insert p before x (y ∷ xs) = grind (arith, any-insert p before x xs)
 
-pub any-sort : {X : Type 0} (p : X → Bool) (before : X → X → Bool) (xs : List X) → list_any p (sort_by before xs) ≡ list_any p xs
+any-sort : {X : Type 0} (p : X → Bool) (before : X → X → Bool) (xs : List X) → list_any p (sort_by before xs) ≡ list_any p xs
 any-sort p before [] = refl
 any-sort p before (x ∷ xs) = grind (arith, any-insert p before x (sort_by before xs), any-sort p before xs)
 
 -- which jobs are among those that end
-abbrev is_ended : List Job → Job → Bool
+abbrev pub is_ended : List Job → Job → Bool
 is_ended js y = list_any (λ j. Jobs.is_job j.instance j.message.id y) js
 
 filter-filter : {X : Type 0} (p q r : X → Bool) → ((x : X) → r x ≡ (p x && q x)) → (xs : List X) → filter q (filter p xs) ≡ filter r xs
@@ -164,7 +164,7 @@ filter-filter p q r h (x ∷ xs) = one (p x) refl (q x) refl (filter-filter p q 
     one true e false f more = let g : r x ≡ false = h x ∙ grind (arith, e, f) in rw (e, f, g) more
     one false e b f more = let g : r x ≡ false = h x ∙ grind (arith, e) in rw (e, g) more
 
-jobs_left : (js : List Job) (x : State) → (Jobs.end_jobs js x).world.jobs ≡ filter (λ y. not (is_ended js y)) x.world.jobs
+pub jobs_left : (js : List Job) (x : State) → (Jobs.end_jobs js x).world.jobs ≡ filter (λ y. not (is_ended js y)) x.world.jobs
 jobs_left [] x = every x.world.jobs
   where
     every : (xs : List Job) → xs ≡ filter (λ y. true) xs
@@ -186,7 +186,7 @@ bag_left : (js : List Job) (x : State) → (Jobs.end_jobs js x).world.bag ≡ x.
 bag_left [] x = refl
 bag_left (j ∷ js) x = bag_left js (Jobs.end_job j x)
 
-pub many_left : (js : List Job) (x : State) → length (Jobs.end_jobs js x).world.participants ≡ length x.world.participants
+many_left : (js : List Job) (x : State) → length (Jobs.end_jobs js x).world.participants ≡ length x.world.participants
 many_left [] x = refl
 many_left (j ∷ js) x = many_left js (Jobs.end_job j x) ∙ length-put x.world.participants j.instance.0 (finish (participant_of x.world j.instance) j.message (Some j.outcome) j.handler)
 
@@ -197,7 +197,7 @@ others_left i n other (j ∷ js) x all =
     others_left i n other js (Jobs.end_job j x) (and-second (Jobs.is_job_of i j) (list_all (Jobs.is_job_of i) js) all)
     ∙ others_put x.world.participants j.instance (finish (participant_of x.world j.instance) j.message (Some j.outcome) j.handler) n (grind (arith, nat_tests, of_i, other))
 
-pub distinct_left : (i : InstanceId) (js : List Job) (x : State) → i.0 < length x.world.participants → AreDistinct (map (λ z. z.part) (of_instance x.world.participants i).slots)
+distinct_left : (i : InstanceId) (js : List Job) (x : State) → i.0 < length x.world.participants → AreDistinct (map (λ z. z.part) (of_instance x.world.participants i).slots)
     → AreDistinct (map (λ z. z.part) (of_instance (Jobs.end_jobs js x).world.participants i).slots)
 distinct_left i [] x lt d = d
 distinct_left i (j ∷ js) x lt d =
@@ -213,7 +213,7 @@ distinct_left i (j ∷ js) x lt d =
         (distinct-put (of_instance x.world.participants i).slots (brought (slot_of (of_instance x.world.participants i) j.message.part) (end_of j.message (Some j.outcome)) j.handler) d))
 
 -- the open jobs of an instance are all of it, and each of it is among them
-pub of_instance_all : (i : InstanceId) (x : State) → list_all (Jobs.is_job_of i) (Jobs.jobs_of i x) ≡ true
+of_instance_all : (i : InstanceId) (x : State) → list_all (Jobs.is_job_of i) (Jobs.jobs_of i x) ≡ true
 of_instance_all i x =
     all-sort (Jobs.is_job_of i) Jobs.job_before (filter (Jobs.is_job_of i) x.world.jobs)
     ∙ all-filter_more (λ (j : Job). true) (Jobs.is_job_of i) (Jobs.is_job_of i) (λ j e f. f) x.world.jobs (every x.world.jobs)
@@ -237,7 +237,7 @@ some_counted p xs e = one (list_any p xs) refl
     one true f = refl
     one false f = let zero = count-none p xs f in absurd (let z : 0 ≡ 1 = sym zero ∙ e in omega arith)
 
-ended_of_it : (i : InstanceId) (x : State) (y : Job) → count (Jobs.is_job y.instance y.message.id) x.world.jobs ≡ 1 → (i.0 == y.instance.0) ≡ true → is_ended (Jobs.jobs_of i x) y ≡ true
+pub ended_of_it : (i : InstanceId) (x : State) (y : Job) → count (Jobs.is_job y.instance y.message.id) x.world.jobs ≡ 1 → (i.0 == y.instance.0) ≡ true → is_ended (Jobs.jobs_of i x) y ≡ true
 ended_of_it i x y only its =
     any-le (Jobs.is_job y.instance y.message.id) (λ j. Jobs.is_job j.instance j.message.id y) (λ j e. grind (arith, nat_tests, e)) (Jobs.jobs_of i x)
     (any-sort (Jobs.is_job y.instance y.message.id) Jobs.job_before (filter (Jobs.is_job_of i) x.world.jobs)

@@ -41,7 +41,7 @@ none_is {X} p j (x ∷ xs) e = one (p x) refl (none_is p j xs)
     one true is more = absurd (let z : true ≡ false = grind (arith, is, e) in (cc))
     one false is more = ((λ yes. absurd (let z : true ≡ false = sym yes ∙ is in (cc))), more (grind (arith, is, e)))
 
-only_one : {X : Type 0} (p : X → Bool) (j : X) (xs : List X) → find p xs ≡ Some j → count p xs ≡ 1 → Each (λ x. p x ≡ true → x ≡ j) xs
+pub only_one : {X : Type 0} (p : X → Bool) (j : X) (xs : List X) → find p xs ≡ Some j → count p xs ≡ 1 → Each (λ x. p x ≡ true → x ≡ j) xs
 only_one p j [] f e = cc
 only_one {X} p j (x ∷ xs) f e = one (p x) refl (only_one p j xs)
   where
