@@ -104,17 +104,17 @@ same_session_is a b s e f =
     ap (λ (o : Option SessionId). Jobs.same_session o b) e ∙ ap (λ (o : Option SessionId). Jobs.same_session (Some s) o) f ∙ same-self s.0
 
 module _ (spec : Spec) (valid : IsValid spec) (last : Option ℕ) where
-  kept_now : (x : State) → Stands spec last x → IsKept x.world.cluster
+  pub kept_now : (x : State) → Stands spec last x → IsKept x.world.cluster
   kept_now x s = (whole_there spec last x.world valid s.scripted).kept
 
-  in_range_now : (i : InstanceId) (x : State) → Ranges.has_instance spec i ≡ true → Stands spec last x → i.0 < length x.world.participants
+  pub in_range_now : (i : InstanceId) (x : State) → Ranges.has_instance spec i ≡ true → Stands spec last x → i.0 < length x.world.participants
   in_range_now i x there s =
       let many = s.in_step.participants in
       let given : length x.world.spec.instances ≡ length spec.instances = ap (λ (g : Spec). length g.instances) s.scripted.of.given in
       grind (arith, nat_tests, there, many, given)
 
   -- a session is adopted
-  adopted_now : (i : InstanceId) (o : Option SessionId) (x : State) → Ranges.has_instance spec i ≡ true → Stands spec last x
+  pub adopted_now : (i : InstanceId) (o : Option SessionId) (x : State) → Ranges.has_instance spec i ≡ true → Stands spec last x
       → ((s : SessionId) → (of_instance x.world.participants i).session ≡ Some s → is_live x.world.cluster.live s ≡ false) → ((s : SessionId) → o ≡ Some s → session_of x.world.cluster i ≡ Some s)
       → Stands spec last (Jobs.adopt_in i o x)
   adopted_now i o x there s dead theirs = record {
@@ -166,7 +166,7 @@ module _ (spec : Spec) (valid : IsValid spec) (last : Option ℕ) where
         ready = ready_here mail.messages y g f;
       }
 
-  fetch_happens : (i : InstanceId) (x : State) → Ranges.has_instance spec i ≡ true → Stands spec last x
+  pub fetch_happens : (i : InstanceId) (x : State) → Ranges.has_instance spec i ≡ true → Stands spec last x
       → x.world.weight + weight_of (events.Fetch i (session_of x.world.cluster i) (length (messages_for x.world.cluster (session_of x.world.cluster i)))) ≤ x.world.limit
       → Stands spec last (happened (events.Fetch i (session_of x.world.cluster i) (length (messages_for x.world.cluster (session_of x.world.cluster i)))) x)
   fetch_happens i x there s room =
@@ -307,7 +307,7 @@ module _ (spec : Spec) (valid : IsValid spec) (last : Option ℕ) where
   settle_done v x s = keeps_on (Stands spec last) _ _ (settled _ x s) (λ o y there. settle_told v x.world.cluster.leader o y there)
 
   -- steps
-  step_happens : (step : Admin) (x : State) → is_in_range x.world.cluster step ≡ true → refusal_of x.world.cluster step ≡ None → Stands spec last x
+  pub step_happens : (step : Admin) (x : State) → is_in_range x.world.cluster step ≡ true → refusal_of x.world.cluster step ≡ None → Stands spec last x
       → x.world.weight + weight_of (events.Admin step (did_of x.world.cluster step)) ≤ x.world.limit → Stands spec last (happened (events.Admin step (did_of x.world.cluster step)) x)
   step_happens step x well is s room =
       let e : Event = events.Admin step (did_of x.world.cluster step) in
@@ -378,17 +378,17 @@ module _ (spec : Spec) (valid : IsValid spec) (last : Option ℕ) where
   what_done v what x is s = asked v (step_asked x.world.cluster what) x (asked_well spec x.world.cluster what valid (fixed_there spec last x.world s.scripted) is) s
 
 -- it holds of a state after some line
-record HasStood (spec : Spec) (x : State) : Type 0 where
+pub record HasStood (spec : Spec) (x : State) : Type 0 where
   pub last : Option ℕ
   pub stands : Stands spec last x
 
-line_happens : (spec : Spec) (valid : IsValid spec) (last : Option ℕ) (l : Line) (x : State) → is_later last l.number ≡ true → Stands spec last x → x.world.weight + weight_of (events.Line l.number) ≤ x.world.limit
-    → Stands spec (Some l.number) (happened (events.Line l.number) x)
-line_happens spec valid last l x later s room =
-    let e : Event = events.Line l.number in
-    let step = ap (λ (o : Option ℕ). is_later o l.number) s.scripted.line ∙ later in
+pub line_happens : (spec : Spec) (valid : IsValid spec) (last : Option ℕ) (n : ℕ) (x : State) → is_later last n ≡ true → Stands spec last x → x.world.weight + weight_of (events.Line n) ≤ x.world.limit
+    → Stands spec (Some n) (happened (events.Line n) x)
+line_happens spec valid last n x later s room =
+    let e : Event = events.Line n in
+    let step = ap (λ (o : Option ℕ). is_later o n) s.scripted.line ∙ later in
     record {
-      scripted = scripted_other spec last (Some l.number) x.world e (happened e x).world.weight s.scripted step tt refl (λ k. refl);
+      scripted = scripted_other spec last (Some n) x.world e (happened e x).world.weight s.scripted step tt refl (λ k. refl);
       in_step = board_happens spec valid last e x s step refl room;
     }
 
@@ -402,7 +402,7 @@ line_left spec l x valid of in_step next =
     let ranged = and-second (is_later last l.number) (Ranges.is_line_in_range spec l) next in
     (happens_then (HasStood spec) (events.Line l.number) x (λ y. Scripts.do_what (Loud l.number) l.what y) (record { last = last; stands = s })
     (λ room. keeps_more (Stands spec (Some l.number)) (HasStood spec) (Scripts.do_what (Loud l.number) l.what (happened (events.Line l.number) x))
-    (what_done spec valid (Some l.number) (Loud l.number) l.what (happened (events.Line l.number) x) ranged (line_happens spec valid last l x later s room))
+    (what_done spec valid (Some l.number) (Loud l.number) l.what (happened (events.Line l.number) x) ranged (line_happens spec valid last l.number x later s room))
     (λ y there. record { last = Some l.number; stands = there }))).left.stands.in_step
 
 pub settle_left : (spec : Spec) (x : State) → IsValid spec → IsOfItsHistory spec x.world → IsInStep x.world → IsInStep (state_of (Settles.settle x)).world
