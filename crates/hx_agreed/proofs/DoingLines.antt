@@ -223,7 +223,7 @@ module _ (spec : Spec) (valid : IsValid spec) (last : Option ℕ) where
     };
   }
 
-  delivered : (v : Voice) (i : InstanceId) (m : Message) (f : Option DeliverFault) (x : State) → deliver_fault (participant_of x.world i) m ≡ f → Stands spec last x → is_fetched spec x.world.history m ≡ true
+  pub delivered : (v : Voice) (i : InstanceId) (m : Message) (f : Option DeliverFault) (x : State) → deliver_fault (participant_of x.world i) m ≡ f → Stands spec last x → is_fetched spec x.world.history m ≡ true
       → IsInBag x.world.cluster x.world.participants m → list_any (is_same m) x.world.bag ≡ true → Keeps (Stands spec last) (Jobs.delivered v i m f x)
   delivered v i m (Some f) x e s is its there = keeps_note spec valid last v _ x s
   delivered v i m None x e s is its there =
@@ -253,7 +253,7 @@ module _ (spec : Spec) (valid : IsValid spec) (last : Option ℕ) where
       (λ y same there now. all_delivered i ms y there now
       (subst (λ (h : List Event). list_all (is_fetched spec h) ms ≡ true) (sym same) (and-second (is_fetched spec x.world.history m) (list_all (is_fetched spec x.world.history) ms) all)))
 
-  work_done : (i : InstanceId) (x : State) → Ranges.has_instance spec i ≡ true → Stands spec last x → Keeps (Stands spec last) (Jobs.do_work i x)
+  pub work_done : (i : InstanceId) (x : State) → Ranges.has_instance spec i ≡ true → Stands spec last x → Keeps (Stands spec last) (Jobs.do_work i x)
   work_done i x there s =
       keeps_then (Stands spec last) _ _
       (keeps_each (Stands spec last) (λ j y. Jobs.carry i j.message.id y) (λ j y here. keeps_carried spec valid last i j.message.id y here) (Jobs.jobs_of i x) x s) (λ y here.
@@ -303,7 +303,7 @@ module _ (spec : Spec) (valid : IsValid spec) (last : Option ℕ) where
   settle_told v (Some k) None x s = keeps_note spec valid last v _ x s
   settle_told v (Some k) (Some o) x s = keeps_then (Stands spec last) _ _ (keeps_line spec valid last 1 _ x s) (λ y there. report_lines o.report y there)
 
-  settle_done : (v : Voice) (x : State) → Stands spec last x → Keeps (Stands spec last) (Settles.do_settle v x)
+  pub settle_done : (v : Voice) (x : State) → Stands spec last x → Keeps (Stands spec last) (Settles.do_settle v x)
   settle_done v x s = keeps_on (Stands spec last) _ _ (settled _ x s) (λ o y there. settle_told v x.world.cluster.leader o y there)
 
   -- steps
@@ -321,7 +321,7 @@ module _ (spec : Spec) (valid : IsValid spec) (last : Option ℕ) where
   stepped v step (Some f) x is well s = keeps_note spec valid last v _ x s
   stepped v step None x is well s = happens (Stands spec last) (events.Admin step (did_of x.world.cluster step)) x s (step_happens step x well is s)
 
-  asked : (v : Voice) (step : Option Admin) (x : State) → IsAskedWell x.world.cluster step → Stands spec last x → Keeps (Stands spec last) (Scripts.do_asked v step x)
+  pub asked : (v : Voice) (step : Option Admin) (x : State) → IsAskedWell x.world.cluster step → Stands spec last x → Keeps (Stands spec last) (Scripts.do_asked v step x)
   asked v None x well s = keeps_note spec valid last v _ x s
   asked v (Some step) x well s = stepped v step _ x refl well s
 
@@ -348,17 +348,17 @@ module _ (spec : Spec) (valid : IsValid spec) (last : Option ℕ) where
       never : (u : SessionId) → ◌≡◌ {A = Option SessionId} None (Some u) → ⊥
       never u e = (cc)
 
-  view_done : (x : State) → Stands spec last x → Keeps (Stands spec last) (Scripts.do_view x)
+  pub view_done : (x : State) → Stands spec last x → Keeps (Stands spec last) (Scripts.do_view x)
   view_done x s =
       keeps_each (Stands spec last) (λ p y. Scripts.say_view_of p (view_of_part y.world.cluster p) y)
       (λ p y there. keeps_line spec valid last (1 + length (view_of_part y.world.cluster p)) (view_line y.world.spec y.world.cluster.resources p (view_of_part y.world.cluster p)) y there)
       (viewed_parts x.world.cluster) x s
 
-  routed : (v : Voice) (index : ℕ) (t : StateId) (r : Option ResourceId) (x : State) → Stands spec last x → Keeps (Stands spec last) (Scripts.route_on v index t r x)
+  pub routed : (v : Voice) (index : ℕ) (t : StateId) (r : Option ResourceId) (x : State) → Stands spec last x → Keeps (Stands spec last) (Scripts.route_on v index t r x)
   routed v index t None x s = keeps_note spec valid last v _ x s
   routed v index t (Some r) x s = keeps_line spec valid last _ _ x s
 
-  what_done : (v : Voice) (what : What) (x : State) → Ranges.is_in_range spec what ≡ true → Stands spec last x → Keeps (Stands spec last) (Scripts.do_what v what x)
+  pub what_done : (v : Voice) (what : What) (x : State) → Ranges.is_in_range spec what ≡ true → Stands spec last x → Keeps (Stands spec last) (Scripts.do_what v what x)
   what_done v (asks.Die i) x is s = died v i _ x is refl (instance_there spec x.world.cluster i (fixed_there spec last x.world s.scripted) is) s
   what_done v (asks.Begin k) x is s = keeps_unasked spec valid last _ (keeps_begin spec valid last v k x s)
   what_done v (asks.Read k kind) x is s = keeps_read spec valid last v k kind x s
