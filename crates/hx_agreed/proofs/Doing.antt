@@ -120,24 +120,33 @@ module _ (spec : Spec) (valid : IsValid spec) (last : Option ℕ) where
   ran_in_step job x true s = record { parts = s.parts; participants = s.participants; weight = s.weight }
   ran_in_step job x false s = record { parts = s.parts; participants = s.participants; weight = s.weight }
 
-  module _ (v : Voice) (i : InstanceId) (m : Message) (failed : Bool) (handler : Option ℕ) (x : State) (s : Stands spec last x) (fetched : is_fetched spec x.world.history m ≡ true)
-      (work : (slot_of (participant_of x.world i) m.part).work ≡ Accepted m) (held : is_some handler ≡ is_some (made_ready (slot_of (participant_of x.world i) m.part) m failed).handler) where
-    -- a message that was handed out is taken, or put back
-    taken_there : (answers : Answers) → Keeps (Stands spec last) (Jobs.take_job v i m handler (record { world = (with_participant i (hand_out (participant_of x.world i) m failed) x).world; answers = answers }))
-    taken_there answers =
-        choice (Stands spec last) (can_take x.world.cluster m.session m.id) _ _
-        (λ can. makes_then (Stands spec last) (events.Take m.session m.id) y (λ z. done (Jobs.ran i m handler z)) (record {
-          left = record {
-            scripted = ran_scripted i m handler (happened (events.Take m.session m.id) y) (happened (events.Take m.session m.id) y) (Jobs.runs_handler m handler)
-                (scripted_other spec last last y.world (events.Take m.session m.id) (happened (events.Take m.session m.id) y).world.weight out can fetched s.scripted.line (λ k. refl));
-            in_step = ran_in_step (Jobs.job_run i m handler (happened (events.Take m.session m.id) y)) (happened (events.Take m.session m.id) y) (Jobs.runs_handler m handler) (record {
-              parts = take_in_step x.world.cluster x.world.participants x.world.jobs x.world.bag (kept_there x s) s.in_step.parts i m work failed (Jobs.job_run i m handler (happened (events.Take m.session m.id) y)) can refl refl (handler_ran m handler ∙ held) refl;
-              participants = length-put x.world.participants i.0 (hand_out (participant_of x.world i) m failed) ∙ s.in_step.participants;
-              weight = no_weight x.world.weight x.world.limit s.in_step.weight;
-            });
-          };
-        }))
-        (λ can. keeps_note spec valid last v notes.SessionEnded (Jobs.put_back i m handler y) (record {
+  module _ (i : InstanceId) (m : Message) (failed : Bool) (handler : Option ℕ) (answers : Answers) (x : State) (s : Stands spec last x) (fetched : is_fetched spec x.world.history m ≡ true)
+      (work : (slot_of (participant_of x.world i) m.part).work ≡ Accepted m) where
+    -- once a message was handed out
+    out : IsScripted spec last (with_participant i (hand_out (participant_of x.world i) m failed) x).world
+    out = handed_there spec last i m failed x s.scripted
+
+    -- it is taken, or put back
+    pub took_there : is_some handler ≡ is_some (made_ready (slot_of (participant_of x.world i) m.part) m failed).handler → can_take x.world.cluster m.session m.id ≡ true
+        → Stands spec last (Jobs.ran i m handler (happened (events.Take m.session m.id) (record { world = (with_participant i (hand_out (participant_of x.world i) m failed) x).world; answers = answers })))
+    took_there held can =
+        let y : State = record { world = (with_participant i (hand_out (participant_of x.world i) m failed) x).world; answers = answers } in
+        let z = happened (events.Take m.session m.id) y in
+        record {
+          scripted = ran_scripted i m handler z z (Jobs.runs_handler m handler)
+              (scripted_other spec last last y.world (events.Take m.session m.id) z.world.weight out can fetched s.scripted.line (λ k. refl));
+          in_step = ran_in_step (Jobs.job_run i m handler z) z (Jobs.runs_handler m handler) (record {
+            parts = take_in_step x.world.cluster x.world.participants x.world.jobs x.world.bag (kept_there x s) s.in_step.parts i m work failed (Jobs.job_run i m handler z) can refl refl (handler_ran m handler ∙ held) refl;
+            participants = length-put x.world.participants i.0 (hand_out (participant_of x.world i) m failed) ∙ s.in_step.participants;
+            weight = no_weight x.world.weight x.world.limit s.in_step.weight;
+          });
+        }
+
+    pub stays_there : can_take x.world.cluster m.session m.id ≡ false
+        → Stands spec last (Jobs.put_back i m handler (record { world = (with_participant i (hand_out (participant_of x.world i) m failed) x).world; answers = answers }))
+    stays_there can =
+        let y : State = record { world = (with_participant i (hand_out (participant_of x.world i) m failed) x).world; answers = answers } in
+        record {
           scripted = put_back_there spec last i m handler y out;
           in_step = record {
             parts = put_back_in_step x.world.cluster x.world.participants x.world.jobs x.world.bag (kept_there x s) s.in_step.parts i m work failed handler
@@ -146,13 +155,16 @@ module _ (spec : Spec) (valid : IsValid spec) (last : Option ℕ) where
                 ∙ length-put x.world.participants i.0 (hand_out (participant_of x.world i) m failed) ∙ s.in_step.participants;
             weight = s.in_step.weight;
           };
-        }))
-      where
-        y : State
-        y = record { world = (with_participant i (hand_out (participant_of x.world i) m failed) x).world; answers = answers }
+        }
 
-        out : IsScripted spec last (with_participant i (hand_out (participant_of x.world i) m failed) x).world
-        out = handed_there spec last i m failed x s.scripted
+  module _ (v : Voice) (i : InstanceId) (m : Message) (failed : Bool) (handler : Option ℕ) (x : State) (s : Stands spec last x) (fetched : is_fetched spec x.world.history m ≡ true)
+      (work : (slot_of (participant_of x.world i) m.part).work ≡ Accepted m) (held : is_some handler ≡ is_some (made_ready (slot_of (participant_of x.world i) m.part) m failed).handler) where
+    taken_there : (answers : Answers) → Keeps (Stands spec last) (Jobs.take_job v i m handler (record { world = (with_participant i (hand_out (participant_of x.world i) m failed) x).world; answers = answers }))
+    taken_there answers =
+        let y : State = record { world = (with_participant i (hand_out (participant_of x.world i) m failed) x).world; answers = answers } in
+        choice (Stands spec last) (can_take x.world.cluster m.session m.id) _ _
+        (λ can. makes_then (Stands spec last) (events.Take m.session m.id) y (λ z. done (Jobs.ran i m handler z)) (record { left = took_there i m failed handler answers x s fetched work held can }))
+        (λ can. keeps_note spec valid last v notes.SessionEnded (Jobs.put_back i m handler y) (stays_there i m failed handler answers x s fetched work can))
 
     taken_answered : (is : Bool) → Keeps (Stands spec last) (Jobs.take_job v i m handler (Jobs.if_answered is (with_participant i (hand_out (participant_of x.world i) m failed) x)))
     taken_answered true = taken_there (rest_of x.answers)
@@ -177,58 +189,76 @@ module _ (spec : Spec) (valid : IsValid spec) (last : Option ℕ) where
   }
 
   -- writes
+  job_there : (i : InstanceId) (id : MsgId) (j : Job) (x : State) → Stands spec last x → Jobs.job_of i id x ≡ Some j → IsHeldJob x.world.cluster x.world.participants x.world.jobs j
+  job_there i id j x s is = each-find (IsHeldJob x.world.cluster x.world.participants x.world.jobs) (Jobs.is_job i id) x.world.jobs j s.in_step.parts.held is
+
+  job_found : (i : InstanceId) (id : MsgId) (j : Job) (x : State) → find (Jobs.is_job i id) x.world.jobs ≡ Some j → find (Jobs.is_job j.instance j.message.id) x.world.jobs ≡ Some j
+  job_found i id j x found =
+      let p = find-passes (Jobs.is_job i id) x.world.jobs j found in
+      let at : j.instance ≡ i = instance_same j.instance i (and-first (j.instance.0 == i.0) (j.message.id.0 == id.0) p) in
+      let number : j.message.id.0 ≡ id.0 = (let q = and-second (j.instance.0 == i.0) (j.message.id.0 == id.0) p in grind (arith, nat_tests, q)) in
+      subst (λ (n : InstanceId). find (Jobs.is_job n j.message.id) x.world.jobs ≡ Some j) (sym at)
+      (subst (λ (n : ℕ). find (Jobs.is_job i (record { 0 = n })) x.world.jobs ≡ Some j) (sym number) found)
+
+  pub wrote_there : (i : InstanceId) (id : MsgId) (j : Job) (x : State) → Stands spec last x → Jobs.job_of i id x ≡ Some j → can_write x.world.cluster j.message.session j.message.id ≡ true
+      → Stands spec last (Jobs.with_written j.instance j.message.id (happened (events.Write j.message.session j.message.id j.outcome) x))
+  wrote_there i id j x s is can =
+      let e : Event = events.Write j.message.session j.message.id j.outcome in
+      let h = job_there i id j x s is in
+      let y = happened e x in
+      record {
+        scripted = jobs_there spec last y.world (map (Jobs.as_written_job j.instance j.message.id) y.world.jobs)
+            (scripted_other spec last last x.world e y.world.weight s.scripted can tt (write-line x.world.cluster j.message.session j.message.id j.outcome ∙ s.scripted.line) (λ k. refl));
+        in_step = record {
+          parts = write_in_step x.world.cluster x.world.participants x.world.jobs x.world.bag (kept_there x s) s.in_step.parts j h
+              (h.taken (write_live x.world.cluster j.message.session j.message.id can)) (job_found i id j x is);
+          participants = s.in_step.participants;
+          weight = no_weight x.world.weight x.world.limit s.in_step.weight;
+        };
+      }
+
+  pub unwritten_there : (i : InstanceId) (id : MsgId) (j : Job) (x : State) → Stands spec last x → Jobs.job_of i id x ≡ Some j → j.is_written ≡ false → can_write x.world.cluster j.message.session j.message.id ≡ false
+      → Stands spec last (Jobs.end_job j x)
+  unwritten_there i id j x s is unwritten can =
+      let h = job_there i id j x s is in
+      ended_there j x s h (write_dead x.world.cluster (kept_there x s) x.world.participants x.world.jobs j h unwritten can)
+
   keeps_written : (v : Voice) (o : Option Job) (i : InstanceId) (id : MsgId) (x : State) → Stands spec last x → Jobs.job_of i id x ≡ o → Keeps (Stands spec last) (Jobs.write_job v o x)
   keeps_written v None i id x s is = keeps_note spec valid last v _ x s
   keeps_written v (Some j) i id x s is =
-      let c = x.world.cluster in
-      let h : IsHeldJob x.world.cluster x.world.participants x.world.jobs j = each-find (IsHeldJob x.world.cluster x.world.participants x.world.jobs) (Jobs.is_job i id) x.world.jobs j s.in_step.parts.held is in
-      let e : Event = events.Write j.message.session j.message.id j.outcome in
-      let y = happened e x in
       choice (Stands spec last) j.is_written _ _ (λ written. keeps_note spec valid last v _ x s)
       (λ unwritten. choice (Stands spec last) (can_write x.world.cluster j.message.session j.message.id) _ _
-      (λ can. makes_then (Stands spec last) e x (λ z. done (Jobs.with_written j.instance j.message.id z)) (record {
-        left = record {
-          scripted = jobs_there spec last y.world (map (Jobs.as_written_job j.instance j.message.id) y.world.jobs)
-              (scripted_other spec last last x.world e y.world.weight s.scripted can tt (write-line x.world.cluster j.message.session j.message.id j.outcome ∙ s.scripted.line) (λ k. refl));
-          in_step = record {
-            parts = write_in_step x.world.cluster x.world.participants x.world.jobs x.world.bag (kept_there x s) s.in_step.parts j h
-                (h.taken (write_live x.world.cluster j.message.session j.message.id can)) (first i id j x is);
-            participants = s.in_step.participants;
-            weight = no_weight x.world.weight x.world.limit s.in_step.weight;
-          };
-        };
-      }))
-      (λ can. keeps_note spec valid last v notes.SessionEnded (Jobs.end_job j x)
-      (ended_there j x s h (write_dead x.world.cluster (kept_there x s) x.world.participants x.world.jobs j h unwritten can))))
-    where
-      first : (i : InstanceId) (id : MsgId) (j : Job) (x : State) → find (Jobs.is_job i id) x.world.jobs ≡ Some j → find (Jobs.is_job j.instance j.message.id) x.world.jobs ≡ Some j
-      first i id j x found =
-          let p = find-passes (Jobs.is_job i id) x.world.jobs j found in
-          let at : j.instance ≡ i = instance_same j.instance i (and-first (j.instance.0 == i.0) (j.message.id.0 == id.0) p) in
-          let number : j.message.id.0 ≡ id.0 = (let q = and-second (j.instance.0 == i.0) (j.message.id.0 == id.0) p in grind (arith, nat_tests, q)) in
-          subst (λ (n : InstanceId). find (Jobs.is_job n j.message.id) x.world.jobs ≡ Some j) (sym at)
-          (subst (λ (n : ℕ). find (Jobs.is_job i (record { 0 = n })) x.world.jobs ≡ Some j) (sym number) found)
+      (λ can. makes_then (Stands spec last) (events.Write j.message.session j.message.id j.outcome) x (λ z. done (Jobs.with_written j.instance j.message.id z)) (record { left = wrote_there i id j x s is can }))
+      (λ can. keeps_note spec valid last v notes.SessionEnded (Jobs.end_job j x) (unwritten_there i id j x s is unwritten can)))
 
   -- acknowledgements
+  pub acked_there : (i : InstanceId) (id : MsgId) (j : Job) (x : State) → Stands spec last x → Jobs.job_of i id x ≡ Some j → j.is_written ≡ true → can_ack x.world.cluster j.message.session j.message.id ≡ true
+      → Stands spec last (Jobs.end_job j (happened (events.Ack j.message.session j.message.id) x))
+  acked_there i id j x s is written can =
+      let e : Event = events.Ack j.message.session j.message.id in
+      let h = job_there i id j x s is in
+      record {
+        scripted = job_ended spec last j (happened e x) (scripted_other spec last last x.world e (happened e x).world.weight s.scripted can tt s.scripted.line (λ k. refl));
+        in_step = record {
+          parts = ack_in_step x.world.cluster x.world.participants x.world.jobs x.world.bag (kept_there x s) s.in_step.parts j h written (ack_live x.world.cluster j.message.session j.message.id can);
+          participants = length-put x.world.participants j.instance.0 (finish (participant_of x.world j.instance) j.message (Some j.outcome) j.handler) ∙ s.in_step.participants;
+          weight = no_weight x.world.weight x.world.limit s.in_step.weight;
+        };
+      }
+
+  pub unacked_there : (i : InstanceId) (id : MsgId) (j : Job) (x : State) → Stands spec last x → Jobs.job_of i id x ≡ Some j → j.is_written ≡ true → can_ack x.world.cluster j.message.session j.message.id ≡ false
+      → Stands spec last (Jobs.end_job j x)
+  unacked_there i id j x s is written can =
+      let h = job_there i id j x s is in
+      ended_there j x s h (ack_dead x.world.cluster (kept_there x s) x.world.participants x.world.jobs j h written can)
+
   keeps_acked : (v : Voice) (o : Option Job) (i : InstanceId) (id : MsgId) (x : State) → Stands spec last x → Jobs.job_of i id x ≡ o → Keeps (Stands spec last) (Jobs.ack_job v o x)
   keeps_acked v None i id x s is = keeps_note spec valid last v _ x s
   keeps_acked v (Some j) i id x s is =
-      let h : IsHeldJob x.world.cluster x.world.participants x.world.jobs j = each-find (IsHeldJob x.world.cluster x.world.participants x.world.jobs) (Jobs.is_job i id) x.world.jobs j s.in_step.parts.held is in
-      let e : Event = events.Ack j.message.session j.message.id in
       choice (Stands spec last) (not j.is_written) _ _ (λ unwritten. keeps_note spec valid last v _ x s)
       (λ not_not. let written : j.is_written ≡ true = grind (arith, not_not) in choice (Stands spec last) (can_ack x.world.cluster j.message.session j.message.id) _ _
-      (λ can. makes_then (Stands spec last) e x (λ z. done (Jobs.end_job j z)) (record {
-        left = record {
-          scripted = job_ended spec last j (happened e x) (scripted_other spec last last x.world e (happened e x).world.weight s.scripted can tt s.scripted.line (λ k. refl));
-          in_step = record {
-            parts = ack_in_step x.world.cluster x.world.participants x.world.jobs x.world.bag (kept_there x s) s.in_step.parts j h written (ack_live x.world.cluster j.message.session j.message.id can);
-            participants = length-put x.world.participants j.instance.0 (finish (participant_of x.world j.instance) j.message (Some j.outcome) j.handler) ∙ s.in_step.participants;
-            weight = no_weight x.world.weight x.world.limit s.in_step.weight;
-          };
-        };
-      }))
-      (λ can. keeps_note spec valid last v notes.SessionEnded (Jobs.end_job j x)
-      (ended_there j x s h (ack_dead x.world.cluster (kept_there x s) x.world.participants x.world.jobs j h written can))))
+      (λ can. makes_then (Stands spec last) (events.Ack j.message.session j.message.id) x (λ z. done (Jobs.end_job j z)) (record { left = acked_there i id j x s is written can }))
+      (λ can. keeps_note spec valid last v notes.SessionEnded (Jobs.end_job j x) (unacked_there i id j x s is written can)))
 
   pub keeps_write : (v : Voice) (i : InstanceId) (id : MsgId) (x : State) → Stands spec last x → Keeps (Stands spec last) (Jobs.do_write v i id x)
   keeps_write v i id x s = keeps_written v _ i id x s refl

@@ -149,6 +149,10 @@ module _ (spec : Spec) (valid : IsValid spec) (last : Option ℕ) where
           let own = (st.in_step.parts.each i).own s mine e in
           absurd (let z : true ≡ false = sym (same_session_is (participant_of x.world i).session (session_of x.world.cluster i) s mine own) ∙ other in (cc))
 
+  pub adopted_own : (i : InstanceId) (x : State) → Ranges.has_instance spec i ≡ true → Stands spec last x → Jobs.same_session (participant_of x.world i).session (session_of x.world.cluster i) ≡ false
+      → Stands spec last (Jobs.adopt_in i (session_of x.world.cluster i) x)
+  adopted_own i x there s other = adopted_now i (session_of x.world.cluster i) x there s (left_dead i x s other) (λ u e. e)
+
   record IsTaken (x : State) (ms : List Message) : Type 0 where
     pub stands : Stands spec last x
     pub ready : AreReady x ms
@@ -193,6 +197,11 @@ module _ (spec : Spec) (valid : IsValid spec) (last : Option ℕ) where
       let y = happened (events.Fetch i (session_of c i) (length (messages_for c (session_of c i)))) x in
       mail_taken (Jobs.same_session (participant_of y.world i).session (session_of c i)) i (fetched x.world.cluster i) y there refl refl (fetch_happens i x there s room) (mail_fetched i x s) (mail_found c (kept_now x s) (session_of c i))
 
+  pub fetched_there : (i : InstanceId) (x : State) → Ranges.has_instance spec i ≡ true → Stands spec last x
+      → x.world.weight + weight_of (events.Fetch i (session_of x.world.cluster i) (length (messages_for x.world.cluster (session_of x.world.cluster i)))) ≤ x.world.limit
+      → Stands spec last (Jobs.fetched_as i (fetched x.world.cluster i) (happened (events.Fetch i (session_of x.world.cluster i) (length (messages_for x.world.cluster (session_of x.world.cluster i)))) x))
+  fetched_there i x there s room = (fetched_now i x there s room).stands
+
   fetched_then : (i : InstanceId) (x : State) (g : State → Deed) → Ranges.has_instance spec i ≡ true → Stands spec last x
       → ((y : State) → IsTaken y (fetched x.world.cluster i).messages → list_all (is_fetched spec y.world.history) (fetched x.world.cluster i).messages ≡ true → Keeps (Stands spec last) (g y))
       → Keeps (Stands spec last) (and_then (Jobs.fetch_mail i (fetched x.world.cluster i) x) g)
@@ -228,6 +237,12 @@ module _ (spec : Spec) (valid : IsValid spec) (last : Option ℕ) where
   delivered v i m (Some f) x e s is its there = keeps_note spec valid last v _ x s
   delivered v i m None x e s is its there =
       keeps_loud spec valid last v 1 _ (with_participant i (accept (participant_of x.world i) m) x) (accepted_now i m x s is e its there)
+
+  pub accepted_from_bag : (i : InstanceId) (id : MsgId) (m : Message) (x : State) → Stands spec last x → Jobs.in_bag id x ≡ Some m → deliver_fault (participant_of x.world i) m ≡ None
+      → Stands spec last (with_participant i (accept (participant_of x.world i) m) x)
+  accepted_from_bag i id m x s is none =
+      accepted_now i m x s (all-find (is_fetched spec x.world.history) (λ m. m.id.0 == id.0) x.world.bag m s.scripted.of.bag is) none
+      (each-find (IsInBag x.world.cluster x.world.participants) (λ m. m.id.0 == id.0) x.world.bag m s.in_step.parts.bagged is) (find-any (λ m. m.id.0 == id.0) (is_same m) x.world.bag m is (same_self m))
 
   pub from_bag : (v : Voice) (i : InstanceId) (id : MsgId) (o : Option Message) (x : State) → Stands spec last x → Jobs.in_bag id x ≡ o → Keeps (Stands spec last) (Jobs.deliver_from_bag v i o x)
   from_bag v i id None x s is = keeps_note spec valid last v _ x s
@@ -336,17 +351,21 @@ module _ (spec : Spec) (valid : IsValid spec) (last : Option ℕ) where
           absurd (after_end x.world.cluster i (whole_there spec last x.world valid st.scripted).seated.instances (live_of x.world.cluster.live i) refl s
           (subst (λ (c : Cluster). session_of c i ≡ Some s) same own) (subst (λ (c : Cluster). is_live c.live s ≡ true) same e))
 
+  pub died_there : (i : InstanceId) (x : State) → Ranges.has_instance spec i ≡ true → refusal_of x.world.cluster (steps.End i) ≡ None → is_in_range x.world.cluster (steps.End i) ≡ true → Stands spec last x
+      → x.world.weight + weight_of (events.Admin (steps.End i) dids.Done) ≤ x.world.limit → Stands spec last (Jobs.adopt_in i None (happened (events.Admin (steps.End i) dids.Done) x))
+  died_there i x there is well s room =
+      let e : Event = events.Admin (steps.End i) dids.Done in
+      let now = step_happens (steps.End i) x well is s room in
+      adopted_now i None (happened e x) there now (end_dead i x s (happened e x) refl now) (λ u none. absurd (never u none))
+    where
+      never : (u : SessionId) → ◌≡◌ {A = Option SessionId} None (Some u) → ⊥
+      never u e = (cc)
+
   pub died : (v : Voice) (i : InstanceId) (f : Option StepFault) (x : State) → Ranges.has_instance spec i ≡ true → refusal_of x.world.cluster (steps.End i) ≡ f → is_in_range x.world.cluster (steps.End i) ≡ true → Stands spec last x
       → Keeps (Stands spec last) (Scripts.died v i f x)
   died v i (Some f) x there is well s = keeps_note spec valid last v _ x s
   died v i None x there is well s =
-      let e : Event = events.Admin (steps.End i) dids.Done in
-      happens_then (Stands spec last) e x (λ y. done (Jobs.adopt_in i None y)) s
-      (λ room. let now = step_happens (steps.End i) x well is s room in
-      record { left = adopted_now i None (happened e x) there now (end_dead i x s (happened e x) refl now) (λ u none. absurd (never u none)) })
-    where
-      never : (u : SessionId) → ◌≡◌ {A = Option SessionId} None (Some u) → ⊥
-      never u e = (cc)
+      happens_then (Stands spec last) (events.Admin (steps.End i) dids.Done) x (λ y. done (Jobs.adopt_in i None y)) s (λ room. record { left = died_there i x there is well s room })
 
   pub view_done : (x : State) → Stands spec last x → Keeps (Stands spec last) (Scripts.do_view x)
   view_done x s =

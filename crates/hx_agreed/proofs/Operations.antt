@@ -1,5 +1,5 @@
 -- What each operation on a world keeps, and what the calls of an operation need of a world that stands.
-use Rattle.std.proofs.Common.{◌≡◌, ℕ, zero, suc, ◌+◌, ◌≤◌, ◌<◌, ◌==◌, not, Bool, true, false, List, [], ◌∷◌, ◌++◌, filter, find, length, Option, Some, refl, sym, ap, ◌∙◌, subst, arith}
+use Rattle.std.proofs.Common.{◌≡◌, ℕ, zero, suc, ◌+◌, ◌≤◌, ◌<◌, ◌==◌, not, Bool, true, false, List, [], ◌∷◌, ◌++◌, filter, find, length, Option, Some, None, refl, sym, ap, ◌∙◌, subst, arith}
 use Rattle.std.specs.Prelude.{is_some, nat_lt, slice_get}
 use Rattle.std.specs.List.{list_any}
 use Rattle.std.proofs.lemmas.Bool.Decides.{nat_tests}
@@ -9,19 +9,21 @@ use Rattle.hx_ids.specs.declared.MsgId.{MsgId}
 use Rattle.hx_cluster.specs.declared.description.Spec.{Spec}
 use Rattle.hx_cluster.specs.declared.state.Message.{Message}
 use Rattle.hx_cluster.specs.declared.happenings.Admin.{Admin}
+use Rattle.hx_cluster.specs.declared.happenings.Admin.TheVariants as steps
+use Rattle.hx_cluster.specs.declared.happenings.Did.TheVariants as dids
 use Rattle.hx_cluster.specs.declared.happenings.Event.TheVariants as events
 use Rattle.hx_cluster.specs.Ends.{model_of}
-use Rattle.hx_cluster.specs.Steps.{has_instance, has_controller, is_in_range, refusal_of}
+use Rattle.hx_cluster.specs.Steps.{has_instance, has_controller, is_in_range, refusal_of, did_of, session_of}
 use Rattle.hx_cluster.specs.Reads.{fetched}
-use Rattle.hx_cluster.specs.Events.{is_later}
+use Rattle.hx_cluster.specs.Events.{is_later, can_take, can_write, can_ack}
 use Rattle.hx_cluster.specs.Weight.{weight_of}
 use Rattle.hx_cluster.specs.Valid.{IsValid}
 use Rattle.hx_print.specs.declared.Note.{Note}
 use Rattle.hx_replicas.specs.declared.slots.Work.TheVariants.{Out}
-use Rattle.hx_replicas.specs.Participants.{Fits, slot_of, any_out}
+use Rattle.hx_replicas.specs.Participants.{Fits, slot_of, any_out, deliver_fault, accept, accepted_by, made_ready, hand_out}
 use Rattle.hx_script.specs.Ranges as Ranges
 use Rattle.hx_control.specs.OfBoard.{IsPlanOf}
-use Rattle.hx_worlds.specs.World.{State, Job, participant_of, controller_of}
+use Rattle.hx_worlds.specs.World.{State, Job, Answers, participant_of, with_participant, controller_of}
 use Rattle.hx_worlds.specs.declared.Voice.{Voice}
 use Rattle.hx_worlds.specs.Runs.{happened, happen, say, note, say_if_loud}
 use Rattle.hx_worlds.specs.Jobs
@@ -31,14 +33,16 @@ use Rattle.hx_safe.proofs.Whole.{length-replicate}
 use Rattle.hx_scripted.specs.OfHistory.{IsOfItsHistory}
 use Rattle.hx_scripted.proofs.Standing.{ranged_there, fixed_there}
 use Rattle.hx_scripted.proofs.Keeping.{Keeps}
+use Rattle.hx_scripted.proofs.Taking.{accepted_fetched, participant_there}
 use Rattle.hx_agreed.specs.InStep.{Each, IsInBag, IsInStep}
 use Rattle.hx_agreed.proofs.Lending.{IsOutOf, lent_there, none_out, others_kept}
 use Rattle.hx_agreed.proofs.Leaving.{AreLentIn, instance_quiet, all_quiet}
+use Rattle.hx_agreed.proofs.Marks.{accepted_slot}
 use Rattle.hx_agreed.proofs.Going.{happens, each-find}
 use Rattle.hx_agreed.proofs.Fitting.{sound_message, like_all, part_model}
 use Rattle.hx_agreed.proofs.DoingTurns.{Stands, idle_there, keeps_line, keeps_note, keeps_loud, keeps_step}
-use Rattle.hx_agreed.proofs.Doing.{keeps_taken, keeps_write, keeps_ack}
-use Rattle.hx_agreed.proofs.DoingLines.{HasStood, line_happens, in_range_now, kept_now, fetch_happens, fetch_done, from_bag, stepped, died}
+use Rattle.hx_agreed.proofs.Doing.{took_there, stays_there, keeps_taken, wrote_there, unwritten_there, keeps_write, acked_there, unacked_there, keeps_ack}
+use Rattle.hx_agreed.proofs.DoingLines.{HasStood, line_happens, in_range_now, kept_now, adopted_own, fetch_happens, fetched_there, fetch_done, accepted_from_bag, from_bag, step_happens, stepped, died_there, died}
 
 -- a world of its history that is in step stands, at its last line
 pub stands_there : (spec : Spec) (x : State) → IsOfItsHistory spec x.world → IsInStep x.world → Stands spec x.world.cluster.line x
@@ -102,6 +106,29 @@ module _ (spec : Spec) (valid : IsValid spec) (last : Option ℕ) where
   pub deliver_keeps : (v : Voice) (i : InstanceId) (m : Message) (x : State) → Stands spec last x → find (λ n. n.id.0 == m.id.0) x.world.bag ≡ Some m → Keeps (Stands spec last) (Jobs.deliver v i m x)
   deliver_keeps v i m x s is = from_bag spec valid last v i m.id (Some m) x s is
 
+  -- within these: the session is adopted, and all of a fetch is done; a message is accepted; and a session died
+  pub adopt_stands : (i : InstanceId) (x : State) → Stands spec last x → has_instance x.world.cluster i ≡ true → Jobs.same_session (participant_of x.world i).session (session_of x.world.cluster i) ≡ false
+      → Stands spec last (Jobs.adopt_in i (session_of x.world.cluster i) x)
+  adopt_stands i x s there other = adopted_own spec valid last i x (ranged_instance i x s there) s other
+
+  pub fetched_stands : (i : InstanceId) (x : State) → Stands spec last x → has_instance x.world.cluster i ≡ true
+      → (let mail = fetched x.world.cluster i in
+      x.world.weight + weight_of (events.Fetch i mail.session (length mail.messages)) ≤ x.world.limit
+      → Stands spec last (Jobs.fetched_as i mail (happened (events.Fetch i mail.session (length mail.messages)) x)))
+  fetched_stands i x s there room = fetched_there spec valid last i x (ranged_instance i x s there) s room
+
+  pub accept_stands : (i : InstanceId) (m : Message) (x : State) → Stands spec last x → find (λ n. n.id.0 == m.id.0) x.world.bag ≡ Some m → deliver_fault (participant_of x.world i) m ≡ None
+      → Stands spec last (with_participant i (accept (participant_of x.world i) m) x)
+  accept_stands i m x s is none = accepted_from_bag spec valid last i m.id m x s is none
+
+  pub died_stands : (i : InstanceId) (x : State) → Stands spec last x → has_instance x.world.cluster i ≡ true → refusal_of x.world.cluster (steps.End i) ≡ None
+      → x.world.weight + weight_of (events.Admin (steps.End i) dids.Done) ≤ x.world.limit → Stands spec last (Jobs.adopt_in i None (happened (events.Admin (steps.End i) dids.Done) x))
+  died_stands i x s there none room = died_there spec valid last i x (ranged_instance i x s there) none there s room
+
+  pub step_stands : (step : Admin) (x : State) → Stands spec last x → is_in_range x.world.cluster step ≡ true → refusal_of x.world.cluster step ≡ None
+      → x.world.weight + weight_of (events.Admin step (did_of x.world.cluster step)) ≤ x.world.limit → Stands spec last (happened (events.Admin step (did_of x.world.cluster step)) x)
+  step_stands step x s well none room = step_happens spec valid last step x well none s room
+
   -- and are run
   pub take_keeps : (v : Voice) (i : InstanceId) (id : MsgId) (x : State) → Stands spec last x → Keeps (Stands spec last) (Jobs.do_take v i id x)
   take_keeps v i id x s = keeps_taken spec valid last v i id _ x s refl
@@ -111,6 +138,37 @@ module _ (spec : Spec) (valid : IsValid spec) (last : Option ℕ) where
 
   pub ack_keeps : (v : Voice) (i : InstanceId) (id : MsgId) (x : State) → Stands spec last x → Keeps (Stands spec last) (Jobs.do_ack v i id x)
   ack_keeps v i id x s = keeps_ack spec valid last v i id x s
+
+  -- within these: a message that was handed out is taken and run, or put back; and a job is written and acknowledged, or ends without
+  pub took_stands : (i : InstanceId) (id : MsgId) (m : Message) (failed : Bool) (handler : Option ℕ) (answers : Answers) (x : State) → Stands spec last x → accepted_by (participant_of x.world i) id ≡ Some m
+      → is_some handler ≡ is_some (made_ready (slot_of (participant_of x.world i) m.part) m failed).handler → can_take x.world.cluster m.session m.id ≡ true
+      → Stands spec last (Jobs.ran i m handler (happened (events.Take m.session m.id) (record { world = (with_participant i (hand_out (participant_of x.world i) m failed) x).world; answers = answers })))
+  took_stands i id m failed handler answers x s is held can =
+      took_there spec valid last i m failed handler answers x s (accepted_fetched spec x.world.history (participant_of x.world i) id m (participant_there spec last x.world i s.scripted) is)
+      (accepted_slot x.world.cluster x.world.bag x.world.jobs i (participant_of x.world i) id m (s.in_step.parts.each i) is) held can
+
+  pub put_back_stands : (i : InstanceId) (id : MsgId) (m : Message) (failed : Bool) (handler : Option ℕ) (answers : Answers) (x : State) → Stands spec last x → accepted_by (participant_of x.world i) id ≡ Some m
+      → can_take x.world.cluster m.session m.id ≡ false
+      → Stands spec last (Jobs.put_back i m handler (record { world = (with_participant i (hand_out (participant_of x.world i) m failed) x).world; answers = answers }))
+  put_back_stands i id m failed handler answers x s is can =
+      stays_there spec valid last i m failed handler answers x s (accepted_fetched spec x.world.history (participant_of x.world i) id m (participant_there spec last x.world i s.scripted) is)
+      (accepted_slot x.world.cluster x.world.bag x.world.jobs i (participant_of x.world i) id m (s.in_step.parts.each i) is) can
+
+  pub wrote_stands : (i : InstanceId) (id : MsgId) (j : Job) (x : State) → Stands spec last x → find (Jobs.is_job i id) x.world.jobs ≡ Some j → can_write x.world.cluster j.message.session j.message.id ≡ true
+      → Stands spec last (Jobs.with_written j.instance j.message.id (happened (events.Write j.message.session j.message.id j.outcome) x))
+  wrote_stands i id j x s is can = wrote_there spec valid last i id j x s is can
+
+  pub unwritten_stands : (i : InstanceId) (id : MsgId) (j : Job) (x : State) → Stands spec last x → find (Jobs.is_job i id) x.world.jobs ≡ Some j → j.is_written ≡ false
+      → can_write x.world.cluster j.message.session j.message.id ≡ false → Stands spec last (Jobs.end_job j x)
+  unwritten_stands i id j x s is unwritten can = unwritten_there spec valid last i id j x s is unwritten can
+
+  pub acked_stands : (i : InstanceId) (id : MsgId) (j : Job) (x : State) → Stands spec last x → find (Jobs.is_job i id) x.world.jobs ≡ Some j → j.is_written ≡ true
+      → can_ack x.world.cluster j.message.session j.message.id ≡ true → Stands spec last (Jobs.end_job j (happened (events.Ack j.message.session j.message.id) x))
+  acked_stands i id j x s is written can = acked_there spec valid last i id j x s is written can
+
+  pub unacked_stands : (i : InstanceId) (id : MsgId) (j : Job) (x : State) → Stands spec last x → find (Jobs.is_job i id) x.world.jobs ≡ Some j → j.is_written ≡ true
+      → can_ack x.world.cluster j.message.session j.message.id ≡ false → Stands spec last (Jobs.end_job j x)
+  unacked_stands i id j x s is written can = unacked_there spec valid last i id j x s is written can
 
   -- turns
   pub turn_keeps : (v : Voice) (k : ControllerId) (x : State) → Stands spec last x → Keeps (Stands spec last) (Turns.step v k x)
