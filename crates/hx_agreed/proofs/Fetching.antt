@@ -147,7 +147,7 @@ any-insert : {X : Type 0} (p : X → Bool) (before : X → X → Bool) (x : X) (
 any-insert p before x [] = refl
 any-insert p before x (y ∷ xs) = grind (arith, any-insert p before x xs)
 
-any-sort : {X : Type 0} (p : X → Bool) (before : X → X → Bool) (xs : List X) → list_any p (sort_by before xs) ≡ list_any p xs
+pub any-sort : {X : Type 0} (p : X → Bool) (before : X → X → Bool) (xs : List X) → list_any p (sort_by before xs) ≡ list_any p xs
 any-sort p before [] = refl
 any-sort p before (x ∷ xs) = grind (arith, any-insert p before x (sort_by before xs), any-sort p before xs)
 
