@@ -11,3 +11,5 @@ pub mod Emptying
 pub mod Delivering
 pub mod Running
 pub mod Resting
+pub mod Stepping
+pub mod Turning
