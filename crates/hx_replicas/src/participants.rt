@@ -148,7 +148,8 @@ impl<F: Factory> Participant<F> {
     pub fn accepted(&self) -> Result<Vec<Message>, AllocError>
         ensures { IfOk result (λ messages. messages.items ≡ accepted_all self.now.plain) }
     {
-        accepted_messages(*self.slots.allocator(), &self.slots)
+        let messages = accepted_messages(*self.slots.allocator(), &self.slots)?;
+        Ok(messages)
     }
 
     /// Makes room for so many deliveries.

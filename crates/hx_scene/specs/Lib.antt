@@ -1,0 +1,5 @@
+pub mod Scenes
+pub mod Doing
+pub mod Kept
+pub mod Telling
+pub mod Advances

@@ -1,0 +1,126 @@
+//! Open jobs: messages that were taken and run, and aren't done.
+
+ghost use Rattle.std.specs.Prelude.{◌≡◌, map, filter, IfOk};
+ghost use Rattle.hx_lists.specs.Lists.{sort_by};
+ghost use Rattle.hx_worlds.specs.Jobs.{is_job, is_job_of, job_before};
+ghost use Rattle.hx_scene.specs.Scenes.{plain_job, world_of};
+
+use crate::Scene;
+use hx_cluster::Outcome;
+use hx_handler::{Factory, Handler};
+use hx_ids::{InstanceId, MsgId, SessionId};
+use hx_replicas::{Participant, Ran};
+use std::alloc::AllocError;
+use std::marker::Model;
+
+/// A job that was run on an instance, and whether its outcome was written.
+pub struct OpenJob<H: Handler> {
+    pub(crate) instance: InstanceId,
+    pub(crate) ran: Ran<H>,
+    pub(crate) is_written: bool,
+}
+
+impl<H: Handler> Model for OpenJob<H> {
+    ghost use Rattle.hx_scene.specs.Scenes.{OpenState};
+
+    ghost Value = { OpenState };
+
+    ghost view = { λ a. record {
+      instance = a.instance;
+      ran = a.ran;
+      is_written = a.is_written;
+    } };
+}
+
+impl<H: Handler> OpenJob<H> {
+    pub(crate) fn id(&self) -> MsgId
+        ensures { result ≡ self.now.ran.message.id }
+    {
+        self.ran.message().id
+    }
+
+    pub(crate) fn session(&self) -> SessionId
+        ensures { result ≡ self.now.ran.message.session }
+    {
+        self.ran.message().session
+    }
+
+    pub(crate) fn outcome(&self) -> Outcome
+        ensures { result ≡ self.now.ran.outcome }
+    {
+        self.ran.outcome()
+    }
+
+    fn is(&self, instance: InstanceId, id: MsgId) -> bool
+        ensures { result ≡ is_job instance id (plain_job self.now) }
+    {
+        self.instance == instance && self.id() == id
+    }
+}
+
+/// Where the open job of an instance and a number is.
+pub(crate) fn place_of<H: Handler>(
+    jobs: &[OpenJob<H>],
+    instance: InstanceId,
+    id: MsgId,
+) -> Option<usize> {
+    jobs.iter().position(|job| job.is(instance, id))
+}
+
+/// Ends a job by its outcome, and gives its handler back.
+pub(crate) fn end_at<F: Factory>(
+    jobs: &mut Vec<OpenJob<F::H>>,
+    participants: &mut Vec<Participant<F>>,
+    place: usize,
+) {
+    let OpenJob {
+        instance,
+        ran,
+        is_written: _,
+    } = jobs.remove(place);
+    participants[instance.0 as usize].finish(ran.done());
+}
+
+/// Ends all open jobs.
+pub(crate) fn end_all<F: Factory>(
+    jobs: &mut Vec<OpenJob<F::H>>,
+    participants: &mut Vec<Participant<F>>,
+) {
+    while !jobs.is_empty() {
+        end_at(jobs, participants, 0);
+    }
+}
+
+impl<F: Factory> Scene<F> {
+    /// The numbers of an instance's open jobs, rising.
+    pub fn open_jobs(&self, instance: InstanceId) -> Result<Vec<MsgId>, AllocError>
+        ensures { IfOk result (λ numbers. numbers.items
+            ≡ map (λ j. j.message.id)
+            (sort_by job_before (filter (is_job_of instance) (world_of self.now).jobs))) }
+    {
+        let mut numbers: Vec<MsgId> = self
+            .jobs
+            .iter()
+            .filter(|job| job.instance == instance)
+            .map(|job| job.id())
+            .collect(self.alloc())?;
+        numbers.sort()?;
+        Ok(numbers)
+    }
+
+    /// Ends the open jobs of an instance that have these numbers, and gives its participant a
+    /// session. It takes no memory.
+    pub(crate) fn adopt(
+        &mut self,
+        instance: InstanceId,
+        session: Option<SessionId>,
+        open: &[MsgId],
+    ) {
+        for id in open {
+            if let Some(place) = place_of(&self.jobs, instance, *id) {
+                end_at(&mut self.jobs, &mut self.participants, place);
+            }
+        }
+        self.participants[instance.0 as usize].adopt(session);
+    }
+}

@@ -1,0 +1,80 @@
+//! How messages come to participants.
+
+ghost use Rattle.std.specs.Prelude.{◌≡◌, true, IfOk};
+ghost use Rattle.std.specs.List.{All};
+ghost use Rattle.hx_cluster.specs.Reads.{fetched};
+ghost use Rattle.hx_cluster.specs.Steps.{has_instance};
+ghost use Rattle.hx_worlds.specs.Jobs.{do_fetch, deliver as delivers, note_of};
+ghost use Rattle.hx_scene.specs.Doing.{DoesDeed};
+ghost use Rattle.hx_scene.specs.Scenes.{IsBagged};
+
+use crate::Scene;
+use crate::bag::put_all;
+use hx_board::RoomFault;
+use hx_cluster::Message;
+use hx_handler::Factory;
+use hx_ids::InstanceId;
+use hx_print::Note;
+use hx_replicas::DeliverFault;
+use hx_text::Page;
+use hx_worlds::Voice;
+
+fn note_of(fault: DeliverFault) -> Note
+    ensures { result ≡ note_of fault }
+{
+    match fault {
+        DeliverFault::OtherSession { mine } => Note::OtherSession { mine },
+        DeliverFault::Running { id } => Note::Running { id },
+        DeliverFault::Repeat { last } => Note::Repeat { last },
+        DeliverFault::WrongFrom { has } => Note::WrongFrom { has },
+    }
+}
+
+impl<F: Factory> Scene<F> {
+    /// Fetches an instance's messages, which go into the bag. Where its session is another one, the
+    /// participant adopts it.
+    pub fn fetch(
+        &mut self,
+        instance: InstanceId,
+        out: &mut Page,
+    ) -> Result<Vec<Message>, RoomFault>
+        requires { has_instance self.old.board.cluster instance ≡ true }
+        ensures does { DoesDeed (λ x. do_fetch instance x)
+            self.old out.old self.new out.new result }
+        ensures messages { IfOk result (λ messages.
+            messages.items ≡ (fetched self.old.board.cluster instance).messages) }
+        ensures bagged { IfOk result (λ messages. All (IsBagged self.new.bag) messages.items) }
+    {
+        let open = self.open_jobs(instance)?;
+        let mail = self.board.fetch(instance)?;
+        self.bag.reserve(mail.messages.len())?;
+        if self.participants[instance.0 as usize].session() != mail.session {
+            self.adopt(instance, mail.session, &open);
+        }
+        put_all(&mut self.bag, mail.messages.as_slice());
+        self.print_last(&self.no_roll(), out)?;
+        Ok(mail.messages.into_vec())
+    }
+
+    /// Delivers a message of the bag to an instance's participant, which accepts it or says why not.
+    pub fn deliver(
+        &mut self,
+        voice: Voice,
+        instance: InstanceId,
+        message: &Message,
+        out: &mut Page,
+    ) -> Result<(), RoomFault>
+        requires instance { has_instance self.old.board.cluster instance ≡ true }
+        requires bagged { IsBagged self.old.bag message.now }
+        ensures does { DoesDeed (λ x. delivers voice instance message.now x)
+            self.old out.old self.new out.new result }
+        ensures bag { self.new.bag ≡ self.old.bag }
+    {
+        let participant = &mut self.participants[instance.0 as usize];
+        participant.reserve(1)?;
+        match participant.deliver(message) {
+            Ok(()) => self.say_accept(voice, instance, message.id, out),
+            Err(fault) => self.note(voice, &note_of(fault), out),
+        }
+    }
+}

@@ -1,0 +1,55 @@
+//! How events are printed.
+
+ghost use Rattle.std.specs.Prelude.{◌≡◌, [], ◌∷◌, ◌++◌, List, IfOk};
+ghost use Rattle.hx_cluster.specs.declared.happenings.Event.{Event as Happening};
+ghost use Rattle.hx_text.specs.Texts.{Prints};
+ghost use Rattle.hx_print.specs.Texts.{event_text, names_of, roll_of};
+ghost use Rattle.hx_scene.specs.Advances.{no_roll};
+
+use crate::Scene;
+use hx_cluster::Resource;
+use hx_handler::Factory;
+use hx_lists::Seq;
+use hx_print::{Roll, print_event};
+use hx_text::Page;
+use std::alloc::{AllocError, Global};
+
+fn names_of(alloc: Global, resources: &[Resource]) -> Result<Vec<u32>, AllocError>
+    ensures { IfOk result (λ names. names.items ≡ names_of resources.now) }
+{
+    resources.iter().map(|r| r.name).collect(alloc)
+}
+
+impl<F: Factory> Scene<F> {
+    /// What the names in a step's or a dispatch's log lines need of the cluster.
+    pub(crate) fn roll(&self) -> Result<Roll, AllocError>
+        ensures { IfOk result (λ roll. roll ≡ roll_of self.now.board.cluster) }
+    {
+        Ok(Roll {
+            resources: Seq::from_vec(names_of(self.alloc(), self.board.resources())?),
+            live: Seq::from_vec(self.board.roster()?),
+        })
+    }
+
+    /// What the log lines of other events need: nothing.
+    pub(crate) fn no_roll(&self) -> Roll
+        ensures { result ≡ no_roll }
+    {
+        let alloc = self.alloc();
+        Roll {
+            resources: Seq::new(alloc),
+            live: Seq::new(alloc),
+        }
+    }
+
+    /// Prints the last event, with the roll before it.
+    pub(crate) fn print_last(&self, roll: &Roll, out: &mut Page) -> Result<(), AllocError>
+        ensures { (h : List Happening) (e : Happening) → self.now.board.history ≡ h ++ e ∷ []
+            → Prints (event_text self.now.spec roll.now e) out.old result out.new }
+    {
+        match self.board.history().entries.as_slice().last() {
+            Some(event) => print_event(event, roll, &self.spec, out),
+            None => Ok(()),
+        }
+    }
+}

@@ -1,0 +1,190 @@
+//! The parts of a world, and what stands in them.
+
+ghost use Rattle.std.specs.Prelude.{◌≡◌, true, [], IfOk};
+ghost use Rattle.hx_cluster.specs.Steps.{has_instance, has_controller};
+ghost use Rattle.hx_replicas.specs.Participants.{accepted_all};
+ghost use Rattle.hx_worlds.specs.World.{controller_of, participant_of};
+ghost use Rattle.hx_scene.specs.Scenes.{world_of};
+ghost use Rattle.hx_scene.specs.Kept.{IsScene};
+
+use crate::jobs::{OpenJob, end_all};
+use hx_board::Board;
+use hx_cluster::{Message, Spec};
+use hx_control::Controller;
+use hx_handler::Factory;
+use hx_hops::Hops;
+use hx_ids::{ControllerId, InstanceId};
+use hx_model::Model as StateModel;
+use hx_replicas::Participant;
+use std::alloc::{AllocError, Global};
+use std::marker::Model;
+
+/// A board with the controllers and participants that act on it. It can't be dropped: it has to be
+/// closed.
+pub struct Scene<F: Factory> {
+    pub(crate) spec: Spec,
+    pub(crate) hops: Vec<Hops>,
+    pub(crate) board: Board,
+    pub(crate) controllers: Vec<Controller>,
+    /// By instance.
+    pub(crate) participants: Vec<Participant<F>>,
+    pub(crate) jobs: Vec<OpenJob<F::H>>,
+    /// All messages ever fetched, each as it was fetched last.
+    pub(crate) bag: Vec<Message>,
+    /// At least as many as the makings that were tried of a part, and as the runs of a handler.
+    pub(crate) handed: u64,
+}
+
+impl<F: Factory> Model for Scene<F> {
+    ghost use Rattle.std.specs.Prelude.{◌≡◌};
+    ghost use Rattle.hx_scene.specs.Scenes.{SceneState};
+    ghost use Rattle.hx_scene.specs.Kept.{IsScene};
+
+    ghost Value = { SceneState };
+
+    ghost view = { λ a. record {
+      spec = a.spec;
+      board = a.board;
+      controllers = a.controllers.items;
+      staff = a.participants.items;
+      open = a.jobs.items;
+      bag = a.bag.items;
+      handed = a.handed;
+    } };
+
+    ghost invariant = { λ a.
+        IsScene (record {
+          spec = a.spec;
+          board = a.board;
+          controllers = a.controllers.items;
+          staff = a.participants.items;
+          open = a.jobs.items;
+          bag = a.bag.items;
+          handed = a.handed;
+        })
+        × (a.hops.items ≡ a.spec.models) };
+}
+
+/// The hops of models, in their order.
+fn hops_of(alloc: Global, models: &[StateModel]) -> Result<Vec<Hops>, AllocError>
+    ensures { IfOk result (λ hops. hops.items ≡ models.now) }
+{
+    let mut hops = Vec::with_capacity(alloc, models.len())?;
+    for model in models {
+        hops.push_reserved(Hops::build(alloc, model)?);
+    }
+    Ok(hops)
+}
+
+/// Ends participants that have no job out.
+fn close_all<F: Factory>(mut participants: Vec<Participant<F>>) {
+    while let Some(participant) = participants.pop() {
+        let _factory = participant.close();
+    }
+    participants.destroy_empty();
+}
+
+impl<F: Factory> Scene<F> {
+    /// A scene of its parts, in which nothing is open. For want of memory its participants are
+    /// closed.
+    pub fn from_parts(
+        alloc: Global,
+        spec: Spec,
+        board: Board,
+        controllers: Vec<Controller>,
+        participants: Vec<Participant<F>>,
+    ) -> Result<Scene<F>, AllocError>
+        requires { IsScene (record {
+          spec = spec;
+          board = board;
+          controllers = controllers.items;
+          staff = participants.items;
+          open = [];
+          bag = [];
+          handed = 0;
+        }) }
+        ensures { IfOk result (λ scene. scene ≡ record {
+          spec = spec;
+          board = board;
+          controllers = controllers.items;
+          staff = participants.items;
+          open = [];
+          bag = [];
+          handed = 0;
+        }) }
+    {
+        match hops_of(alloc, spec.models.as_slice()) {
+            Ok(hops) => Ok(Scene {
+                spec,
+                hops,
+                board,
+                controllers,
+                participants,
+                jobs: Vec::new(alloc),
+                bag: Vec::new(alloc),
+                handed: 0,
+            }),
+            Err(fault) => {
+                close_all(participants);
+                Err(fault)
+            }
+        }
+    }
+
+    /// Ends all that is open and closes the participants, and gives the board. It takes no memory.
+    pub fn close(self) -> Board
+        ensures { result ≡ self.board }
+    {
+        let Scene {
+            spec: _,
+            hops: _,
+            board,
+            controllers: _,
+            mut participants,
+            mut jobs,
+            bag: _,
+            handed: _,
+        } = self;
+        end_all(&mut jobs, &mut participants);
+        jobs.destroy_empty();
+        close_all(participants);
+        board
+    }
+
+    /// The allocator. It takes no memory.
+    pub fn alloc(&self) -> Global {
+        *self.bag.allocator()
+    }
+
+    /// The description. It takes no memory.
+    pub fn spec(&self) -> &Spec
+        ensures { result.now ≡ self.now.spec }
+    {
+        &self.spec
+    }
+
+    /// The board. It takes no memory.
+    pub fn board(&self) -> &Board
+        ensures board { result.now ≡ self.now.board }
+        ensures scene { IsScene self.now }
+    {
+        &self.board
+    }
+
+    /// A controller. It takes no memory.
+    pub fn controller(&self, controller: ControllerId) -> &Controller
+        requires { has_controller self.now.board.cluster controller ≡ true }
+        ensures { result.now ≡ controller_of (world_of self.now) controller }
+    {
+        &self.controllers[controller.0 as usize]
+    }
+
+    /// The accepted messages of an instance, by number.
+    pub fn accepted(&self, instance: InstanceId) -> Result<Vec<Message>, AllocError>
+        requires { has_instance self.now.board.cluster instance ≡ true }
+        ensures { IfOk result (λ messages.
+            messages.items ≡ accepted_all (participant_of (world_of self.now) instance)) }
+    {
+        self.participants[instance.0 as usize].accepted()
+    }
+}

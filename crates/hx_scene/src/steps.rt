@@ -1,0 +1,73 @@
+//! Lines that are taken, and steps of the cluster.
+
+ghost use Rattle.std.specs.Prelude.{◌≡◌, true, Some};
+ghost use Rattle.hx_cluster.specs.Steps.{has_instance, is_in_range};
+ghost use Rattle.hx_cluster.specs.Events.{is_later};
+ghost use Rattle.hx_board.specs.Board.{next_line_of};
+ghost use Rattle.hx_worlds.specs.Runs.{happen};
+ghost use Rattle.hx_worlds.specs.Scripts.{do_step, do_die};
+ghost use Rattle.hx_scene.specs.Doing.{DoesDeed};
+
+use crate::Scene;
+use hx_board::{BoardFault, RoomFault};
+use hx_cluster::{Admin, Event};
+use hx_handler::Factory;
+use hx_ids::InstanceId;
+use hx_print::Note;
+use hx_text::Page;
+use hx_worlds::Voice;
+
+impl<F: Factory> Scene<F> {
+    /// Takes the script's next line, which has this number.
+    pub fn take_line(&mut self, number: u32, out: &mut Page) -> Result<(), RoomFault>
+        requires next { next_line_of self.old.board ≡ Some number }
+        requires later { is_later self.old.board.cluster.line number ≡ true }
+        ensures { DoesDeed (λ x. happen (Event.Line number) x)
+            self.old out.old self.new out.new result }
+    {
+        self.board.next_line()?;
+        self.print_last(&self.no_roll(), out)?;
+        Ok(())
+    }
+
+    /// Makes a step, or notes why not.
+    pub fn step(&mut self, voice: Voice, step: &Admin, out: &mut Page) -> Result<(), RoomFault>
+        requires { is_in_range self.old.board.cluster step.now ≡ true }
+        ensures { DoesDeed (λ x. do_step voice step.now x) self.old out.old self.new out.new result }
+    {
+        let roll = self.roll()?;
+        match self.board.admin(step) {
+            Ok(_) => {
+                self.print_last(&roll, out)?;
+                Ok(())
+            }
+            Err(BoardFault::Step(fault)) => self.note(voice, &Note::Step(fault), out),
+            Err(BoardFault::HistoryFull { weight }) => Err(RoomFault::HistoryFull { weight }),
+            Err(BoardFault::OutOfMemory) => Err(RoomFault::OutOfMemory),
+        }
+    }
+
+    /// Ends an instance's session, and its participant with it, or notes why not.
+    pub fn die(
+        &mut self,
+        voice: Voice,
+        instance: InstanceId,
+        out: &mut Page,
+    ) -> Result<(), RoomFault>
+        requires { has_instance self.old.board.cluster instance ≡ true }
+        ensures { DoesDeed (λ x. do_die voice instance x) self.old out.old self.new out.new result }
+    {
+        let roll = self.roll()?;
+        let open = self.open_jobs(instance)?;
+        match self.board.admin(&Admin::End { instance }) {
+            Ok(_) => {
+                self.adopt(instance, None, &open);
+                self.print_last(&roll, out)?;
+                Ok(())
+            }
+            Err(BoardFault::Step(fault)) => self.note(voice, &Note::Step(fault), out),
+            Err(BoardFault::HistoryFull { weight }) => Err(RoomFault::HistoryFull { weight }),
+            Err(BoardFault::OutOfMemory) => Err(RoomFault::OutOfMemory),
+        }
+    }
+}

@@ -1,0 +1,254 @@
+//! What is said beside the log: notes, outcomes and views, each charged before it is printed.
+ghost use Rattle.std.specs.Prelude.{◌≡◌, ◌+◌, List, ℕ, length};
+ghost use Rattle.hx_cluster.specs.Reads.{live_shown};
+ghost use Rattle.hx_print.specs.Texts.{accept_text, sent_text, waiting_text, moved_text, settled_text};
+ghost use Rattle.hx_print.specs.Texts.{settle_text, failed_text, full_text, view_line, route_text};
+ghost use Rattle.hx_text.specs.Texts.{Prints};
+ghost use Rattle.hx_worlds.specs.Runs.{say, say_if_loud, note as noted};
+ghost use Rattle.hx_scene.specs.Doing.{DoesDeed};
+ghost use Rattle.hx_scene.specs.Telling.{IsCharged, text_of};
+
+use crate::Scene;
+use hx_board::RoomFault;
+use hx_cluster::Full;
+use hx_handler::Factory;
+use hx_ids::{ControllerId, InstanceId, MsgId, PartId, SessionId, StateId};
+use hx_print::{
+    Note, print_accept, print_failed, print_full, print_moved, print_note, print_route, print_seen,
+    print_sent, print_settle, print_settled, print_summary, print_waiting, resource_name,
+};
+use hx_text::Page;
+use hx_worlds::Voice;
+use std::alloc::AllocError;
+
+/// What happened in a history, in numbers.
+#[derive(Clone, Copy, Debug, PartialEq, Eq)]
+pub struct Summary {
+    /// Messages that were sent.
+    pub sent: u64,
+    /// Writes by their outcome.
+    pub ok: u64,
+    pub failed: u64,
+    /// Sessions that were opened, and that ended.
+    pub joined: u64,
+    pub ended: u64,
+}
+
+/// Prints what happened, in numbers.
+pub fn print_counts(summary: &Summary, out: &mut Page) -> Result<(), AllocError>
+    ensures { Prints (text_of summary.now) out.old result out.new }
+{
+    let Summary {
+        sent,
+        ok,
+        failed,
+        joined,
+        ended,
+    } = *summary;
+    print_summary(sent, ok, failed, joined, ended, out)
+}
+
+impl<F: Factory> Scene<F> {
+    /// Charges the board, where the history has room.
+    fn charge(&mut self, n: u64) -> Result<(), RoomFault>
+        ensures { IsCharged n self.old self.new result }
+    {
+        match self.board.charge(n) {
+            Ok(()) => Ok(()),
+            Err(full) => Err(RoomFault::HistoryFull {
+                weight: full.weight,
+            }),
+        }
+    }
+
+    /// Notes why a line, or a part of one, was not done.
+    pub fn note(&mut self, voice: Voice, note: &Note, out: &mut Page) -> Result<(), RoomFault>
+        ensures { DoesDeed (λ x. noted voice note.now x) self.old out.old self.new out.new result }
+    {
+        let Voice::Loud(line) = voice else {
+            return Ok(());
+        };
+        self.charge(1)?;
+        print_note(line, note, &self.spec, out)?;
+        Ok(())
+    }
+
+    /// Says that a participant accepted a message.
+    pub(crate) fn say_accept(
+        &mut self,
+        voice: Voice,
+        instance: InstanceId,
+        id: MsgId,
+        out: &mut Page,
+    ) -> Result<(), RoomFault>
+        ensures { DoesDeed (λ x. say_if_loud voice 1 (accept_text x.world.spec instance id) x)
+            self.old out.old self.new out.new result }
+    {
+        let Voice::Loud(_) = voice else {
+            return Ok(());
+        };
+        self.charge(1)?;
+        print_accept(instance, id, &self.spec, out)?;
+        Ok(())
+    }
+
+    /// Says that proposals were sent.
+    pub fn say_sent(
+        &mut self,
+        controller: ControllerId,
+        n: u32,
+        out: &mut Page,
+    ) -> Result<(), RoomFault>
+        ensures { DoesDeed (λ x. say 1 (sent_text controller n) x)
+            self.old out.old self.new out.new result }
+    {
+        self.charge(1)?;
+        print_sent(controller, n, out)?;
+        Ok(())
+    }
+
+    /// Says that a pass waits for pending messages.
+    pub fn say_waiting(
+        &mut self,
+        controller: ControllerId,
+        n: u32,
+        out: &mut Page,
+    ) -> Result<(), RoomFault>
+        ensures { DoesDeed (λ x. say 1 (waiting_text controller n) x)
+            self.old out.old self.new out.new result }
+    {
+        self.charge(1)?;
+        print_waiting(controller, n, out)?;
+        Ok(())
+    }
+
+    /// Says that the cluster changed under a pass.
+    pub fn say_moved(
+        &mut self,
+        controller: ControllerId,
+        from: u64,
+        to: u64,
+        out: &mut Page,
+    ) -> Result<(), RoomFault>
+        ensures { DoesDeed (λ x. say 1 (moved_text controller from to) x)
+            self.old out.old self.new out.new result }
+    {
+        self.charge(1)?;
+        print_moved(controller, from, to, out)?;
+        Ok(())
+    }
+
+    /// Says that a pass settled.
+    pub fn say_settled(
+        &mut self,
+        controller: ControllerId,
+        out: &mut Page,
+    ) -> Result<(), RoomFault>
+        ensures { DoesDeed (λ x. say 1 (settled_text controller) x)
+            self.old out.old self.new out.new result }
+    {
+        self.charge(1)?;
+        print_settled(controller, out)?;
+        Ok(())
+    }
+
+    /// Says that a settle took so many rounds.
+    pub fn say_settle(
+        &mut self,
+        controller: ControllerId,
+        n: u64,
+        out: &mut Page,
+    ) -> Result<(), RoomFault>
+        ensures { DoesDeed (λ x. say 1 (settle_text controller n) x)
+            self.old out.old self.new out.new result }
+    {
+        self.charge(1)?;
+        print_settle(controller, n, out)?;
+        Ok(())
+    }
+
+    /// Says that a replica is in ERROR, and nobody asked it to leave.
+    pub fn say_failed(
+        &mut self,
+        instance: InstanceId,
+        part: PartId,
+        out: &mut Page,
+    ) -> Result<(), RoomFault>
+        ensures { DoesDeed (λ x.
+            say 1 (failed_text x.world.spec x.world.cluster.resources instance part) x)
+            self.old out.old self.new out.new result }
+    {
+        self.charge(1)?;
+        let name = resource_name(&self.spec, self.board.resources(), part.resource);
+        print_failed(instance, name, part, &self.spec, out)?;
+        Ok(())
+    }
+
+    /// Says that a bound keeps a replica from a state.
+    pub fn say_full(
+        &mut self,
+        full: &Full,
+        shown: &[(SessionId, InstanceId)],
+        out: &mut Page,
+    ) -> Result<(), RoomFault>
+        requires { shown.now ≡ live_shown self.old.board.cluster }
+        ensures { DoesDeed (λ x. say (1 + length full.now.holders)
+            (full_text x.world.spec x.world.cluster.resources (live_shown x.world.cluster) full.now) x)
+            self.old out.old self.new out.new result }
+    {
+        self.charge(1 + full.holders.len() as u64)?;
+        let part = full.candidate.part;
+        let name = resource_name(&self.spec, self.board.resources(), part.resource);
+        print_full(full, name, shown, &self.spec, out)?;
+        Ok(())
+    }
+
+    /// Says who has a replica of a part.
+    pub fn say_view(
+        &mut self,
+        part: PartId,
+        holders: &[(InstanceId, StateId)],
+        out: &mut Page,
+    ) -> Result<(), RoomFault>
+        ensures { DoesDeed (λ x. say (1 + length holders.now)
+            (view_line x.world.spec x.world.cluster.resources part holders.now) x)
+            self.old out.old self.new out.new result }
+    {
+        self.charge(1 + holders.len() as u64)?;
+        let name = resource_name(&self.spec, self.board.resources(), part.resource);
+        print_seen(name, part, holders, &self.spec, out)?;
+        Ok(())
+    }
+
+    /// Says which instances are in a state of a part.
+    pub fn say_route(
+        &mut self,
+        part: PartId,
+        state: StateId,
+        instances: &[InstanceId],
+        out: &mut Page,
+    ) -> Result<(), RoomFault>
+        ensures { DoesDeed (λ x. say (1 + length instances.now)
+            (route_text x.world.spec x.world.cluster.resources part state instances.now) x)
+            self.old out.old self.new out.new result }
+    {
+        self.charge(1 + instances.len() as u64)?;
+        let name = resource_name(&self.spec, self.board.resources(), part.resource);
+        print_route(name, part, state, instances, &self.spec, out)?;
+        Ok(())
+    }
+
+    /// Says what happened so far, in numbers.
+    pub fn say_summary(
+        &mut self,
+        summary: &Summary,
+        out: &mut Page,
+    ) -> Result<(), RoomFault>
+        ensures { DoesDeed (λ x. say 1 (text_of summary.now) x)
+            self.old out.old self.new out.new result }
+    {
+        self.charge(1)?;
+        print_counts(summary, out)?;
+        Ok(())
+    }
+}

@@ -1,0 +1,67 @@
+//! The steps of controllers.
+
+ghost use Rattle.std.specs.Prelude.{◌≡◌, true, slice_set, IfOk};
+ghost use Rattle.hx_cluster.specs.Steps.{has_controller};
+ghost use Rattle.hx_control.specs.Controllers.{idle_controller};
+ghost use Rattle.hx_scene.specs.Advances.{advance as advances, IsRollFor};
+ghost use Rattle.hx_scene.specs.Doing.{Does};
+
+use crate::Scene;
+use hx_board::RoomFault;
+use hx_control::{ControlFault, PassOutcome, Stage};
+use hx_handler::Factory;
+use hx_ids::ControllerId;
+use hx_print::Roll;
+use hx_text::Page;
+use std::alloc::AllocError;
+
+impl<F: Factory> Scene<F> {
+    /// Gives a controller's turn up. It takes no memory.
+    pub fn restart(&mut self, controller: ControllerId)
+        requires { has_controller self.old.board.cluster controller ≡ true }
+        ensures { self.new ≡ record self.old {
+          controllers = slice_set self.old.controllers controller.0 (idle_controller controller);
+        } }
+    {
+        self.controllers[controller.0 as usize].restart();
+    }
+
+    /// What the log lines of a controller's next step need.
+    fn roll_for(&self, controller: ControllerId) -> Result<Roll, AllocError>
+        requires { has_controller self.now.board.cluster controller ≡ true }
+        ensures { IfOk result (λ roll. IsRollFor self.now controller roll) }
+    {
+        if self.controller(controller).stage() == Stage::Send {
+            self.roll()
+        } else {
+            Ok(self.no_roll())
+        }
+    }
+
+    /// Makes the next step of a controller's turn. It answers the outcome of a dispatch, or why the
+    /// step was refused.
+    pub fn advance(
+        &mut self,
+        controller: ControllerId,
+        out: &mut Page,
+    ) -> Result<Result<Option<PassOutcome>, ControlFault>, RoomFault>
+        requires { has_controller self.old.board.cluster controller ≡ true }
+        ensures { Does (λ x. advances controller x) (λ answer. answer)
+            self.old out.old self.new out.new result }
+    {
+        let roll = self.roll_for(controller)?;
+        let before = self.board.history().entries.len();
+        let turn = &mut self.controllers[controller.0 as usize];
+        match turn.step(&self.spec, &self.hops, &mut self.board) {
+            Ok(outcome) => {
+                if self.board.history().entries.len() > before {
+                    self.print_last(&roll, out)?;
+                }
+                Ok(Ok(outcome))
+            }
+            Err(ControlFault::HistoryFull { weight }) => Err(RoomFault::HistoryFull { weight }),
+            Err(ControlFault::OutOfMemory) => Err(RoomFault::OutOfMemory),
+            Err(fault) => Ok(Err(fault)),
+        }
+    }
+}

@@ -1,0 +1,15 @@
+//! The world in which a script is done, line by line.
+#![tactic(auto)]
+
+mod asked;
+mod lines;
+mod passes;
+mod reports;
+mod settles;
+mod summaries;
+mod views;
+mod work;
+mod world;
+
+pub use summaries::summary_of;
+pub use world::World;

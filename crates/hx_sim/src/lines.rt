@@ -1,0 +1,101 @@
+//! What a script line does.
+
+use crate::World;
+use hx_board::RoomFault;
+use hx_handler::Factory;
+use hx_ids::{ControllerId, InstanceId, MsgId};
+use hx_print::Note;
+use hx_script::{ReadKind, What};
+use hx_text::Page;
+use hx_worlds::Voice;
+
+impl<F: Factory> World<F> {
+    /// Does what a line asks for.
+    pub(crate) fn what(
+        &mut self,
+        voice: Voice,
+        what: &What,
+        out: &mut Page,
+    ) -> Result<(), RoomFault> {
+        match what {
+            What::Die(i) => self.scene.die(voice, *i, out),
+            What::Begin(k) => self.begin(voice, *k, out),
+            What::Read(k, kind) => self.read(voice, *k, *kind, out),
+            What::Send(k) => self.send(voice, *k, out),
+            What::Post(k) => self.post(voice, *k, out),
+            What::Pass(k) => {
+                self.pass(voice, *k, out)?;
+                Ok(())
+            }
+            What::Fetch(i) => {
+                self.scene.fetch(*i, out)?;
+                Ok(())
+            }
+            What::Deliver(i, id) => self.deliver(voice, *i, *id, out),
+            What::Take(i, id) => self.scene.take(voice, *i, *id, out),
+            What::Write(i, id) => self.scene.write(voice, *i, *id, out),
+            What::Ack(i, id) => self.scene.ack(voice, *i, *id, out),
+            What::Work(i) => self.work(*i, out),
+            What::Settle => self.settle_aloud(voice, out),
+            What::View => self.view(out),
+            What::Route { name, part, state } => self.route(voice, *name, *part, *state, out),
+            What::Summary => self.summary(out),
+            _ => self.asked_step(voice, what, out),
+        }
+    }
+
+    /// Makes the step that a line asks for, or notes that it names no resource.
+    fn asked_step(
+        &mut self,
+        voice: Voice,
+        what: &What,
+        out: &mut Page,
+    ) -> Result<(), RoomFault> {
+        match self.step_asked(what)? {
+            Some(step) => self.scene.step(voice, &step, out),
+            None => self.scene.note(voice, &Note::NoResource, out),
+        }
+    }
+
+    /// Delivers a message of the bag.
+    fn deliver(
+        &mut self,
+        voice: Voice,
+        instance: InstanceId,
+        id: MsgId,
+        out: &mut Page,
+    ) -> Result<(), RoomFault> {
+        match self.scene.fetched(id) {
+            Some(message) => self.scene.deliver(voice, instance, &message, out),
+            None => self.scene.note(voice, &Note::NoMessage, out),
+        }
+    }
+
+    /// Begins a controller's turn anew.
+    fn begin(
+        &mut self,
+        voice: Voice,
+        controller: ControllerId,
+        out: &mut Page,
+    ) -> Result<(), RoomFault> {
+        self.scene.restart(controller);
+        self.step(voice, controller, out)?;
+        Ok(())
+    }
+
+    /// Makes all reads of a kind.
+    fn read(
+        &mut self,
+        voice: Voice,
+        controller: ControllerId,
+        kind: ReadKind,
+        out: &mut Page,
+    ) -> Result<(), RoomFault> {
+        match kind {
+            ReadKind::Live => self.read_live(voice, controller, out),
+            ReadKind::Mail => self.read_mail(voice, controller, out),
+            ReadKind::States => self.read_states(voice, controller, out),
+            ReadKind::Ideals => self.read_ideals(voice, controller, out),
+        }
+    }
+}

@@ -1,0 +1,103 @@
+//! What is said of a step of a turn: its outcome, or why it was refused.
+
+use crate::World;
+use hx_board::RoomFault;
+use hx_cluster::{Entry, Finding};
+use hx_control::{ControlFault, PassOutcome};
+use hx_handler::Factory;
+use hx_ids::ControllerId;
+use hx_print::Note;
+use hx_text::Page;
+use hx_worlds::Voice;
+
+impl<F: Factory> World<F> {
+    fn say_entry(&mut self, entry: &Entry, out: &mut Page) -> Result<(), RoomFault> {
+        match &entry.finding {
+            Finding::Failed => {
+                let target = &entry.target;
+                self.scene.say_failed(target.instance, target.part, out)
+            }
+            Finding::Full(full) => {
+                let shown = self.scene.board().shown()?;
+                self.scene.say_full(full, &shown, out)
+            }
+            _ => Ok(()),
+        }
+    }
+
+    /// Says which replicas failed, and which a bound holds back.
+    pub(crate) fn say_entries(
+        &mut self,
+        entries: &[Entry],
+        out: &mut Page,
+    ) -> Result<(), RoomFault> {
+        for entry in entries {
+            self.say_entry(entry, out)?;
+        }
+        Ok(())
+    }
+
+    fn say_outcome(
+        &mut self,
+        controller: ControllerId,
+        outcome: &PassOutcome,
+        out: &mut Page,
+    ) -> Result<(), RoomFault> {
+        match outcome {
+            PassOutcome::Sent(n) => self.scene.say_sent(controller, *n, out),
+            PassOutcome::Waiting { pending } => self.scene.say_waiting(controller, *pending, out),
+            PassOutcome::Moved { from, to } => self.scene.say_moved(controller, *from, *to, out),
+            PassOutcome::Settled(report) => {
+                self.scene.say_settled(controller, out)?;
+                self.say_entries(report.entries.as_slice(), out)
+            }
+        }
+    }
+
+    fn tell_outcome(
+        &mut self,
+        voice: Voice,
+        controller: ControllerId,
+        outcome: &Option<PassOutcome>,
+        out: &mut Page,
+    ) -> Result<(), RoomFault> {
+        match (voice, outcome) {
+            (Voice::Loud(_), Some(outcome)) => self.say_outcome(controller, outcome, out),
+            _ => Ok(()),
+        }
+    }
+
+    fn note_fault(
+        &mut self,
+        voice: Voice,
+        fault: ControlFault,
+        out: &mut Page,
+    ) -> Result<(), RoomFault> {
+        match fault {
+            ControlFault::NotLeader { led_by } => {
+                self.scene.note(voice, &Note::NotLeader { led_by }, out)
+            }
+            ControlFault::Fenced { now } => self.scene.note(voice, &Note::Fenced { now }, out),
+            _ => Ok(()),
+        }
+    }
+
+    /// Makes a step of a turn, and says how it ended.
+    pub(crate) fn step(
+        &mut self,
+        voice: Voice,
+        controller: ControllerId,
+        out: &mut Page,
+    ) -> Result<Option<PassOutcome>, RoomFault> {
+        match self.scene.advance(controller, out)? {
+            Ok(outcome) => {
+                self.tell_outcome(voice, controller, &outcome, out)?;
+                Ok(outcome)
+            }
+            Err(fault) => {
+                self.note_fault(voice, fault, out)?;
+                Ok(None)
+            }
+        }
+    }
+}

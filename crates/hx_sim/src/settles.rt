@@ -1,0 +1,117 @@
+//! A settle: rounds of the leader's turn and of work, up to the one whose turn settled.
+
+use crate::World;
+use hx_board::RoomFault;
+use hx_cluster::{Report, Resource};
+use hx_control::PassOutcome;
+use hx_handler::Factory;
+use hx_ids::ControllerId;
+use hx_model::Model;
+use hx_print::Note;
+use hx_text::Page;
+use hx_worlds::{Settled, Voice};
+use std::alloc::AllocError;
+
+/// How many parts there are.
+fn all_parts(resources: &[Resource]) -> Option<u64> {
+    let mut parts: u64 = 0;
+    for resource in resources {
+        parts = parts.checked_add(u64::from(resource.ideal.parts()))?;
+    }
+    Some(parts)
+}
+
+/// The most states that a model has.
+fn most_states(models: &[Model]) -> u64 {
+    let mut most = 0;
+    for model in models {
+        most = most.max(model.states().len() as u64);
+    }
+    most
+}
+
+/// How many rounds are enough for so many live sessions, parts and states.
+fn rounds_for(live: u64, parts: u64, states: u64) -> Option<u64> {
+    let replicas = live.checked_mul(parts)?;
+    let budget = replicas.checked_mul(2)?.checked_add(2)?;
+    let moves = replicas.checked_mul(states.checked_add(2)?)?.checked_add(2)?;
+    budget.checked_mul(moves)
+}
+
+impl<F: Factory> World<F> {
+    /// How many rounds are enough. More than a number of 64 bits are want of memory.
+    fn enough_rounds(&self) -> Result<u64, AllocError> {
+        let board = self.scene.board();
+        let live = board.roster()?.len() as u64;
+        let parts = all_parts(board.resources()).ok_or(AllocError)?;
+        let states = most_states(self.scene.spec().models.as_slice());
+        rounds_for(live, parts, states).ok_or(AllocError)
+    }
+
+    /// Makes a round: the rest of the leader's turn, then work, unless that turn settled.
+    fn round(
+        &mut self,
+        controller: ControllerId,
+        out: &mut Page,
+    ) -> Result<Option<Report>, RoomFault> {
+        if let Some(PassOutcome::Settled(report)) = self.pass(Voice::Quiet, controller, out)? {
+            return Ok(Some(report));
+        }
+        self.work_all(out)?;
+        Ok(None)
+    }
+
+    /// Makes rounds up to the one that settles, so many at most.
+    fn rounds(
+        &mut self,
+        controller: ControllerId,
+        most: u64,
+        out: &mut Page,
+    ) -> Result<Settled, RoomFault> {
+        for passes in 0..most {
+            if let Some(report) = self.round(controller, out)? {
+                return Ok(Settled {
+                    passes: passes + 1,
+                    report: Some(report),
+                });
+            }
+        }
+        Ok(Settled {
+            passes: most,
+            report: None,
+        })
+    }
+
+    /// Settles the cluster, if somebody leads.
+    pub(crate) fn settle_led(&mut self, out: &mut Page) -> Result<Option<Settled>, RoomFault> {
+        let Some(controller) = self.scene.board().leader() else {
+            return Ok(None);
+        };
+        let most = self.enough_rounds()?;
+        let settled = self.rounds(controller, most, out)?;
+        Ok(Some(settled))
+    }
+
+    fn say_settled(
+        &mut self,
+        controller: ControllerId,
+        settled: &Settled,
+        out: &mut Page,
+    ) -> Result<(), RoomFault> {
+        self.scene.say_settle(controller, settled.passes, out)?;
+        match &settled.report {
+            Some(report) => self.say_entries(report.entries.as_slice(), out),
+            None => Ok(()),
+        }
+    }
+
+    /// Settles the cluster, and says what came of it.
+    pub(crate) fn settle_aloud(&mut self, voice: Voice, out: &mut Page) -> Result<(), RoomFault> {
+        let leader = self.scene.board().leader();
+        let settled = self.settle_led(out)?;
+        match (leader, settled) {
+            (Some(controller), Some(settled)) => self.say_settled(controller, &settled, out),
+            _ => self.scene.note(voice, &Note::NoLeader, out),
+        }
+    }
+}

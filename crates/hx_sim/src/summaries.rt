@@ -1,0 +1,99 @@
+//! What happened, in numbers.
+
+use crate::World;
+use hx_board::RoomFault;
+use hx_cluster::{Admin, Did, Event, Outcome, Placed};
+use hx_handler::Factory;
+use hx_scene::Summary;
+use hx_text::Page;
+use std::alloc::AllocError;
+
+fn is_sent(placed: &Placed) -> bool {
+    matches!(placed, Placed::Sent(_))
+}
+
+/// How many messages an event sent.
+fn sent_in(event: &Event) -> u64 {
+    match event {
+        Event::Dispatch { answer, .. } => {
+            answer.placed.iter().filter(|placed| is_sent(placed)).count() as u64
+        }
+        _ => 0,
+    }
+}
+
+/// How many sessions it opened.
+fn joined_in(event: &Event) -> u64 {
+    match event {
+        Event::Admin(Admin::Join { .. }, _) => 1,
+        _ => 0,
+    }
+}
+
+/// How many sessions it ended.
+fn ended_in(event: &Event) -> u64 {
+    match event {
+        Event::Admin(Admin::End { .. }, _) => 1,
+        Event::Admin(_, Did::Ended(sessions)) => sessions.len() as u64,
+        _ => 0,
+    }
+}
+
+fn is_write(event: &Event, wanted: Outcome) -> bool {
+    match event {
+        Event::Write(_, _, outcome) => *outcome == wanted,
+        _ => false,
+    }
+}
+
+/// How many messages a history's events sent.
+fn sent(events: &[Event]) -> Option<u64> {
+    let mut sum: u64 = 0;
+    for event in events {
+        sum = sum.checked_add(sent_in(event))?;
+    }
+    Some(sum)
+}
+
+/// How many sessions they opened.
+fn joined(events: &[Event]) -> Option<u64> {
+    let mut sum: u64 = 0;
+    for event in events {
+        sum = sum.checked_add(joined_in(event))?;
+    }
+    Some(sum)
+}
+
+/// How many sessions they ended.
+fn ended(events: &[Event]) -> Option<u64> {
+    let mut sum: u64 = 0;
+    for event in events {
+        sum = sum.checked_add(ended_in(event))?;
+    }
+    Some(sum)
+}
+
+/// How many writes had an outcome.
+fn written(events: &[Event], outcome: Outcome) -> u64 {
+    events.iter().filter(|event| is_write(event, outcome)).count() as u64
+}
+
+/// What happened in a history. A number past 64 bits is want of memory.
+pub fn summary_of(events: &[Event]) -> Result<Summary, AllocError> {
+    Ok(Summary {
+        sent: sent(events).ok_or(AllocError)?,
+        ok: written(events, Outcome::Ok),
+        failed: written(events, Outcome::Failed),
+        joined: joined(events).ok_or(AllocError)?,
+        ended: ended(events).ok_or(AllocError)?,
+    })
+}
+
+impl<F: Factory> World<F> {
+    /// Prints what happened so far, in numbers.
+    pub(crate) fn summary(&mut self, out: &mut Page) -> Result<(), RoomFault> {
+        let events = self.scene.board().history().entries.as_slice();
+        let summary = summary_of(events)?;
+        self.scene.say_summary(&summary, out)
+    }
+}

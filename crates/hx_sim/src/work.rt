@@ -1,0 +1,99 @@
+//! What an instance does by itself: it fetches, and carries each message to its end.
+
+use crate::World;
+use hx_board::RoomFault;
+use hx_cluster::Message;
+use hx_handler::Factory;
+use hx_ids::{InstanceId, MsgId, SessionId};
+use hx_text::Page;
+use hx_worlds::Voice;
+
+impl<F: Factory> World<F> {
+    /// Carries an open job to its end.
+    fn carry(
+        &mut self,
+        instance: InstanceId,
+        id: MsgId,
+        out: &mut Page,
+    ) -> Result<(), RoomFault> {
+        self.scene.write(Voice::Quiet, instance, id, out)?;
+        self.scene.ack(Voice::Quiet, instance, id, out)
+    }
+
+    /// Carries all open jobs to their ends, in order.
+    fn carry_all(&mut self, instance: InstanceId, out: &mut Page) -> Result<(), RoomFault> {
+        let open = self.scene.open_jobs(instance)?;
+        for id in &open {
+            self.carry(instance, *id, out)?;
+        }
+        Ok(())
+    }
+
+    /// Delivers messages.
+    fn deliver_all(
+        &mut self,
+        instance: InstanceId,
+        messages: &[Message],
+        out: &mut Page,
+    ) -> Result<(), RoomFault> {
+        for message in messages {
+            self.scene.deliver(Voice::Quiet, instance, message, out)?;
+        }
+        Ok(())
+    }
+
+    /// Fetches, and delivers what was fetched.
+    fn fetch_and_deliver(
+        &mut self,
+        instance: InstanceId,
+        out: &mut Page,
+    ) -> Result<(), RoomFault> {
+        let messages = self.scene.fetch(instance, out)?;
+        self.deliver_all(instance, &messages, out)
+    }
+
+    /// Takes an accepted message and carries it to its end.
+    fn run(
+        &mut self,
+        instance: InstanceId,
+        message: &Message,
+        out: &mut Page,
+    ) -> Result<(), RoomFault> {
+        self.scene.take(Voice::Quiet, instance, message.id, out)?;
+        self.carry(instance, message.id, out)
+    }
+
+    /// Runs all accepted messages, in order.
+    fn run_accepted(&mut self, instance: InstanceId, out: &mut Page) -> Result<(), RoomFault> {
+        let accepted = self.scene.accepted(instance)?;
+        for message in &accepted {
+            self.run(instance, message, out)?;
+        }
+        Ok(())
+    }
+
+    /// Carries the open jobs of an instance to their ends, fetches, delivers what was fetched, and
+    /// carries each accepted message to its end.
+    pub(crate) fn work(&mut self, instance: InstanceId, out: &mut Page) -> Result<(), RoomFault> {
+        self.carry_all(instance, out)?;
+        self.fetch_and_deliver(instance, out)?;
+        self.run_accepted(instance, out)
+    }
+
+    fn work_each(
+        &mut self,
+        shown: &[(SessionId, InstanceId)],
+        out: &mut Page,
+    ) -> Result<(), RoomFault> {
+        for (_, instance) in shown {
+            self.work(*instance, out)?;
+        }
+        Ok(())
+    }
+
+    /// Has each live instance work, in order.
+    pub(crate) fn work_all(&mut self, out: &mut Page) -> Result<(), RoomFault> {
+        let shown = self.scene.board().shown()?;
+        self.work_each(&shown, out)
+    }
+}
