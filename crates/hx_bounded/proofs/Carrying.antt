@@ -192,11 +192,12 @@ any_marked i id k n (j ∷ js) = (λ x. marked_job i id k n j x || any_marked i 
 find_marked : (i : InstanceId) (id : MsgId) (k : InstanceId) (n : MsgId) (js : List Job)
     → find (Jobs.is_job i id) (map (Jobs.as_written_job k n) js) ≡ option_map (Jobs.as_written_job k n) (find (Jobs.is_job i id) js)
 find_marked i id k n [] = refl
-find_marked i id k n (j ∷ js) = one (Jobs.is_job i id j) refl
+find_marked i id k n (j ∷ js) = one (Jobs.is_job i id j) refl (find_marked i id k n js)
   where
-    one : (b : Bool) → Jobs.is_job i id j ≡ b → find (Jobs.is_job i id) (map (Jobs.as_written_job k n) (j ∷ js)) ≡ option_map (Jobs.as_written_job k n) (find (Jobs.is_job i id) (j ∷ js))
-    one true e = rw (marked_job i id k n j, e) refl
-    one false e = rw (marked_job i id k n j, e) (find_marked i id k n js)
+    one : (b : Bool) → Jobs.is_job i id j ≡ b → find (Jobs.is_job i id) (map (Jobs.as_written_job k n) js) ≡ option_map (Jobs.as_written_job k n) (find (Jobs.is_job i id) js)
+        → find (Jobs.is_job i id) (map (Jobs.as_written_job k n) (j ∷ js)) ≡ option_map (Jobs.as_written_job k n) (find (Jobs.is_job i id) (j ∷ js))
+    one true e rest = rw (marked_job i id k n j, e) refl
+    one false e rest = rw (marked_job i id k n j, e) rest
 
 -- a job that is found is that of its instance and number
 module _ (i : InstanceId) (id : MsgId) (js : List Job) (j : Job) (found : find (Jobs.is_job i id) js ≡ Some j) where

@@ -51,14 +51,11 @@ use Rattle.hx_bounded.proofs.Emptying.{IsJobless, AreSeen, has_its, any_filtered
 -- where no job is open, adopting ends none
 none_of_its : (i : InstanceId) (js : List Job) → ((id : MsgId) → list_any (Jobs.is_job i id) js ≡ false) → filter (Jobs.is_job_of i) js ≡ []
 none_of_its i [] e = refl
-none_of_its i (j ∷ js) e = one (Jobs.is_job_of i j) refl
+none_of_its i (j ∷ js) e = one (Jobs.is_job_of i j) refl (none_of_its i js (λ id. let all = e id in grind (arith, all)))
   where
-    rest : (id : MsgId) → list_any (Jobs.is_job i id) js ≡ false
-    rest id = let all = e id in grind (arith, all)
-
-    one : (b : Bool) → Jobs.is_job_of i j ≡ b → (if b then j ∷ filter (Jobs.is_job_of i) js else filter (Jobs.is_job_of i) js) ≡ []
-    one false is = none_of_its i js rest
-    one true is =
+    one : (b : Bool) → Jobs.is_job_of i j ≡ b → filter (Jobs.is_job_of i) js ≡ [] → (if b then j ∷ filter (Jobs.is_job_of i) js else filter (Jobs.is_job_of i) js) ≡ []
+    one false is none = none
+    one true is none =
         let here : Jobs.is_job i j.message.id j ≡ true = and-both (Jobs.is_job_of i j) (j.message.id.0 == j.message.id.0) is (same-self j.message.id.0) in
         absurd (let no : true ≡ false = sym (ap (λ (b : Bool). b || list_any (Jobs.is_job i j.message.id) js) here) ∙ e j.message.id in cc)
 
@@ -185,7 +182,7 @@ module _ (spec : Spec) (valid : IsValid spec) (last : Option ℕ) (P : Cluster �
       seen_now : (y : State) (here : IsDelivering [] y) (q : PartId) (m : Message) → message_of y.world.cluster.mail s q ≡ Some m
           → (false ≡ true) ⊎ (nat_le m.id.0 (slot_of (participant_of y.world i) q).last.0 ≡ true) → nat_le m.id.0 (slot_of (participant_of y.world i) q).last.0 ≡ true
       seen_now y here q m at (inr was) = was
-      seen_now y here q m at (inl no) = cc
+      seen_now y here q m at (inl never) = cc
 
   -- a fetch
   module _ (there : Ranges.has_instance spec i ≡ true) (x : State) (a : IsAtWork spec valid last P H closed live ks x) (none : IsJobless i x.world) where

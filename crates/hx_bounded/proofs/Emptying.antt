@@ -45,7 +45,7 @@ use Rattle.hx_bounded.proofs.Going.{goes_then, goes_so, goes_each}
 use Rattle.hx_bounded.proofs.Ends
 use Rattle.hx_bounded.proofs.Later.{IsLater, later_both, le_both, handed_later, handed_gone, finished_later, accepted_last, accepted_here, IsFrom}
 use Rattle.hx_bounded.proofs.Carrying.{IsClosed, IsWorking, IsCarried}
-use Rattle.hx_bounded.proofs.Working.{IsAtWork, kept_there, low_there, taken, IsGone, carry_ends}
+use Rattle.hx_bounded.proofs.Working.{IsAtWork, low_there, taken, IsGone, carry_ends}
 
 -- the messages of a session are done
 abbrev pub IsEmptyOf : Cluster → InstanceId → Type 0
@@ -77,16 +77,16 @@ same_number a b e = let same : a.0 ≡ b.0 = grind (arith, nat_tests, e) in ap (
 -- a slot that accepted a message is among the slots
 pub work_listed : (xs : List Slot) (q : PartId) (m : Message) → (slot_in xs q).work ≡ Accepted m → list_any (λ x. has_accepted m.id x.work) xs ≡ true
 work_listed [] q m e = absurd (let no : Idle ≡ Accepted m = e in cc)
-work_listed (x ∷ xs) q m e = one (part_eq x.part q) refl
+work_listed (x ∷ xs) q m e = one (part_eq x.part q) refl (λ f. work_listed xs q m f)
   where
-    one : (b : Bool) → part_eq x.part q ≡ b → (has_accepted m.id x.work || list_any (λ y. has_accepted m.id y.work) xs) ≡ true
-    one true is =
+    one : (b : Bool) → part_eq x.part q ≡ b → ((slot_in xs q).work ≡ Accepted m → list_any (λ y. has_accepted m.id y.work) xs ≡ true) → (has_accepted m.id x.work || list_any (λ y. has_accepted m.id y.work) xs) ≡ true
+    one true is rest =
         let here : (slot_in (x ∷ xs) q).work ≡ x.work = rw is refl in
         ap (λ (w : Work). has_accepted m.id w || list_any (λ y. has_accepted m.id y.work) xs) (sym here ∙ e)
         ∙ ap (λ (b : Bool). b || list_any (λ y. has_accepted m.id y.work) xs) (same-self m.id.0)
-    one false is =
+    one false is rest =
         let there : (slot_in (x ∷ xs) q).work ≡ (slot_in xs q).work = rw is refl in
-        or_true (has_accepted m.id x.work) (list_any (λ y. has_accepted m.id y.work) xs) (work_listed xs q m (sym there ∙ e))
+        or_true (has_accepted m.id x.work) (list_any (λ y. has_accepted m.id y.work) xs) (rest (sym there ∙ e))
       where
         or_true : (a b : Bool) → b ≡ true → (a || b) ≡ true
         or_true true b e = refl
@@ -95,20 +95,21 @@ work_listed (x ∷ xs) q m e = one (part_eq x.part q) refl
 -- what is accepted by number
 pub accepted_none : (xs : List Slot) (id : MsgId) → accepted_in (find (λ x. has_accepted id x.work) xs) ≡ None → list_any (λ x. has_accepted id x.work) xs ≡ false
 accepted_none [] id e = refl
-accepted_none (x ∷ xs) id e = one (has_accepted id x.work) refl e
+accepted_none (x ∷ xs) id e = one (has_accepted id x.work) refl e (λ f. accepted_none xs id f)
   where
     work_of : (w : Work) → has_accepted id w ≡ true → accepted_of w ≡ None → ⊥
     work_of Idle a b = cc
     work_of (Accepted m) a b = cc
     work_of (Out m is_held) a b = cc
 
-    one : (b : Bool) → has_accepted id x.work ≡ b → accepted_in (if b then Some x else find (λ y. has_accepted id y.work) xs) ≡ None → (b || list_any (λ y. has_accepted id y.work) xs) ≡ false
-    one true is e = absurd (work_of x.work is e)
-    one false is e = accepted_none xs id e
+    one : (b : Bool) → has_accepted id x.work ≡ b → accepted_in (if b then Some x else find (λ y. has_accepted id y.work) xs) ≡ None
+        → (accepted_in (find (λ y. has_accepted id y.work) xs) ≡ None → list_any (λ y. has_accepted id y.work) xs ≡ false) → (b || list_any (λ y. has_accepted id y.work) xs) ≡ false
+    one true is e rest = absurd (work_of x.work is e)
+    one false is e rest = rest e
 
 pub accepted_number : (xs : List Slot) (id : MsgId) (m : Message) → accepted_in (find (λ x. has_accepted id x.work) xs) ≡ Some m → m.id ≡ id
 accepted_number [] id m e = cc
-accepted_number (x ∷ xs) id m e = one (has_accepted id x.work) refl e
+accepted_number (x ∷ xs) id m e = one (has_accepted id x.work) refl e (λ f. accepted_number xs id m f)
   where
     some_is : (a b : Message) → Some a ≡ Some b → a ≡ b
     some_is a b e = cc
@@ -118,23 +119,25 @@ accepted_number (x ∷ xs) id m e = one (has_accepted id x.work) refl e
     work_of (Accepted n) a b = ap (λ (x : Message). x.id) (sym (some_is n m b)) ∙ same_number n.id id a
     work_of (Out n is_held) a b = cc
 
-    one : (b : Bool) → has_accepted id x.work ≡ b → accepted_in (if b then Some x else find (λ y. has_accepted id y.work) xs) ≡ Some m → m.id ≡ id
-    one true is e = work_of x.work is e
-    one false is e = accepted_number xs id m e
+    one : (b : Bool) → has_accepted id x.work ≡ b → accepted_in (if b then Some x else find (λ y. has_accepted id y.work) xs) ≡ Some m
+        → (accepted_in (find (λ y. has_accepted id y.work) xs) ≡ Some m → m.id ≡ id) → m.id ≡ id
+    one true is e rest = work_of x.work is e
+    one false is e rest = rest e
 
 -- and all that is accepted is in the list that is run
 pub all_listed : (xs : List Slot) (id : MsgId) → list_any (λ x. has_accepted id x.work) xs ≡ true → has_its (filter_map (λ x. accepted_of x.work) xs) id ≡ true
 all_listed [] id e = cc
-all_listed (x ∷ xs) id e = one x.work refl e
+all_listed (x ∷ xs) id e = one x.work refl e (λ f. all_listed xs id f)
   where
-    one : (w : Work) → x.work ≡ w → (has_accepted id w || list_any (λ y. has_accepted id y.work) xs) ≡ true → has_its (filter_map (λ y. accepted_of y.work) (x ∷ xs)) id ≡ true
-    one Idle is e = rw is (all_listed xs id e)
-    one (Out m is_held) is e = rw is (all_listed xs id e)
-    one (Accepted m) is e = rw is (two (m.id.0 == id.0) e)
+    one : (w : Work) → x.work ≡ w → (has_accepted id w || list_any (λ y. has_accepted id y.work) xs) ≡ true
+        → (list_any (λ y. has_accepted id y.work) xs ≡ true → has_its (filter_map (λ y. accepted_of y.work) xs) id ≡ true) → has_its (filter_map (λ y. accepted_of y.work) (x ∷ xs)) id ≡ true
+    one Idle is e rest = rw is (rest e)
+    one (Out m is_held) is e rest = rw is (rest e)
+    one (Accepted m) is e rest = rw is (two (m.id.0 == id.0) e)
       where
         two : (b : Bool) → (b || list_any (λ y. has_accepted id y.work) xs) ≡ true → (b || has_its (filter_map (λ y. accepted_of y.work) xs) id) ≡ true
         two true e = refl
-        two false e = all_listed xs id e
+        two false e = rest e
 
 pub any_more : {X : Type 0} (p q : X → Bool) → ((x : X) → p x ≡ true → q x ≡ true) → (xs : List X) → list_any p xs ≡ true → list_any q xs ≡ true
 any_more p q h [] e = cc
@@ -181,7 +184,7 @@ module _ (spec : Spec) (valid : IsValid spec) (last : Option ℕ) (P : Cluster �
     never_out : (q : PartId) (m : Message) (is_held : Bool) → (slot_of (participant_of x.world i) q).work ≡ Out m is_held → ⊥
     never_out q m is_held is =
         let o : IsOutHere x.world.bag x.world.jobs i (participant_of x.world i).session q (slot_of (participant_of x.world i) q) m is_held = work_at q (Out m is_held) is in
-        let some = any_more (is_lent_as i m is_held) (Jobs.is_job i m.id) (λ j e. and-first (Jobs.is_job i m.id j) _ e) x.world.jobs o.job in
+        let some = any_more (is_lent_as i m is_held) (Jobs.is_job i m.id) (λ j e. grind (arith, e)) x.world.jobs o.job in
         absurd (let no : true ≡ false = sym some ∙ r.jobless m.id in cc)
 
     not_out : (q : PartId) → is_out (slot_of (participant_of x.world i) q).work ≡ false

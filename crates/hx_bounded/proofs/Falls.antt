@@ -1,21 +1,26 @@
 -- What is taken, written and acknowledged in a round lets it fall.
 use Rattle.std.proofs.Common.{◌≡◌, ℕ, ◌+◌, ◌<◌, ◌≤◌, ◌||◌, ◌&&◌, ◌==◌, not, Bool, true, false, List, [], ◌∷◌, map, filter, find, Option, Some, None, ◌⊎◌, inl, inr, refl, sym, ap, ◌∙◌, subst, arith}
-use Rattle.std.specs.Prelude.{if◌then◌else◌, is_none}
-use Rattle.std.specs.List.{list_any}
-use Rattle.std.specs.Option.{option_map}
+use Rattle.std.specs.Prelude.{if◌then◌else◌, is_none, unwrap_or}
+use Rattle.std.specs.List.{list_any, sum_by}
+use Rattle.std.specs.Option.{option_map, option_map_or}
 use Rattle.std.proofs.lemmas.Bool.Decides.{nat_tests}
 use Rattle.hx_lists.specs.Lists.{count}
 use Rattle.hx_ids.specs.declared.SessionId.{SessionId}
 use Rattle.hx_ids.specs.declared.MsgId.{MsgId}
 use Rattle.hx_ids.specs.declared.PartId.{PartId}
-use Rattle.hx_model.specs.Model.{error}
+use Rattle.hx_ids.specs.declared.StateId.{StateId}
+use Rattle.hx_ids.specs.declared.PassNo.{PassNo}
+use Rattle.hx_model.specs.declared.ModelParts.{ModelParts}
+use Rattle.hx_model.specs.Model.{error, dropped}
+use Rattle.hx_model.specs.Walks.{dist}
 use Rattle.hx_cluster.specs.declared.state.Message.{Message}
 use Rattle.hx_cluster.specs.declared.state.Cluster.{Cluster}
 use Rattle.hx_cluster.specs.declared.happenings.Outcome.{Outcome}
 use Rattle.hx_cluster.specs.declared.happenings.Outcome.TheVariants as outcomes
 use Rattle.hx_cluster.specs.declared.happenings.WriteRefusal.TheVariants as writes
 use Rattle.hx_cluster.specs.declared.happenings.AckFault.TheVariants as acks
-use Rattle.hx_cluster.specs.Ends.{part_eq, is_message, is_live, message_of}
+use Rattle.hx_cluster.specs.declared.happenings.Seen.{Seen}
+use Rattle.hx_cluster.specs.Ends.{part_eq, is_message, is_live, message_of, state_of, resource_at, model_of}
 use Rattle.hx_cluster.specs.Steps.{is_flag}
 use Rattle.hx_cluster.specs.Marks.{write_fault, ack_fault}
 use Rattle.hx_cluster.specs.Messages.{has_id, pending_of, as_taken, as_written, flags_after, written_of, after_take, after_write, after_ack}
@@ -23,16 +28,36 @@ use Rattle.hx_cluster.specs.Events.{can_write, can_ack}
 use Rattle.hx_cluster.specs.Safe.{IsSafe}
 use Rattle.hx_cluster.specs.Ranged.{IsRanged}
 use Rattle.hx_pass.specs.Left.{left_of}
+use Rattle.hx_pass.specs.Explained.{view_at}
 use Rattle.hx_safe.proofs.Counting.{and-both, find-passes, find-single}
 use Rattle.hx_safe.proofs.Ends.{same-self, part_eq-self, session_same, part_same, find-filter}
 use Rattle.hx_safe.proofs.Kept.{IsKept}
 use Rattle.hx_agreed.proofs.Marks.{marked, written_message, written_elsewhere, written_now}
-use Rattle.hx_settled.specs.Places.{tries_left, spent, is_spendable}
+use Rattle.hx_settled.specs.Places.{Place, places_of, left_at, tries_left, spent, is_spendable}
 use Rattle.hx_settled.specs.Ways.{IsOnItsWay}
+use Rattle.hx_settled.proofs.Goals.{goal_same}
+use Rattle.hx_settled.proofs.Placed.{left_all}
 use Rattle.hx_settled.proofs.Spending.{tries_spent}
 use Rattle.hx_settled.proofs.Falling.{stays_on, way_falls, ways_stay}
 use Rattle.hx_bounded.specs.Measure.{all_walks}
 use Rattle.hx_bounded.specs.Falling.{IsUnwritten, is_to_write, IsOnTheWay, IsFalling}
+
+-- what is left doesn't look at messages, passes and posts
+abbrev steps : ModelParts → Option StateId → StateId → ℕ
+steps m o g = if option_map_or (λ s. s.0 == g.0) o ((g.0 == m.initial.0) || (g.0 == dropped.0)) then 0 else dist m (unwrap_or o m.initial) g
+
+pub left_beside : (c : Cluster) (mail : List Message) (next change : ℕ) (controllers : List (Bool × PassNo)) (posted : List Seen)
+    → left_of (record c { mail = mail; next_msg = next; change = change; controllers = controllers; posted = posted }) ≡ left_of c
+left_beside c mail next change controllers posted = left_all d ∙ (λ i. sum_by (λ x. here x i) (places_of c)) ∙ sym (left_all c)
+  where
+    d : Cluster
+    d = record c { mail = mail; next_msg = next; change = change; controllers = controllers; posted = posted }
+
+    here : (x : Place) → left_at (record c { mail = mail; next_msg = next; change = change; controllers = controllers; posted = posted }) x ≡ left_at c x
+    here x i =
+        option_map_or (λ r. steps (model_of c.models c.resources x.part.resource) (state_of c.rows x.session x.part)
+        (goal_same c.models (view_at (record c { mail = mail; next_msg = next; change = change; controllers = controllers; posted = posted })) (view_at c) refl refl (λ s p. refl) r x.part x.session x.instance i))
+        (resource_at c.resources x.part.resource) 0
 
 -- a message that is marked is on its way as before
 way_marked : (d : Cluster) (m : Message) (taken written : Bool) → IsOnItsWay d m → IsOnItsWay d (record m { taken = taken; written = written })
@@ -107,9 +132,13 @@ take_falls w t l c s id f = record { size = f.size; resets = λ m u. resets m (b
         (way_marked (after_take c s id) b.before b.mark b.before.written
         (stays_on c (after_take c s id) b.before (record { models = refl; live = refl; ideals = refl; errors = λ u p. refl }) refl (way.ways b.before b.unwritten)))
 
-    fewer : (left_of c < l) ⊎ ((left_of c ≡ l) × (list_any is_to_write c.mail ≡ true)) → (left_of c < l) ⊎ ((left_of c ≡ l) × (list_any is_to_write (map (as_taken s id) c.mail) ≡ true))
-    fewer (inl few) = inl few
-    fewer (inr both) = inr (both.0, to_write_taken s id c.mail ∙ both.1)
+    same : left_of (after_take c s id) ≡ left_of c
+    same = left_beside c (map (as_taken s id) c.mail) c.next_msg (c.change + 1) c.controllers c.posted
+
+    fewer : (left_of c < l) ⊎ ((left_of c ≡ l) × (list_any is_to_write c.mail ≡ true))
+        → (left_of (after_take c s id) < l) ⊎ ((left_of (after_take c s id) ≡ l) × (list_any is_to_write (map (as_taken s id) c.mail) ≡ true))
+    fewer (inl few) = inl (subst (λ (n : ℕ). n < l) (sym same) few)
+    fewer (inr both) = inr (same ∙ both.0, to_write_taken s id c.mail ∙ both.1)
 
     falls : (tries_left c < t) ⊎ IsOnTheWay t l c → (tries_left (after_take c s id) < t) ⊎ IsOnTheWay t l (after_take c s id)
     falls (inl few) = inl few
@@ -189,7 +218,7 @@ other_flags s u p q ne (f ∷ flags) = one (is_flag s p f) refl (other_flags s u
     one false is rest = ap (λ (b : Bool). is_flag u q f || b) rest
 
 -- a transition from ERROR doesn't fail
-pub is_honest : Message → Outcome → Bool
+abbrev pub is_honest : Message → Outcome → Bool
 is_honest m outcomes.Ok = true
 is_honest m outcomes.Failed = not (m.from.0 == error.0)
 
@@ -301,42 +330,44 @@ few_left p s id (x ∷ ms) few = grind (arith, few, few_left p s id ms)
 to_write_left : (s : SessionId) (id : MsgId) (m : Message) → m.written ≡ true → (ms : List Message) → find (has_id s id) ms ≡ Some m → count (λ x. x.id.0 == id.0) ms ≤ 1
     → list_any is_to_write ms ≡ true → list_any is_to_write (filter (λ x. not (has_id s id x)) ms) ≡ true
 to_write_left s id m done [] at few some = cc
-to_write_left s id m done (x ∷ ms) at few some = one (has_id s id x) refl at
+to_write_left s id m done (x ∷ ms) at few some = one (has_id s id x) refl at (λ f g h. to_write_left s id m done ms f g h)
   where
     same : (a b : Message) → Some a ≡ Some b → a ≡ b
     same a b e = (cc)
 
-    one : (b : Bool) → has_id s id x ≡ b → (if b then Some x else find (has_id s id) ms) ≡ Some m → list_any is_to_write (if not b then x ∷ filter (λ x. not (has_id s id x)) ms else filter (λ x. not (has_id s id x)) ms) ≡ true
-    one true is at =
+    one : (b : Bool) → has_id s id x ≡ b → (if b then Some x else find (has_id s id) ms) ≡ Some m
+        → (find (has_id s id) ms ≡ Some m → count (λ x. x.id.0 == id.0) ms ≤ 1 → list_any is_to_write ms ≡ true → list_any is_to_write (filter (λ x. not (has_id s id x)) ms) ≡ true)
+        → list_any is_to_write (if not b then x ∷ filter (λ x. not (has_id s id x)) ms else filter (λ x. not (has_id s id x)) ms) ≡ true
+    one true is at again =
         let mark : x.written ≡ true = ap (λ (y : Message). y.written) (same x m at) ∙ done in
         let rest : list_any is_to_write ms ≡ true = grind (arith, some, mark) in
         let none : count (λ x. x.id.0 == id.0) ms ≤ 0 = grind (arith, few, is) in
         few_left is_to_write s id ms none ∙ rest
-    one false is at = two (is_to_write x) refl
+    one false is at again = two (is_to_write x) refl
       where
         two : (b : Bool) → is_to_write x ≡ b → (is_to_write x || list_any is_to_write (filter (λ x. not (has_id s id x)) ms)) ≡ true
         two true e = ap (λ (b : Bool). b || list_any is_to_write (filter (λ x. not (has_id s id x)) ms)) e
         two false e =
             let fewer : count (λ x. x.id.0 == id.0) ms ≤ 1 = grind (arith, few) in
             let rest : list_any is_to_write ms ≡ true = sym (ap (λ (b : Bool). b || list_any is_to_write ms) e) ∙ some in
-            ap (λ (b : Bool). b || list_any is_to_write (filter (λ x. not (has_id s id x)) ms)) e ∙ to_write_left s id m done ms at fewer rest
+            ap (λ (b : Bool). b || list_any is_to_write (filter (λ x. not (has_id s id x)) ms)) e ∙ again at fewer rest
 
 pub ack_falls : (w t l : ℕ) (c : Cluster) (s : SessionId) (id : MsgId) → IsKept c → can_ack c s id ≡ true → IsFalling w t l c → IsFalling w t l (after_ack c s id)
 ack_falls w t l c s id k can f = record { size = f.size; resets = λ m u. f.resets m (before m u); falls = falls f.falls }
   where
-    gone : IsDone c s id
-    gone = done_there c s id can
-
     before : (m : Message) → IsUnwritten (after_ack c s id) m → IsUnwritten c m
     before m u = record {
       pending = find-filter (is_message m.session m.part) (λ x. not (has_id s id x)) c.mail m (k.mail.single m.session m.part) u.pending;
       unwritten = u.unwritten;
     }
 
+    same : left_of (after_ack c s id) ≡ left_of c
+    same = left_beside c (filter (λ x. not (has_id s id x)) c.mail) c.next_msg (c.change + 1) c.controllers c.posted
+
     fewer : (left_of c < l) ⊎ ((left_of c ≡ l) × (list_any is_to_write c.mail ≡ true))
-        → (left_of c < l) ⊎ ((left_of c ≡ l) × (list_any is_to_write (filter (λ x. not (has_id s id x)) c.mail) ≡ true))
-    fewer (inl few) = inl few
-    fewer (inr both) = let g = done_there c s id can in inr (both.0, to_write_left s id g.message g.written c.mail g.pending (k.mail.numbers id) both.1)
+        → (left_of (after_ack c s id) < l) ⊎ ((left_of (after_ack c s id) ≡ l) × (list_any is_to_write (filter (λ x. not (has_id s id x)) c.mail) ≡ true))
+    fewer (inl few) = inl (subst (λ (n : ℕ). n < l) (sym same) few)
+    fewer (inr both) = let g = done_there c s id can in inr (same ∙ both.0, to_write_left s id g.message g.written c.mail g.pending (k.mail.numbers id) both.1)
 
     falls : (tries_left c < t) ⊎ IsOnTheWay t l c → (tries_left (after_ack c s id) < t) ⊎ IsOnTheWay t l (after_ack c s id)
     falls (inl few) = inl few

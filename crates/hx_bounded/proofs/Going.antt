@@ -75,3 +75,8 @@ fetched_or Q false e x f g is more = goes_after Q (Happens e ∷ [] ++ []) (g (f
 pub goes_fetched : {B : Type 0} (Q : B → State → Type 0) (e : Event) (x : State) (f : State → State) (g : State → Run B)
     → (x.world.weight + weight_of e ≤ x.world.limit → IfGoesOn Q (g (f (happened e x)))) → IfGoesOn Q (and_then (and_then (happen e x) (λ y. done (f y))) g)
 goes_fetched Q e x f g more = fetched_or Q (nat_lt x.world.limit (x.world.weight + weight_of e)) e x f g refl more
+
+-- two facts of one run
+pub goes_both : {A : Type 0} (P Q : A → State → Type 0) (r : Run A) → IfGoesOn P r → IfGoesOn Q r → IfGoesOn (λ answer x. P answer x × Q answer x) r
+goes_both P Q (GoesOn is x answer) f g = record { to = (f.to, g.to) }
+goes_both P Q (Stops is x) f g = record { to = tt }

@@ -13,3 +13,5 @@ pub mod Running
 pub mod Resting
 pub mod Stepping
 pub mod Turning
+pub mod Passing
+pub mod Settled

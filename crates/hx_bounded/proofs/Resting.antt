@@ -54,11 +54,11 @@ use Rattle.hx_bounded.proofs.Running.{worked}
 -- what is found
 found_any : {X : Type 0} (p : X → Bool) (xs : List X) → list_any p xs ≡ true → (x : X) × (find p xs ≡ Some x)
 found_any p [] e = cc
-found_any {X} p (x ∷ xs) e = one (p x) refl e
+found_any {X} p (x ∷ xs) e = one (p x) refl e (λ f. found_any p xs f)
   where
-    one : (b : Bool) → p x ≡ b → (b || list_any p xs) ≡ true → (y : X) × ((if b then Some x else find p xs) ≡ Some y)
-    one true is e = (x, refl)
-    one false is e = found_any p xs e
+    one : (b : Bool) → p x ≡ b → (b || list_any p xs) ≡ true → (list_any p xs ≡ true → (y : X) × (find p xs ≡ Some y)) → (y : X) × ((if b then Some x else find p xs) ≡ Some y)
+    one true is e rest = (x, refl)
+    one false is e rest = rest e
 
 -- sessions whose messages are done, as work goes on
 empty_same : (c d : Cluster) (i : InstanceId) → d.live ≡ c.live → ((s : SessionId) (q : PartId) → message_of c.mail s q ≡ None → message_of d.mail s q ≡ None) → IsEmptyOf c i → IsEmptyOf d i
@@ -137,13 +137,13 @@ nothing_pending c k few done = one c.mail refl
   where
     none : (i : InstanceId) → IsEmptyOf c i ⊎ (false ≡ true) → IsEmptyOf c i
     none i (inl e) = e
-    none i (inr no) = cc
+    none i (inr never) = cc
 
     one : (ms : List Message) → c.mail ≡ ms → ms ≡ []
     one [] is = refl
     one (m ∷ ms) is =
         let pending : is_pending c m ≡ true = and-first (is_pending c m) (list_all (is_pending c) ms) (ap (list_all (is_pending c)) (sym is) ∙ k.mail.pending) in
-        let t = session_there c few m.session (and-first (is_live c.live m.session) _ pending) in
+        let t = session_there c few m.session (grind (arith, pending)) in
         let gone : message_of c.mail m.session m.part ≡ None = none t.0 (done t.0) m.session t.1 m.part in
         let here : message_of (m ∷ ms) m.session m.part ≡ Some m = (λ i. if same-self m.session.0 i && part_eq-self m.part i then Some m else message_of ms m.session m.part) in
         let no : None ≡ Some m = sym gone ∙ ap (λ (xs : List Message). message_of xs m.session m.part) is ∙ here in

@@ -85,7 +85,7 @@ module _ (spec : Spec) (valid : IsValid spec) (last : Option ℕ) (k : Controlle
   rounds_end zero n x rest less = absurd (omega (arith, less))
   rounds_end (suc m) n x rest less =
       goes_on (IsLaterTurn spec last k w t l) (λ s y. HasSettled (n + suc m) y s) (Turns.do_pass Quiet k x) (λ o y. unless_settled (n + 1) o (λ z. rounds m k (n + 1) z) y)
-      (later_turn x rest) ended
+      (later_turn x rest) (ended (λ z r e. rounds_end m (n + 1) z r e))
     where
       w : ℕ
       w = all_walks x.world.cluster
@@ -96,24 +96,26 @@ module _ (spec : Spec) (valid : IsValid spec) (last : Option ℕ) (k : Controlle
       l : ℕ
       l = left_of x.world.cluster
 
-      more : (y : State) → IsSetOff spec last k (all_walks x.world.cluster) (tries_left x.world.cluster) (left_of x.world.cluster) y
+      more : ((z : State) → IsAtRest spec last k z → work_left z.world.cluster < m → IfGoesOn (λ s y. HasSettled (n + 1 + m) y s) (rounds m k (n + 1) z))
+          → (y : State) → IsSetOff spec last k (all_walks x.world.cluster) (tries_left x.world.cluster) (left_of x.world.cluster) y
           → IfGoesOn (λ s z. HasSettled (n + suc m) z s) (and_then (work_all y) (λ z. rounds m k (n + 1) z))
-      more y here =
+      more again y here =
           goes_then (IsLaterRest spec last k (all_walks x.world.cluster) (tries_left x.world.cluster) (left_of x.world.cluster)) (λ s z. HasSettled (n + suc m) z s) (work_all y) (λ z. rounds m k (n + 1) z)
           (later_work (all_walks x.world.cluster) (tries_left x.world.cluster) (left_of x.world.cluster) y here)
           (λ z after.
           let s = after.0.led.stands in
           let falls = work_falls (all_walks x.world.cluster) (tries_left x.world.cluster) (left_of x.world.cluster) z.world.cluster (safe_there spec valid last z s) (ranged_there spec valid last z s) after.0.mail after.1 in
           let many : n + 1 + m ≡ n + suc m = omega arith in
-          subst (λ (most : ℕ). IfGoesOn (λ s y. HasSettled most y s) (rounds m k (n + 1) z)) many (rounds_end m (n + 1) z after.0 (omega (arith, falls, less))))
+          subst (λ (most : ℕ). IfGoesOn (λ s y. HasSettled most y s) (rounds m k (n + 1) z)) many (again z after.0 (omega (arith, falls, less))))
 
-      ended : (o : Option PassOutcome) (y : State) → IsLaterTurn spec last k (all_walks x.world.cluster) (tries_left x.world.cluster) (left_of x.world.cluster) o y
+      ended : ((z : State) → IsAtRest spec last k z → work_left z.world.cluster < m → IfGoesOn (λ s y. HasSettled (n + 1 + m) y s) (rounds m k (n + 1) z))
+          → (o : Option PassOutcome) (y : State) → IsLaterTurn spec last k (all_walks x.world.cluster) (tries_left x.world.cluster) (left_of x.world.cluster) o y
           → IfGoesOn (λ s z. HasSettled (n + suc m) z s) (unless_settled (n + 1) o (λ z. rounds m k (n + 1) z) y)
-      ended None y here = more y here
-      ended (Some (ends.Sent sent)) y here = more y here
-      ended (Some (ends.Waiting pending)) y here = more y here
-      ended (Some (ends.Moved from to)) y here = more y here
-      ended (Some (ends.Settled report)) y here = record { to = record { report = report; told = refl; passes = omega arith; explained = here } }
+      ended again None y here = more again y here
+      ended again (Some (ends.Sent sent)) y here = more again y here
+      ended again (Some (ends.Waiting pending)) y here = more again y here
+      ended again (Some (ends.Moved from to)) y here = more again y here
+      ended again (Some (ends.Settled report)) y here = record { to = record { report = report; told = refl; passes = omega arith; explained = here } }
 
   -- and the first
   first_ends : (m : ℕ) (x : State) → Stands spec last x → x.world.cluster.leader ≡ Some k → enough_rounds x.world.cluster ≡ suc m

@@ -135,7 +135,7 @@ module _ (spec : Spec) (valid : IsValid spec) (last : Option ℕ) (P : Cluster �
           never false = refl
 
       none_more : (js : List Job) (id : MsgId) (j : Job) → list_any (Jobs.is_job i id) js ≡ false → Jobs.is_job i id j ≡ false → list_any (Jobs.is_job i id) (js ++ j ∷ []) ≡ false
-      none_more js id j none other = any-append (Jobs.is_job i id) js (j ∷ []) ∙ (λ k. none k || other k || false)
+      none_more js id j none other = any-append (Jobs.is_job i id) js (j ∷ []) ∙ (λ k. none k || (other k || false))
 
       after_take : (y : State) → Ends.Takes i m.id x.world y.world → IsTakenOf m ns x y
       after_take y (Ends.WasNotTaken t) = record {

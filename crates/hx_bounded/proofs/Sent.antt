@@ -35,6 +35,7 @@ use Rattle.hx_settled.proofs.Goals.{leave_error}
 use Rattle.hx_settled.proofs.Sending.{all_sent, dispatch_sent}
 use Rattle.hx_settled.proofs.Falling.{stays_on, plans_on_their_way}
 use Rattle.hx_bounded.specs.Measure.{all_walks}
+use Rattle.hx_bounded.proofs.Falls.{left_beside}
 use Rattle.hx_bounded.specs.Falling.{IsUnwritten, is_to_write, IsFalling}
 
 -- what a candidate's message is
@@ -74,18 +75,18 @@ find_more {X} p [] x m e = one (p x) e
     one : (b : Bool) → (if b then Some x else None) ≡ Some m → (◌≡◌ {A = Option X} None (Some m)) ⊎ (x ≡ m)
     one true e = inr (let same = e in cc)
     one false e = cc
-find_more {X} p (y ∷ xs) x m e = one (p y) e
+find_more {X} p (y ∷ xs) x m e = one (p y) e (λ f. find_more p xs x m f)
   where
-    one : (b : Bool) → (if b then Some y else find p (xs ++ x ∷ [])) ≡ Some m → ((if b then Some y else find p xs) ≡ Some m) ⊎ (x ≡ m)
-    one true e = inl e
-    one false e = find_more p xs x m e
+    one : (b : Bool) → (if b then Some y else find p (xs ++ x ∷ [])) ≡ Some m → (find p (xs ++ x ∷ []) ≡ Some m → (find p xs ≡ Some m) ⊎ (x ≡ m)) → ((if b then Some y else find p xs) ≡ Some m) ⊎ (x ≡ m)
+    one true e rest = inl e
+    one false e rest = rest e
 
 module _ (c : Cluster) where
   sent : (d : Cluster) (id : MsgId) (x : Candidate) → IsGoodCandidate c x → IsSending c d → IsSending c (after_placed d (proposal x) (placings.Sent id))
   sent d id x g s = record {
     size = s.size;
     tries = s.tries;
-    left = s.left;
+    left = left_beside d (d.mail ++ message_from d id (proposal x) ∷ []) (d.next_msg + 1) (d.change + 1) d.controllers d.posted ∙ s.left;
     rows = s.rows;
     resets = s.resets;
     goals = record { models = s.goals.models; live = s.goals.live; ideals = s.goals.ideals; errors = s.goals.errors };

@@ -273,9 +273,6 @@ module _ (spec : Spec) (valid : IsValid spec) (last : Option ℕ) (k : Controlle
             }
 
   -- the call of a turn that is next
-  is_left : List Call → List Call → List Call → Type 0
-  is_left shown left after = (after ≡ []) ⊎ (after ≡ after_call shown left)
-
   call_of : (s : State) → Stands spec last s → s.world.cluster.leader ≡ Some k → (left : List Call) → Turns.left_of s k ≡ left → IfGoesOn (IsStepped left s) (Turns.do_call_of Quiet k left s)
   call_of s st leads [] is = stepped s st leads [] is (call_fine s.world.cluster (controller_of s.world k) spec [] is refl)
   call_of s st leads (Live ∷ rest) is = stepped s st leads (Live ∷ rest) is (call_fine s.world.cluster (controller_of s.world k) spec (Live ∷ rest) is refl)
@@ -304,9 +301,12 @@ module _ (spec : Spec) (valid : IsValid spec) (last : Option ℕ) (k : Controlle
           goes_on (IsPlanned s st leads rest) (IsStepped (Send ∷ rest) s) (Turns.step Quiet k s) (λ _ y. Turns.if_under_way (Turns.left_of y k) (λ z. Turns.step Quiet k z) y)
           (planned s st leads rest is none) (λ o y e. after y e.moved e.goes)
       one (Some p) made =
-          goes_on (λ _ y. IsMoved s None y × (y ≡ s)) (IsStepped (Send ∷ rest) s) (gives s None) (λ _ y. Turns.if_under_way (Turns.left_of y k) (λ z. Turns.step Quiet k z) y)
-          (goes_gives (λ _ y. IsMoved s None y × (y ≡ s)) s None (moved_self s st leads, refl))
-          (λ o y e. after y e.0 (inr (ap (λ (z : State). Turns.left_of z k) e.1 ∙ is, (p, ap (λ (z : State). (controller_of z.world k).plan) e.1 ∙ made))))
+          goes_on {A = Option PassOutcome} (λ _ y. IsMoved s None y × (y ≡ s)) (IsStepped (Send ∷ rest) s) (gives s None) (λ _ y. Turns.if_under_way (Turns.left_of y k) (λ z. Turns.step Quiet k z) y)
+          (goes_gives {A = Option PassOutcome} (λ _ y. IsMoved s None y × (y ≡ s)) s None (moved_self s st leads, refl))
+          (λ o y e.
+          let left : Turns.left_of y k ≡ Send ∷ rest = ap (λ (z : State). Turns.left_of z k) e.1 ∙ is in
+          let plan : (controller_of y.world k).plan ≡ Some p = ap (λ (z : State). (controller_of z.world k).plan) e.1 ∙ made in
+          after y e.0 (inr (left, (p, plan))))
 
   -- the order of calls
   abbrev is_led : List Call → Bool
@@ -365,22 +365,24 @@ module _ (spec : Spec) (valid : IsValid spec) (last : Option ℕ) (k : Controlle
       (subst (λ (calls : List Call). IfGoesOn (IsStepped (call ∷ rest) s) (Turns.do_call_of Quiet k calls s)) (sym is) (call_of s st leads (call ∷ rest) is))
       (λ o y e.
       goes_on (IsThrough y) (IsThrough s) (Turns.if_under_way (Turns.left_of y k) (λ z. Turns.do_calls Quiet k n z) y) (λ p z. gives z (Turns.or_earlier o p))
-      (more y e.moved (goes_rest (live_shown s.world.cluster) call rest (Turns.left_of y k) (ap is_in_order (sym is) ∙ order_there s st) led e.goes))
+      (more (λ cs z ss ll at few led. through n cs z ss ll at few led) y o e.moved (goes_rest (live_shown s.world.cluster) call rest (Turns.left_of y k) (ap is_in_order (sym is) ∙ order_there s st) led e.goes))
       (λ p z g. goes_gives (IsThrough s) z (Turns.or_earlier o p) (record { moved = moved_both s y z o p e.moved g.moved; idle = g.idle })))
     where
       order : is_in_order (call ∷ rest) ≡ true
       order = ap is_in_order (sym is) ∙ order_there s st
 
-      under : (y : State) {o : Option PassOutcome} → IsMoved s o y → (left : List Call) → Turns.left_of y k ≡ left → length left ≡ n → is_led left ≡ false → IfGoesOn (IsThrough y) (Turns.if_under_way left (λ z. Turns.do_calls Quiet k n z) y)
-      under y m [] at few led = record { to = record { moved = moved_self y m.stands m.leads; idle = at } }
-      under y m (c ∷ cs) at few led = through n (c ∷ cs) y m.stands m.leads at few led
+      under : ((left : List Call) (z : State) → Stands spec last z → z.world.cluster.leader ≡ Some k → Turns.left_of z k ≡ left → length left ≡ n → is_led left ≡ false → IfGoesOn (IsThrough z) (Turns.do_calls Quiet k n z))
+          → (y : State) (o : Option PassOutcome) → IsMoved s o y → (left : List Call) → Turns.left_of y k ≡ left → length left ≡ n → is_led left ≡ false → IfGoesOn (IsThrough y) (Turns.if_under_way left (λ z. Turns.do_calls Quiet k n z) y)
+      under again y o m [] at few led = record { to = record { moved = moved_self y m.stands m.leads; idle = at } }
+      under again y o m (c ∷ cs) at few led = again (c ∷ cs) y m.stands m.leads at few led
 
-      more : (y : State) {o : Option PassOutcome} → IsMoved s o y → (Turns.left_of y k ≡ []) ⊎ (Turns.left_of y k ≡ rest) → IfGoesOn (IsThrough y) (Turns.if_under_way (Turns.left_of y k) (λ z. Turns.do_calls Quiet k n z) y)
-      more y m (inl none) =
+      more : ((left : List Call) (z : State) → Stands spec last z → z.world.cluster.leader ≡ Some k → Turns.left_of z k ≡ left → length left ≡ n → is_led left ≡ false → IfGoesOn (IsThrough z) (Turns.do_calls Quiet k n z))
+          → (y : State) (o : Option PassOutcome) → IsMoved s o y → (Turns.left_of y k ≡ []) ⊎ (Turns.left_of y k ≡ rest) → IfGoesOn (IsThrough y) (Turns.if_under_way (Turns.left_of y k) (λ z. Turns.do_calls Quiet k n z) y)
+      more again y o m (inl none) =
           subst (λ (calls : List Call). IfGoesOn (IsThrough y) (Turns.if_under_way calls (λ z. Turns.do_calls Quiet k n z) y)) (sym none) (record { to = record { moved = moved_self y m.stands m.leads; idle = none } })
-      more y m (inr same) =
+      more again y o m (inr same) =
           subst (λ (calls : List Call). IfGoesOn (IsThrough y) (Turns.if_under_way calls (λ z. Turns.do_calls Quiet k n z) y)) (sym same)
-          (under y m rest same (omega (arith, many)) (not_led_next call rest order))
+          (under again y o m rest same (omega (arith, many)) (not_led_next call rest order))
 
   -- the rest of a turn of which live may be next
   record IsUnled (s : State) (o : Option PassOutcome) (y : State) : Type 0 where
