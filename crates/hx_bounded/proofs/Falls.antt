@@ -40,7 +40,7 @@ use Rattle.hx_settled.proofs.Placed.{left_all}
 use Rattle.hx_settled.proofs.Spending.{tries_spent}
 use Rattle.hx_settled.proofs.Falling.{stays_on, way_falls, ways_stay}
 use Rattle.hx_bounded.specs.Measure.{all_walks}
-use Rattle.hx_bounded.specs.Falling.{IsUnwritten, is_to_write, IsOnTheWay, IsFalling}
+use Rattle.hx_bounded.specs.Falling.{is_honest, IsUnwritten, is_to_write, IsOnTheWay, IsFalling}
 
 -- what is left doesn't look at messages, passes and posts
 abbrev steps : ModelParts → Option StateId → StateId → ℕ
@@ -216,11 +216,6 @@ other_flags s u p q ne (f ∷ flags) = one (is_flag s p f) refl (other_flags s u
         → list_any (is_flag u q) (if not b then f ∷ filter (λ f. not (is_flag s p f)) flags else filter (λ f. not (is_flag s p f)) flags) ≡ list_any (is_flag u q) (f ∷ flags)
     one true is rest = let other : is_flag u q f ≡ false = grind (arith, nat_tests, is, ne) in grind (arith, other, rest)
     one false is rest = ap (λ (b : Bool). is_flag u q f || b) rest
-
--- a transition from ERROR doesn't fail
-abbrev pub is_honest : Message → Outcome → Bool
-is_honest m outcomes.Ok = true
-is_honest m outcomes.Failed = not (m.from.0 == error.0)
 
 module _ (w t l : ℕ) (c : Cluster) (safe : IsSafe c) (ranged : IsRanged c) (k : IsKept c) (s : SessionId) (id : MsgId) (m : Message) (at : pending_of c s id ≡ Some m) (fresh : m.written ≡ false) (f : IsFalling w t l c) where
   written : Outcome → Cluster

@@ -65,7 +65,8 @@ use Rattle.hx_bounded.specs.Ending.{IfGoesOn}
 use Rattle.hx_bounded.specs.Measure.{all_walks}
 use Rattle.hx_bounded.specs.Falling.{IsUnwritten, IsOnTheWay, IsFalling}
 use Rattle.hx_bounded.proofs.Going.{goes_on, goes_so, goes_too, goes_both, goes_gives}
-use Rattle.hx_bounded.proofs.Rounds.{by_outcome, IsLed, IsAtRest, IsSetOff, IsLaterTurn, safe_there, ranged_there}
+use Rattle.hx_bounded.specs.Rounds.{by_outcome}
+use Rattle.hx_bounded.proofs.Rounds.{IsLed, IsAtRest, IsSetOff, IsLaterTurn, safe_there, ranged_there}
 use Rattle.hx_bounded.proofs.Stepping.{alike_dispatch, ComesTo, step_comes, listed, put_is, own_turn, due_turn}
 use Rattle.hx_bounded.proofs.Sent.{dispatch_falls}
 use Rattle.hx_bounded.proofs.Turning.{IsTold, IsThrough, turn_through}
@@ -125,11 +126,11 @@ reads_after_live shown = mails shown
     mails (e ∷ live) = mails live
 
 -- no job of a live session is open
-abbrev HasNoJobs : World → Type 0
+abbrev pub HasNoJobs : World → Type 0
 HasNoJobs w = Each (λ j. is_live w.cluster.live j.message.session ≡ false) w.jobs
 
 -- without mail none is
-jobs_dead : (spec : Spec) (last : Option ℕ) (x : State) → Stands spec last x → x.world.cluster.mail ≡ [] → HasNoJobs x.world
+pub jobs_dead : (spec : Spec) (last : Option ℕ) (x : State) → Stands spec last x → x.world.cluster.mail ≡ [] → HasNoJobs x.world
 jobs_dead spec last x st none =
     each-le (IsHeldJob x.world.cluster x.world.participants x.world.jobs) (λ j. is_live x.world.cluster.live j.message.session ≡ false) (λ j h. dead j h (is_live x.world.cluster.live j.message.session) refl) x.world.jobs st.in_step.parts.held
   where

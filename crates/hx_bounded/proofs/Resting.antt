@@ -42,8 +42,8 @@ use Rattle.hx_agreed.proofs.Going.{whole_there}
 use Rattle.hx_agreed.proofs.DoingTurns.{Stands}
 use Rattle.hx_agreed.proofs.DoingLines.{live_instances}
 use Rattle.hx_bounded.specs.Ending.{IfGoesOn}
-use Rattle.hx_bounded.specs.Falling.{IsFalling}
-use Rattle.hx_bounded.proofs.Falls.{is_honest, take_falls, write_falls, ack_falls}
+use Rattle.hx_bounded.specs.Falling.{is_honest, IsFalling}
+use Rattle.hx_bounded.proofs.Falls.{take_falls, write_falls, ack_falls}
 use Rattle.hx_bounded.proofs.Going.{goes_so, goes_each}
 use Rattle.hx_bounded.proofs.Rounds.{IsLed, IsAtRest, IsFirstRest, IsSetOff, IsLaterRest}
 use Rattle.hx_bounded.proofs.Carrying.{IsClosed, IsWorking, OfLive, from_take, from_write, from_ack, live_written, from_none}
@@ -299,3 +299,22 @@ module _ (spec : Spec) (valid : IsValid spec) (last : Option ℕ) where
         record { led = record { stands = e.0.stands; leads = e.0.works.holds.1; idle = still_idle k y z e.0.works.controllers off.led.idle }; mail = e.1 },
         e.0.works.holds.0,
       ))
+
+  closed_always : IsClosed (λ c. Unit {0}) (λ j. Unit {0})
+  closed_always = record {
+    take = λ c s id p. tt;
+    write = λ c j safe ranged kept can h from p. tt;
+    ack = λ c s id kept can p. tt;
+    ran = λ i m handler x. tt;
+    marked = λ j h. tt;
+  }
+
+  pub any_work : (x : State) → Stands spec last x → IfGoesOn (λ _ z. Stands spec last z × (z.world.cluster.mail ≡ [])) (work_all x)
+  any_work x st =
+      goes_so (λ _ z. IsAtWork spec valid last (λ c. Unit {0}) (λ j. Unit {0}) closed_always x.world.cluster.live x.world.controllers z × (z.world.cluster.mail ≡ [])) (λ _ z. Stands spec last z × (z.world.cluster.mail ≡ []))
+      (work_all x)
+      (all_work (λ c. Unit {0}) (λ j. Unit {0}) closed_always x.world.cluster.live x.world.controllers x refl (record {
+        stands = st;
+        works = record { holds = tt; sessions = refl; jobs = each_any x.world.jobs x.world.cluster.live; controllers = refl };
+      }))
+      (λ _ z e. (e.0.stands, e.1))

@@ -27,13 +27,9 @@ use Rattle.hx_settled.specs.Places.{tries_left}
 use Rattle.hx_bounded.specs.Ending.{IfGoesOn, HasSettled, IsEnd}
 use Rattle.hx_bounded.specs.Measure.{all_walks, work_left}
 use Rattle.hx_bounded.specs.Falling.{IsFalling}
+use Rattle.hx_bounded.specs.Rounds.{by_outcome}
 use Rattle.hx_bounded.proofs.Counting.{work_bounded, work_falls}
 use Rattle.hx_bounded.proofs.Going.{goes_on, goes_then, goes_gives}
-
--- by whether a turn's outcome has settled
-abbrev pub by_outcome : (Report → Type 0) → Type 0 → Option PassOutcome → Type 0
-by_outcome settled otherwise (Some (ends.Settled report)) = settled report
-by_outcome settled otherwise _ = otherwise
 
 -- a controller leads, and has no turn under way
 pub record IsLed (spec : Spec) (last : Option ℕ) (k : ControllerId) (x : State) : Type 0 where

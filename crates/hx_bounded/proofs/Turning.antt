@@ -35,7 +35,7 @@ use Rattle.hx_agreed.proofs.DoingTurns.{Stands, keeps_step}
 use Rattle.hx_settled.proofs.Settling.{settled_board}
 use Rattle.hx_bounded.specs.Ending.{IfGoesOn}
 use Rattle.hx_bounded.proofs.Going.{goes_on, goes_so, goes_too, goes_gives}
-use Rattle.hx_bounded.proofs.Rounds.{by_outcome, IsLed, IsFirstTurn}
+use Rattle.hx_bounded.proofs.Rounds.{IsLed, IsFirstTurn}
 use Rattle.hx_bounded.proofs.Stepping.{IsAlike, alike_self, alike_both, enough_alike, alike_pass, alike_dispatch, explained_beside, explained_pass, ComesTo, step_comes, listed, put_is, own_turn, due_turn}
 
 -- which calls come after one

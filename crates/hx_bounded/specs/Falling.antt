@@ -1,14 +1,21 @@
 -- Clusters in a round, as its messages are taken, written and acknowledged.
-use Rattle.std.specs.Prelude.{◌≡◌, ◌<◌, ◌⊎◌, ℕ, Bool, true, false, not, Some}
+use Rattle.std.specs.Prelude.{◌≡◌, ◌<◌, ◌⊎◌, ℕ, Bool, true, false, not, ◌==◌, Some}
 use Rattle.std.specs.List.{list_any}
+use Rattle.hx_model.specs.Model.{error}
 use Rattle.hx_cluster.specs.declared.state.Message.{Message}
 use Rattle.hx_cluster.specs.declared.state.Cluster.{Cluster}
+use Rattle.hx_cluster.specs.declared.happenings.Outcome.{Outcome}
 use Rattle.hx_cluster.specs.declared.happenings.Outcome.TheVariants as outcomes
 use Rattle.hx_cluster.specs.Ends.{message_of}
 use Rattle.hx_pass.specs.Left.{left_of}
 use Rattle.hx_settled.specs.Places.{tries_left, is_spendable}
 use Rattle.hx_settled.specs.Ways.{IsOnItsWay}
 use Rattle.hx_bounded.specs.Measure.{all_walks}
+
+-- a transition from ERROR doesn't fail
+abbrev pub is_honest : Message → Outcome → Bool
+is_honest m outcomes.Ok = true
+is_honest m outcomes.Failed = not (m.from.0 == error.0)
 
 -- a pending message whose transition isn't written
 pub record IsUnwritten (c : Cluster) (m : Message) : Type 0 where
