@@ -1,16 +1,14 @@
 -- Messages are taken and carried to their ends, and what holds of the world stays.
-use Rattle.std.proofs.Common.{◌≡◌, ℕ, ◌+◌, ◌<◌, ◌||◌, ◌&&◌, ◌==◌, not, Bool, true, false, List, [], ◌∷◌, ◌++◌, length, map, filter, find, Option, Some, None, ◌⊎◌, inl, inr, refl, sym, ap, ◌∙◌, subst, arith}
-use Rattle.std.specs.Prelude.{if◌then◌else◌, is_none, nat_le, slice_set, slice_index_or}
+use Rattle.std.proofs.Common.{◌≡◌, ℕ, ◌<◌, ◌||◌, ◌==◌, not, Bool, true, false, List, [], ◌∷◌, length, map, filter, find, Option, Some, None, refl, sym, ap, ◌∙◌, subst, arith}
+use Rattle.std.specs.Prelude.{if◌then◌else◌, is_none, slice_set}
 use Rattle.std.specs.List.{list_any}
 use Rattle.std.specs.Option.{option_map}
 use Rattle.std.proofs.lemmas.Bool.Decides.{nat_tests}
-use Rattle.hx_lists.specs.Lists.{count}
 use Rattle.hx_ids.specs.declared.InstanceId.{InstanceId}
 use Rattle.hx_ids.specs.declared.SessionId.{SessionId}
 use Rattle.hx_ids.specs.declared.MsgId.{MsgId}
 use Rattle.hx_ids.specs.declared.PartId.{PartId}
 use Rattle.hx_ids.specs.declared.Live.{Live}
-use Rattle.hx_cluster.specs.declared.description.Spec.{Spec}
 use Rattle.hx_cluster.specs.declared.state.Message.{Message}
 use Rattle.hx_cluster.specs.declared.state.Cluster.{Cluster}
 use Rattle.hx_cluster.specs.declared.happenings.Outcome.{Outcome}
@@ -18,32 +16,23 @@ use Rattle.hx_cluster.specs.declared.happenings.WriteRefusal.TheVariants as refu
 use Rattle.hx_cluster.specs.Marks.{write_fault}
 use Rattle.hx_cluster.specs.Ends.{is_message, is_live, message_of}
 use Rattle.hx_cluster.specs.Messages.{has_id, pending_of, as_taken, as_written, written_of, after_take, after_write, after_ack}
-use Rattle.hx_cluster.specs.Events.{can_take, can_write, can_ack}
+use Rattle.hx_cluster.specs.Events.{can_write, can_ack}
 use Rattle.hx_cluster.specs.Safe.{IsSafe}
 use Rattle.hx_cluster.specs.Ranged.{IsRanged}
-use Rattle.hx_cluster.specs.Valid.{IsValid}
-use Rattle.hx_replicas.specs.Participants.{Participant, hand_out, finish}
+use Rattle.hx_replicas.specs.Participants.{Participant, finish}
 use Rattle.hx_control.specs.Controllers.{Controller}
-use Rattle.hx_worlds.specs.declared.Voice.TheVariants.{Quiet}
 use Rattle.hx_worlds.specs.World.{World, State, Job, participant_of}
 use Rattle.hx_worlds.specs.Jobs as Jobs
-use Rattle.hx_safe.proofs.Counting.{and-first, and-second, and-both, find-passes, find-none, none-find, any-append}
+use Rattle.hx_safe.proofs.Counting.{and-first, and-second, and-both, find-passes, find-none, none-find}
 use Rattle.hx_safe.proofs.Ends.{same-self, find-filter}
 use Rattle.hx_safe.proofs.Kept.{IsKept}
-use Rattle.hx_agreed.specs.InStep.{Each, of_instance, IsHeldJob, IsTakenBy}
-use Rattle.hx_agreed.proofs.Lists.{each-append, each-map, each-filter}
+use Rattle.hx_agreed.specs.InStep.{Each, of_instance, IsHeldJob}
 use Rattle.hx_agreed.proofs.Frames.{same_is}
 use Rattle.hx_agreed.proofs.Changes.{instance_same}
 use Rattle.hx_agreed.proofs.Replicas.{here_put}
 use Rattle.hx_agreed.proofs.Marks.{marked, written_message, pending_found}
-use Rattle.hx_agreed.proofs.Going.{whole_there, each-find}
-use Rattle.hx_agreed.proofs.DoingTurns.{Stands}
-use Rattle.hx_agreed.proofs.Doing.{keeps_taken, keeps_write, keeps_ack}
-use Rattle.hx_bounded.specs.Ending.{IfGoesOn}
-use Rattle.hx_bounded.proofs.Going.{goes_then, goes_too, goes_so}
-use Rattle.hx_bounded.proofs.Rounds.{safe_there, ranged_there}
 use Rattle.hx_bounded.proofs.Ends
-use Rattle.hx_bounded.proofs.Later.{IsLater, later_self, later_both, handed_later, finished_later, IsFrom}
+use Rattle.hx_bounded.proofs.Later.{IsLater, later_self, later_both, finished_later, IsFrom}
 
 -- what is pending after an event of work was pending before
 is_taken_as : (s : SessionId) (id : MsgId) (u : SessionId) (p : PartId) (m : Message) → is_message u p (as_taken s id m) ≡ is_message u p m

@@ -1,6 +1,6 @@
 -- What is fetched in work on a live instance is delivered.
-use Rattle.std.proofs.Common.{◌≡◌, ℕ, ◌+◌, ◌<◌, ◌≤◌, ◌||◌, ◌&&◌, ◌==◌, not, Bool, true, false, List, [], ◌∷◌, ◌++◌, length, map, filter, find, Option, Some, None, ◌⊎◌, inl, inr, refl, sym, ap, ◌∙◌, subst, arith}
-use Rattle.std.specs.Prelude.{if◌then◌else◌, nat_le, nat_lt}
+use Rattle.std.proofs.Common.{◌≡◌, ℕ, ◌<◌, ◌||◌, ◌==◌, Bool, true, false, List, [], ◌∷◌, length, filter, find, Option, Some, None, ◌⊎◌, inl, inr, refl, sym, ap, ◌∙◌, subst, arith}
+use Rattle.std.specs.Prelude.{if◌then◌else◌, nat_le}
 use Rattle.std.specs.List.{list_any, list_all}
 use Rattle.std.specs.Option.{option_map}
 use Rattle.std.proofs.lemmas.Bool.Decides.{nat_tests}
@@ -19,34 +19,29 @@ use Rattle.hx_cluster.specs.declared.happenings.Event.TheVariants as events
 use Rattle.hx_cluster.specs.Ends.{is_message, message_of}
 use Rattle.hx_cluster.specs.Steps.{live_of, session_of}
 use Rattle.hx_cluster.specs.Reads.{messages_for, fetched}
-use Rattle.hx_cluster.specs.Messages.{is_same}
 use Rattle.hx_cluster.specs.Valid.{IsValid}
-use Rattle.hx_cluster.specs.Weight.{weight_of}
 use Rattle.hx_control.specs.Controllers.{Controller}
 use Rattle.hx_replicas.specs.declared.DeliverFault.{DeliverFault}
 use Rattle.hx_replicas.specs.Participants.{Participant, slot_of, deliver_fault, accept, adopt}
 use Rattle.hx_script.specs.Ranges as Ranges
 use Rattle.hx_worlds.specs.declared.Voice.TheVariants.{Quiet}
-use Rattle.hx_worlds.specs.World.{World, State, Job, participant_of, with_participant}
-use Rattle.hx_worlds.specs.Runs.{done, happened, and_then, for_each}
+use Rattle.hx_worlds.specs.World.{State, Job, participant_of, with_participant}
+use Rattle.hx_worlds.specs.Runs.{happened, for_each}
 use Rattle.hx_worlds.specs.Jobs as Jobs
-use Rattle.hx_safe.proofs.Counting.{and-first, and-second, and-both, find-passes, find-any}
+use Rattle.hx_safe.proofs.Counting.{and-first, and-second, and-both, find-passes}
 use Rattle.hx_safe.proofs.Ends.{same-self}
 use Rattle.hx_safe.proofs.Kept.{IsKept}
 use Rattle.hx_scripted.specs.OfHistory.{is_fetched}
-use Rattle.hx_agreed.specs.InStep.{Each, of_instance}
-use Rattle.hx_agreed.proofs.Frames.{one_number, found_session, found_part}
+use Rattle.hx_agreed.proofs.Frames.{one_number, found_part}
 use Rattle.hx_agreed.proofs.Replicas.{here_put, acceptable}
-use Rattle.hx_agreed.proofs.Slots.{mine_is}
 use Rattle.hx_agreed.proofs.Fetching.{bagged_now}
-use Rattle.hx_agreed.proofs.DoingTurns.{Stands}
 use Rattle.hx_agreed.proofs.DoingLines.{AreReady, IsTaken, fetched_now, mail_fetched, fetched_history, accepted_now}
 use Rattle.hx_bounded.specs.Ending.{IfGoesOn}
-use Rattle.hx_bounded.proofs.Going.{goes_then, goes_so, goes_each, goes_fetched}
+use Rattle.hx_bounded.proofs.Going.{goes_so, goes_each, goes_fetched}
 use Rattle.hx_bounded.proofs.Later.{le_both, accepted_last, accepted_here}
 use Rattle.hx_bounded.proofs.Carrying.{IsClosed, IsWorking}
 use Rattle.hx_bounded.proofs.Working.{IsAtWork, low_there}
-use Rattle.hx_bounded.proofs.Emptying.{IsJobless, AreSeen, has_its, any_filtered, kept_now, session_now, IsReady, seen_or_free}
+use Rattle.hx_bounded.proofs.Emptying.{IsJobless, AreSeen, has_its, kept_now, session_now, IsReady, seen_or_free}
 
 -- where no job is open, adopting ends none
 none_of_its : (i : InstanceId) (js : List Job) → ((id : MsgId) → list_any (Jobs.is_job i id) js ≡ false) → filter (Jobs.is_job_of i) js ≡ []

@@ -1,10 +1,9 @@
 -- Work on a live instance leaves no message of its session pending.
-use Rattle.std.proofs.Common.{◌≡◌, ℕ, ◌+◌, ◌<◌, ◌≤◌, ◌||◌, ◌&&◌, ◌==◌, not, Bool, true, false, List, [], ◌∷◌, ◌++◌, length, map, filter, find, Option, Some, None, ◌⊎◌, inl, inr, refl, sym, ap, ◌∙◌, subst, arith}
-use Rattle.std.specs.Prelude.{if◌then◌else◌, nat_le, nat_lt, unwrap_or}
-use Rattle.std.specs.List.{list_any, list_all, filter_map}
+use Rattle.std.proofs.Common.{◌≡◌, ℕ, ◌<◌, ◌||◌, ◌&&◌, ◌==◌, not, Bool, true, false, List, [], ◌∷◌, length, filter, find, Option, Some, None, ◌⊎◌, inl, inr, refl, sym, ap, ◌∙◌, subst, arith}
+use Rattle.std.specs.Prelude.{if◌then◌else◌, nat_le, nat_lt}
+use Rattle.std.specs.List.{list_any, filter_map}
 use Rattle.std.specs.Option.{option_map}
 use Rattle.std.proofs.lemmas.Bool.Decides.{nat_tests}
-use Rattle.hx_lists.specs.Lists.{sort_by}
 use Rattle.hx_ids.specs.declared.InstanceId.{InstanceId}
 use Rattle.hx_ids.specs.declared.SessionId.{SessionId}
 use Rattle.hx_ids.specs.declared.StateId.{StateId}
@@ -14,38 +13,28 @@ use Rattle.hx_ids.specs.declared.Live.{Live}
 use Rattle.hx_cluster.specs.declared.description.Spec.{Spec}
 use Rattle.hx_cluster.specs.declared.state.Message.{Message}
 use Rattle.hx_cluster.specs.declared.state.Cluster.{Cluster}
-use Rattle.hx_cluster.specs.Ends.{part_eq, is_live, is_message, message_of, state_of}
+use Rattle.hx_cluster.specs.Ends.{part_eq, is_live, message_of, state_of}
 use Rattle.hx_cluster.specs.Steps.{live_of, session_of}
-use Rattle.hx_cluster.specs.Messages.{initial_of, standing_of, is_same}
+use Rattle.hx_cluster.specs.Messages.{initial_of, standing_of}
 use Rattle.hx_cluster.specs.Safe.{is_row_written}
 use Rattle.hx_cluster.specs.Valid.{IsValid}
 use Rattle.hx_control.specs.Controllers.{Controller}
-use Rattle.hx_replicas.specs.declared.DeliverFault.{DeliverFault}
 use Rattle.hx_replicas.specs.declared.DeliverFault.TheVariants as faults
 use Rattle.hx_replicas.specs.declared.slots.Work.{Work}
 use Rattle.hx_replicas.specs.declared.slots.Work.TheVariants.{Idle, Accepted, Out}
-use Rattle.hx_replicas.specs.Participants.{Participant, Slot, new_slot, slot_in, slot_of, state_for, counts_as, is_out, is_session, slot_fault, fault_at, deliver_fault, accepted_of, accepted_in, has_accepted, accepted_by, accepted_all, number_before}
+use Rattle.hx_replicas.specs.Participants.{Slot, slot_in, slot_of, state_for, is_out, slot_fault, fault_at, deliver_fault, accepted_of, accepted_in, has_accepted}
 use Rattle.hx_worlds.specs.Agree.{is_known_at, is_accepted_as, is_out_as}
-use Rattle.hx_worlds.specs.declared.Voice.TheVariants.{Quiet}
 use Rattle.hx_worlds.specs.World.{World, State, Job, participant_of}
-use Rattle.hx_worlds.specs.Runs.{and_then, for_each}
 use Rattle.hx_worlds.specs.Jobs as Jobs
-use Rattle.hx_safe.proofs.Counting.{and-first, and-second, and-both, and-six, any-append, find-passes, find-any}
-use Rattle.hx_safe.proofs.Ends.{same-self, part_same, session_same}
+use Rattle.hx_safe.proofs.Counting.{and-six}
+use Rattle.hx_safe.proofs.Ends.{same-self}
 use Rattle.hx_safe.proofs.Kept.{IsKept}
-use Rattle.hx_agreed.specs.InStep.{Each, of_instance, IsUntaken, IsAcceptedHere, IsOutHere, HasWork, HasSlot, IsAlong, IsPlaced, is_lent_as, has_number}
+use Rattle.hx_agreed.specs.InStep.{of_instance, IsUntaken, IsAcceptedHere, IsOutHere, HasWork, IsAlong, IsPlaced, is_lent_as}
 use Rattle.hx_agreed.proofs.Slots.{is_mine}
 use Rattle.hx_agreed.proofs.Frames.{same_is, found_pending, found_session, found_part, session_live}
-use Rattle.hx_agreed.proofs.Replicas.{one_bagged}
-use Rattle.hx_agreed.proofs.Fetching.{any-sort}
 use Rattle.hx_agreed.proofs.Going.{whole_there}
-use Rattle.hx_agreed.proofs.DoingTurns.{Stands}
-use Rattle.hx_bounded.specs.Ending.{IfGoesOn}
-use Rattle.hx_bounded.proofs.Going.{goes_then, goes_so, goes_each}
-use Rattle.hx_bounded.proofs.Ends
-use Rattle.hx_bounded.proofs.Later.{IsLater, later_both, le_both, handed_later, handed_gone, finished_later, accepted_last, accepted_here, IsFrom}
-use Rattle.hx_bounded.proofs.Carrying.{IsClosed, IsWorking, IsCarried}
-use Rattle.hx_bounded.proofs.Working.{IsAtWork, low_there, taken, IsGone, carry_ends}
+use Rattle.hx_bounded.proofs.Carrying.{IsClosed}
+use Rattle.hx_bounded.proofs.Working.{IsAtWork}
 
 -- the messages of a session are done
 abbrev pub IsEmptyOf : Cluster → InstanceId → Type 0
@@ -235,7 +224,7 @@ module _ (spec : Spec) (valid : IsValid spec) (last : Option ℕ) (P : Cluster �
             let pending = and-six (is_live x.world.cluster.live m.session) _ _ _ (not m.written || m.taken) _ (found_pending x.world.cluster k s q m found) in
             let marks = pending.4 in
             let unwritten : m.written ≡ false = grind (arith, marks, untaken) in
-            let stands : ((standing_of x.world.cluster m.session m.part).0 == m.from.0) ≡ true = 
+            let stands : ((standing_of x.world.cluster m.session m.part).0 == m.from.0) ≡ true =
             sym (ap (λ (b : Bool). if b then is_row_written m (state_of x.world.cluster.rows m.session m.part) else (standing_of x.world.cluster m.session m.part).0 == m.from.0) unwritten) ∙ pending.5 in
             let row = along.rows q (not_out q) in
             let initial = (r.at_work.stands.in_step.parts.mail s q m found).initial in

@@ -1,18 +1,16 @@
 -- What takes, writes and acknowledgements in a world come to.
-use Rattle.std.proofs.Common.{◌≡◌, ℕ, ◌+◌, ◌==◌, not, Bool, true, false, List, [], ◌∷◌, ◌++◌, map, filter, find, Option, Some, None, ◌⊎◌, inl, inr, refl, sym, ap, ◌∙◌, subst, arith}
-use Rattle.std.specs.Prelude.{if◌then◌else◌, slice_set, is_some}
+use Rattle.std.proofs.Common.{◌≡◌, ℕ, not, Bool, true, false, [], ◌∷◌, ◌++◌, map, filter, find, Option, Some, None, refl, sym, ap, ◌∙◌}
+use Rattle.std.specs.Prelude.{slice_set}
 use Rattle.hx_ids.specs.declared.InstanceId.{InstanceId}
 use Rattle.hx_ids.specs.declared.MsgId.{MsgId}
 use Rattle.hx_cluster.specs.declared.state.Message.{Message}
-use Rattle.hx_cluster.specs.declared.happenings.Event.{Event}
 use Rattle.hx_cluster.specs.declared.happenings.Event.TheVariants as events
 use Rattle.hx_cluster.specs.Messages.{after_take, after_write, after_ack}
 use Rattle.hx_cluster.specs.Events.{can_take, can_write, can_ack}
-use Rattle.hx_print.specs.declared.Note.TheVariants as notes
 use Rattle.hx_replicas.specs.Participants.{accepted_by, makes, slot_of, hand_out, finish}
 use Rattle.hx_worlds.specs.World.{World, State, Job, participant_of, with_participant}
 use Rattle.hx_worlds.specs.declared.Voice.TheVariants.{Quiet}
-use Rattle.hx_worlds.specs.Runs.{done, happened, make, note}
+use Rattle.hx_worlds.specs.Runs.{done, happened}
 use Rattle.hx_worlds.specs.Jobs as Jobs
 use Rattle.hx_bounded.specs.Ending.{IfGoesOn}
 use Rattle.hx_bounded.proofs.Going.{goes_made, goes_chosen}

@@ -32,14 +32,13 @@ use Rattle.hx_pass.specs.Explained.{view_at}
 use Rattle.hx_safe.proofs.Counting.{and-both, find-passes, find-single}
 use Rattle.hx_safe.proofs.Ends.{same-self, part_eq-self, session_same, part_same, find-filter}
 use Rattle.hx_safe.proofs.Kept.{IsKept}
-use Rattle.hx_agreed.proofs.Marks.{marked, written_message, written_elsewhere, written_now}
+use Rattle.hx_agreed.proofs.Marks.{marked, written_elsewhere, written_now}
 use Rattle.hx_settled.specs.Places.{Place, places_of, left_at, tries_left, spent, is_spendable}
 use Rattle.hx_settled.specs.Ways.{IsOnItsWay}
 use Rattle.hx_settled.proofs.Goals.{goal_same}
 use Rattle.hx_settled.proofs.Placed.{left_all}
 use Rattle.hx_settled.proofs.Spending.{tries_spent}
 use Rattle.hx_settled.proofs.Falling.{stays_on, way_falls, ways_stay}
-use Rattle.hx_bounded.specs.Measure.{all_walks}
 use Rattle.hx_bounded.specs.Falling.{is_honest, IsUnwritten, is_to_write, IsOnTheWay, IsFalling}
 
 -- what is left doesn't look at messages, passes and posts
@@ -285,10 +284,10 @@ module _ (w t l : ℕ) (c : Cluster) (safe : IsSafe c) (ranged : IsRanged c) (k 
         subst (λ (p : Option Message). IsOnItsWay (written_of c s id outcomes.Ok p) x) at
         (ways_stay c s id m x safe ranged at fresh plain g.apart (way.ways x g.before));
     fewer = inl (
-      let one = subst (λ (p : Option Message). left_of c ≡ left_of (written_of c s id outcomes.Ok p) + 1) at (way_falls c s id m safe ranged at fresh plain (way.ways m mine)) in
-      let most = less way.fewer in
-      omega (arith, one, most)
-    );
+        let one = subst (λ (p : Option Message). left_of c ≡ left_of (written_of c s id outcomes.Ok p) + 1) at (way_falls c s id m safe ranged at fresh plain (way.ways m mine)) in
+        let most = less way.fewer in
+        omega (arith, one, most)
+        );
   })
     where
       less : (left_of c < l) ⊎ ((left_of c ≡ l) × (list_any is_to_write c.mail ≡ true)) → left_of c ≤ l

@@ -1,24 +1,17 @@
 -- Participants as they go on in a session, and jobs as they are carried to their ends.
-use Rattle.std.proofs.Common.{◌≡◌, ℕ, ◌+◌, ◌<◌, ◌||◌, ◌&&◌, ◌==◌, not, Bool, true, false, List, [], ◌∷◌, ◌++◌, length, map, filter, find, Option, Some, None, ◌⊎◌, inl, inr, refl, sym, ap, ◌∙◌, subst, arith}
-use Rattle.std.specs.Prelude.{if◌then◌else◌, nat_le, slice_set, slice_index_or}
-use Rattle.std.specs.List.{list_any}
-use Rattle.std.specs.Option.{option_map}
+use Rattle.std.proofs.Common.{◌≡◌, ℕ, Bool, true, false, List, Option, Some, refl, sym, ap, ◌∙◌, subst, arith}
+use Rattle.std.specs.Prelude.{nat_le}
 use Rattle.std.proofs.lemmas.Bool.Decides.{nat_tests}
-use Rattle.hx_ids.specs.declared.InstanceId.{InstanceId}
 use Rattle.hx_ids.specs.declared.SessionId.{SessionId}
-use Rattle.hx_ids.specs.declared.MsgId.{MsgId}
 use Rattle.hx_ids.specs.declared.PartId.{PartId}
 use Rattle.hx_cluster.specs.declared.state.Message.{Message}
 use Rattle.hx_cluster.specs.declared.state.Cluster.{Cluster}
 use Rattle.hx_cluster.specs.declared.happenings.Outcome.{Outcome}
 use Rattle.hx_cluster.specs.Ends.{part_eq, message_of}
-use Rattle.hx_replicas.specs.declared.slots.Work.{Work}
 use Rattle.hx_replicas.specs.declared.slots.Work.TheVariants.{Idle, Accepted, Out}
-use Rattle.hx_replicas.specs.Participants.{Participant, Slot, new_participant, slot_in, slot_of, put_slot, made_ready, emptied_for, hand_out, end_of, brought, finish, accepted, accept}
+use Rattle.hx_replicas.specs.Participants.{Participant, Slot, slot_in, slot_of, put_slot, made_ready, emptied_for, hand_out, end_of, brought, finish, accepted, accept}
 use Rattle.hx_replicas.proofs.Putting.{part-slot_in, slot_in-put, slots-hand_out}
 use Rattle.hx_safe.proofs.Ends.{part_same}
-use Rattle.hx_worlds.specs.World.{World, Job, participant_of}
-use Rattle.hx_worlds.specs.Jobs as Jobs
 use Rattle.hx_agreed.proofs.Slots.{slot_in-other}
 
 -- later in the same session no part's last number is lower, and a message is accepted only if it was

@@ -1,12 +1,11 @@
 -- A turn of the leader between rounds settles, or sends messages that are on their way.
 use Rattle.std.proofs.Common.{◌≡◌, ℕ, zero, suc, ◌+◌, ◌<◌, ◌||◌, ◌&&◌, ◌==◌, not, Bool, true, false, List, [], ◌∷◌, ◌++◌, length, drop, map, filter, Option, Some, None, ◌⊎◌, inl, inr, refl, sym, ap, ◌∙◌, subst, arith}
-use Rattle.std.specs.Prelude.{if◌then◌else◌, nat_lt, nat_le, slice_get, slice_set}
+use Rattle.std.specs.Prelude.{if◌then◌else◌, nat_lt, nat_le, slice_get}
 use Rattle.std.specs.List.{list_all}
 use Rattle.std.specs.Option.{option_map_or}
 use Rattle.std.proofs.lemmas.Bool.Decides.{nat_tests}
 use Rattle.hx_lists.specs.Lists.{count, numbers_below}
 use Rattle.hx_ids.specs.declared.ControllerId.{ControllerId}
-use Rattle.hx_ids.specs.declared.ResourceId.{ResourceId}
 use Rattle.hx_ids.specs.declared.SessionId.{SessionId}
 use Rattle.hx_ids.specs.declared.InstanceId.{InstanceId}
 use Rattle.hx_ids.specs.declared.PassNo.{PassNo}
@@ -16,7 +15,6 @@ use Rattle.hx_cluster.specs.declared.description.Spec.{Spec}
 use Rattle.hx_cluster.specs.declared.description.Resource.{Resource}
 use Rattle.hx_cluster.specs.declared.state.Message.{Message}
 use Rattle.hx_cluster.specs.declared.state.Cluster.{Cluster}
-use Rattle.hx_cluster.specs.declared.planning.Report.{Report}
 use Rattle.hx_cluster.specs.declared.planning.View.{View}
 use Rattle.hx_cluster.specs.declared.planning.Plan.{Plan}
 use Rattle.hx_cluster.specs.declared.happenings.Begun.{Begun}
@@ -26,35 +24,34 @@ use Rattle.hx_cluster.specs.declared.happenings.Event.{Event}
 use Rattle.hx_cluster.specs.declared.happenings.Event.TheVariants as events
 use Rattle.hx_cluster.specs.Ends.{is_live, message_of, parts_of}
 use Rattle.hx_cluster.specs.Steps.{opening, is_leader, has_controller}
-use Rattle.hx_cluster.specs.Reads.{live_shown, mail_shown, states_shown, ideals_shown, pass_of, nothing_shown}
+use Rattle.hx_cluster.specs.Reads.{live_shown, mail_shown, states_shown, ideals_shown, pass_of}
 use Rattle.hx_cluster.specs.Messages.{raised_pass, next_pass, after_dispatch}
 use Rattle.hx_cluster.specs.Events.{next, replay, begun_of, dispatched_of, is_pass, is_epoch}
 use Rattle.hx_cluster.specs.Valid.{IsValid}
 use Rattle.hx_cluster.specs.Views.{is_well_formed}
-use Rattle.hx_pass.specs.Turns.{Call, Live, Mail, States, Ideals, Send, Post, Turn, idle_turn, begun_turn, is_first, is_due, is_of_epoch, calls_after_live, with_live, gone_on, if_due, turn_of, view_of, turn_after, posted_of}
+use Rattle.hx_pass.specs.Turns.{Call, Live, Mail, States, Ideals, Send, Post, Turn, idle_turn, begun_turn, is_first, is_due, is_of_epoch, calls_after_live, with_live, gone_on, if_due, turn_of, turn_after, posted_of}
 use Rattle.hx_pass.specs.Plans.{plan}
 use Rattle.hx_pass.specs.Left.{left_of}
-use Rattle.hx_pass.specs.Explained.{IsExplained, view_at}
+use Rattle.hx_pass.specs.Explained.{view_at}
 use Rattle.hx_covers.specs.Reading.{is_read}
 use Rattle.hx_covers.proofs.Leads.{pass_own}
 use Rattle.hx_covers.proofs.Whole.{read_law}
 use Rattle.hx_control.specs.declared.PassOutcome.{PassOutcome}
 use Rattle.hx_control.specs.declared.PassOutcome.TheVariants as ends
-use Rattle.hx_control.specs.declared.ControlFault.{ControlFault}
 use Rattle.hx_control.specs.declared.ControlFault.TheVariants as faults
 use Rattle.hx_control.specs.Controllers.{Controller, idle_controller}
 use Rattle.hx_control.specs.OfBoard.{IsPlanOf}
-use Rattle.hx_control.specs.Steps.{Step, Calls, Plans, Refuses, is_sent, outcome_of, has_parts_of, is_of_cluster, begin_step, read_step, dispatch_step, planned_step, post_step, of_cluster, step_at, after_step}
+use Rattle.hx_control.specs.Steps.{Step, Calls, Refuses, is_sent, outcome_of, has_parts_of, is_of_cluster, begin_step, read_step, planned_step, of_cluster, step_at, after_step}
 use Rattle.hx_worlds.specs.declared.Voice.TheVariants.{Quiet}
 use Rattle.hx_worlds.specs.World.{World, State, Job, controller_of, with_controller}
-use Rattle.hx_worlds.specs.Runs.{Run, gives, go_on, happened}
+use Rattle.hx_worlds.specs.Runs.{gives, go_on, happened}
 use Rattle.hx_worlds.specs.Turns as Turns
 use Rattle.hx_safe.proofs.Counting.{and-both}
 use Rattle.hx_safe.proofs.Ends.{same-self}
 use Rattle.hx_safe.proofs.Fixed.{IsFixed}
 use Rattle.hx_safe.proofs.Whole.{length-replicate}
 use Rattle.hx_scripted.proofs.Standing.{fixed_there}
-use Rattle.hx_agreed.specs.InStep.{Each, IsHeldJob, IsTakenBy}
+use Rattle.hx_agreed.specs.InStep.{Each, IsHeldJob}
 use Rattle.hx_agreed.proofs.Lists.{each-le}
 use Rattle.hx_agreed.proofs.DoingTurns.{Stands, keeps_step}
 use Rattle.hx_settled.specs.Places.{tries_left}
@@ -63,10 +60,10 @@ use Rattle.hx_settled.proofs.Gathering.{plan_read}
 use Rattle.hx_settled.proofs.Steady.{read_whole}
 use Rattle.hx_bounded.specs.Ending.{IfGoesOn}
 use Rattle.hx_bounded.specs.Measure.{all_walks}
-use Rattle.hx_bounded.specs.Falling.{IsUnwritten, IsOnTheWay, IsFalling}
+use Rattle.hx_bounded.specs.Falling.{IsOnTheWay, IsFalling}
 use Rattle.hx_bounded.proofs.Going.{goes_on, goes_so, goes_too, goes_both, goes_gives}
 use Rattle.hx_bounded.specs.Rounds.{by_outcome}
-use Rattle.hx_bounded.proofs.Rounds.{IsLed, IsAtRest, IsSetOff, IsLaterTurn, safe_there, ranged_there}
+use Rattle.hx_bounded.proofs.Rounds.{IsAtRest, IsSetOff, IsLaterTurn, safe_there, ranged_there}
 use Rattle.hx_bounded.proofs.Stepping.{alike_dispatch, ComesTo, step_comes, listed, put_is, own_turn, due_turn}
 use Rattle.hx_bounded.proofs.Sent.{dispatch_falls}
 use Rattle.hx_bounded.proofs.Turning.{IsTold, IsThrough, turn_through}
@@ -262,21 +259,24 @@ module _ (spec : Spec) (valid : IsValid spec) (last : Option ℕ) (k : Controlle
       one : (b : Bool) → b ≡ true → (o : Option PassOutcome) (y : State) → Stands spec last y
           → ComesTo (controller_of x.world k) (if b then Calls e None else Refuses (faults.OldPass (pass_of x.world.cluster (controller_of x.world k).id))) x o y → (o ≡ None) × IsFresh after None y
       one false is o y now comes = cc
-      one true is o y now comes = (comes.0, subst (IsFresh after None) (sym comes.1) (record {
-        stands = subst (Stands spec last) comes.1 now;
-        leads = ap (λ (c : Cluster). c.leader) same ∙ f.leads;
-        mail = ap (λ (c : Cluster). c.mail) same ∙ f.mail;
-        jobs = subst (λ (c : Cluster). Each (λ j. is_live c.live j.message.session ≡ false) x.world.jobs) (sym same) f.jobs;
-        walks = ap all_walks same ∙ f.walks;
-        tries = ap tries_left same ∙ f.tries;
-        lefts = ap left_of same ∙ f.lefts;
-        calls = ap (λ (z : Controller). z.turn.left) here ∙ ap (λ (v : Turn). v.left) turn ∙ goes;
-        plan = ap (λ (z : Controller). z.plan) here;
-        epoch = ap (λ (z : Controller). z.turn.begun.epoch) here ∙ ap (λ (v : Turn). v.begun.epoch) turn ∙ ap (λ (b : Begun). b.epoch) begun ∙ f.epoch ∙ ap (λ (c : Cluster). c.epoch) (sym same);
-        pass = ap (λ (z : Controller). z.turn.begun.pass.0) here ∙ ap (λ (v : Turn). v.begun.pass.0) turn ∙ ap (λ (b : Begun). b.pass.0) begun ∙ f.pass ∙ ap (λ (c : Cluster). (pass_of c k).0) (sym same);
-        change = ap (λ (z : Controller). z.turn.begun.change) here ∙ ap (λ (v : Turn). v.begun.change) turn ∙ ap (λ (b : Begun). b.change) begun ∙ f.change ∙ ap (λ (c : Cluster). c.change) (sym same);
-        shown = ap (λ (z : Controller). z.turn.view.mail) here ∙ ap (λ (v : Turn). v.view.mail) turn ∙ shown;
-      }))
+      one true is o y now comes = (
+        comes.0,
+        subst (IsFresh after None) (sym comes.1) (record {
+          stands = subst (Stands spec last) comes.1 now;
+          leads = ap (λ (c : Cluster). c.leader) same ∙ f.leads;
+          mail = ap (λ (c : Cluster). c.mail) same ∙ f.mail;
+          jobs = subst (λ (c : Cluster). Each (λ j. is_live c.live j.message.session ≡ false) x.world.jobs) (sym same) f.jobs;
+          walks = ap all_walks same ∙ f.walks;
+          tries = ap tries_left same ∙ f.tries;
+          lefts = ap left_of same ∙ f.lefts;
+          calls = ap (λ (z : Controller). z.turn.left) here ∙ ap (λ (v : Turn). v.left) turn ∙ goes;
+          plan = ap (λ (z : Controller). z.plan) here;
+          epoch = ap (λ (z : Controller). z.turn.begun.epoch) here ∙ ap (λ (v : Turn). v.begun.epoch) turn ∙ ap (λ (b : Begun). b.epoch) begun ∙ f.epoch ∙ ap (λ (c : Cluster). c.epoch) (sym same);
+          pass = ap (λ (z : Controller). z.turn.begun.pass.0) here ∙ ap (λ (v : Turn). v.begun.pass.0) turn ∙ ap (λ (b : Begun). b.pass.0) begun ∙ f.pass ∙ ap (λ (c : Cluster). (pass_of c k).0) (sym same);
+          change = ap (λ (z : Controller). z.turn.begun.change) here ∙ ap (λ (v : Turn). v.begun.change) turn ∙ ap (λ (b : Begun). b.change) begun ∙ f.change ∙ ap (λ (c : Cluster). c.change) (sym same);
+          shown = ap (λ (z : Controller). z.turn.view.mail) here ∙ ap (λ (v : Turn). v.view.mail) turn ∙ shown;
+        }),
+      )
         where
           here : controller_of (with_controller (after_step x.world.cluster (controller_of x.world k) (Calls e None)) (happened e x)).world k ≡ after_step x.world.cluster (controller_of x.world k) (Calls e None)
           here = put x f.stands f.leads (after_step x.world.cluster (controller_of x.world k) (Calls e None)) (happened e x) refl refl
@@ -384,21 +384,24 @@ module _ (spec : Spec) (valid : IsValid spec) (last : Option ℕ) (k : Controlle
       one false is o y now comes = cc
       one true is o y now comes = (
         comes.0,
-        (plan spec.models spec.rules (controller_of x.world k).turn.view, subst (IsFresh (Send ∷ Post ∷ []) (Some (plan spec.models spec.rules (controller_of x.world k).turn.view))) (sym comes.1) (record {
-          stands = subst (Stands spec last) comes.1 now;
-          leads = f.leads;
-          mail = f.mail;
-          jobs = f.jobs;
-          walks = f.walks;
-          tries = f.tries;
-          lefts = f.lefts;
-          calls = ap (λ (z : Controller). z.turn.left) here ∙ f.calls;
-          plan = ap (λ (z : Controller). z.plan) here;
-          epoch = ap (λ (z : Controller). z.turn.begun.epoch) here ∙ f.epoch;
-          pass = ap (λ (z : Controller). z.turn.begun.pass.0) here ∙ f.pass;
-          change = ap (λ (z : Controller). z.turn.begun.change) here ∙ f.change;
-          shown = ap (λ (z : Controller). z.turn.view.mail) here ∙ f.shown;
-        })),
+        (
+          plan spec.models spec.rules (controller_of x.world k).turn.view,
+          subst (IsFresh (Send ∷ Post ∷ []) (Some (plan spec.models spec.rules (controller_of x.world k).turn.view))) (sym comes.1) (record {
+            stands = subst (Stands spec last) comes.1 now;
+            leads = f.leads;
+            mail = f.mail;
+            jobs = f.jobs;
+            walks = f.walks;
+            tries = f.tries;
+            lefts = f.lefts;
+            calls = ap (λ (z : Controller). z.turn.left) here ∙ f.calls;
+            plan = ap (λ (z : Controller). z.plan) here;
+            epoch = ap (λ (z : Controller). z.turn.begun.epoch) here ∙ f.epoch;
+            pass = ap (λ (z : Controller). z.turn.begun.pass.0) here ∙ f.pass;
+            change = ap (λ (z : Controller). z.turn.begun.change) here ∙ f.change;
+            shown = ap (λ (z : Controller). z.turn.view.mail) here ∙ f.shown;
+          }),
+        ),
       )
         where
           here : controller_of (with_controller (record (controller_of x.world k) { plan = Some (plan spec.models spec.rules (controller_of x.world k).turn.view) }) x).world k

@@ -1,6 +1,6 @@
 -- The work of a round leaves nothing pending.
 use Rattle.std.proofs.Common.{◌≡◌, ℕ, ◌+◌, ◌<◌, ◌≤◌, ◌||◌, ◌&&◌, ◌==◌, not, Bool, true, false, List, [], ◌∷◌, length, map, find, Option, Some, None, ◌⊎◌, inl, inr, refl, sym, ap, ◌∙◌, subst, arith}
-use Rattle.std.specs.Prelude.{if◌then◌else◌, is_some, nat_lt, slice_index_or}
+use Rattle.std.specs.Prelude.{if◌then◌else◌, is_some, slice_index_or}
 use Rattle.std.specs.List.{list_any, list_all}
 use Rattle.std.specs.Option.{option_map}
 use Rattle.std.proofs.lemmas.Bool.Decides.{nat_tests}
@@ -18,20 +18,20 @@ use Rattle.hx_cluster.specs.declared.state.Message.{Message}
 use Rattle.hx_cluster.specs.declared.state.Cluster.{Cluster}
 use Rattle.hx_cluster.specs.declared.happenings.Outcome.{Outcome}
 use Rattle.hx_cluster.specs.declared.happenings.Outcome.TheVariants as outcomes
-use Rattle.hx_cluster.specs.Ends.{is_session, is_live, is_message, message_of, shown_of}
+use Rattle.hx_cluster.specs.Ends.{is_session, is_live, message_of, shown_of}
 use Rattle.hx_cluster.specs.Steps.{is_of, live_of, session_of}
 use Rattle.hx_cluster.specs.Reads.{instance_before, live_shown}
-use Rattle.hx_cluster.specs.Messages.{has_id, pending_of, as_taken, as_written, written_of, after_take, after_write, after_ack}
+use Rattle.hx_cluster.specs.Messages.{pending_of, written_of, after_take, after_write, after_ack}
 use Rattle.hx_cluster.specs.Safe.{is_pending}
 use Rattle.hx_cluster.specs.Valid.{IsValid}
 use Rattle.hx_control.specs.Controllers.{Controller, idle_controller}
 use Rattle.hx_script.specs.Ranges as Ranges
-use Rattle.hx_worlds.specs.World.{World, State, Job, answer_of}
+use Rattle.hx_worlds.specs.World.{State, Job, answer_of}
 use Rattle.hx_worlds.specs.Turns as Turns
 use Rattle.hx_worlds.specs.Jobs as Jobs
 use Rattle.hx_worlds.specs.Settles.{enough_rounds, work_all}
-use Rattle.hx_safe.proofs.Counting.{and-first, and-second, and-both, all-map, all-le, find-single, find-passes, find-any}
-use Rattle.hx_safe.proofs.Ends.{same-self, part_eq-self, session_same, find-filter}
+use Rattle.hx_safe.proofs.Counting.{and-first, and-second, all-map, all-le, find-single, find-passes, find-any}
+use Rattle.hx_safe.proofs.Ends.{same-self, part_eq-self, session_same}
 use Rattle.hx_safe.proofs.Kept.{IsKept}
 use Rattle.hx_covers.proofs.Sorting.{all-sort, each_there}
 use Rattle.hx_agreed.specs.InStep.{Each}
@@ -45,8 +45,8 @@ use Rattle.hx_bounded.specs.Ending.{IfGoesOn}
 use Rattle.hx_bounded.specs.Falling.{is_honest, IsFalling}
 use Rattle.hx_bounded.proofs.Falls.{take_falls, write_falls, ack_falls}
 use Rattle.hx_bounded.proofs.Going.{goes_so, goes_each}
-use Rattle.hx_bounded.proofs.Rounds.{IsLed, IsAtRest, IsFirstRest, IsSetOff, IsLaterRest}
-use Rattle.hx_bounded.proofs.Carrying.{IsClosed, IsWorking, OfLive, from_take, from_write, from_ack, live_written, from_none}
+use Rattle.hx_bounded.proofs.Rounds.{IsLed, IsFirstRest, IsSetOff, IsLaterRest}
+use Rattle.hx_bounded.proofs.Carrying.{IsClosed, OfLive, from_take, from_write, from_ack, live_written, from_none}
 use Rattle.hx_bounded.proofs.Working.{IsAtWork}
 use Rattle.hx_bounded.proofs.Emptying.{IsEmptyOf}
 use Rattle.hx_bounded.proofs.Running.{worked}
@@ -84,7 +84,7 @@ closed_done P H is closed = record {
   write = λ c j safe ranged k can h from p. (
     closed.write c j safe ranged k can h from p.0,
     done_same is c (after_write c j.message.session j.message.id j.outcome) (live_written c j.message.session j.message.id j.outcome)
-    (λ u q none. from_none c (after_write c j.message.session j.message.id j.outcome) (from_write c j.message.session j.message.id j.outcome) u q none) p.1,
+        (λ u q none. from_none c (after_write c j.message.session j.message.id j.outcome) (from_write c j.message.session j.message.id j.outcome) u q none) p.1,
   );
   ack = λ c s id k can p. (closed.ack c s id k can p.0, done_same is c (after_ack c s id) refl (λ u q none. from_none c (after_ack c s id) (from_ack c k s id) u q none) p.1);
   ran = closed.ran;

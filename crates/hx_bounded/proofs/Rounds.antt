@@ -1,12 +1,8 @@
 -- Rounds end, where each round after the first settles or leaves less work.
-use Rattle.std.proofs.Common.{◌≡◌, ℕ, zero, suc, ◌+◌, ◌*◌, ◌<◌, ◌≤◌, false, List, [], Option, Some, None, refl, sym, ap, ◌∙◌, subst, arith}
+use Rattle.std.proofs.Common.{◌≡◌, ℕ, zero, suc, ◌+◌, ◌<◌, false, [], Option, Some, None, refl, sym, subst, arith}
 use Rattle.hx_ids.specs.declared.ControllerId.{ControllerId}
 use Rattle.hx_cluster.specs.declared.description.Spec.{Spec}
-use Rattle.hx_cluster.specs.declared.state.Cluster.{Cluster}
-use Rattle.hx_cluster.specs.declared.planning.Report.{Report}
 use Rattle.hx_cluster.specs.Ends.{is_live}
-use Rattle.hx_cluster.specs.Steps.{opening}
-use Rattle.hx_cluster.specs.Events.{replay}
 use Rattle.hx_cluster.specs.Safe.{IsSafe}
 use Rattle.hx_cluster.specs.Ranged.{IsRanged}
 use Rattle.hx_cluster.specs.Valid.{IsValid}
@@ -14,10 +10,9 @@ use Rattle.hx_pass.specs.Left.{left_of}
 use Rattle.hx_pass.specs.Explained.{IsExplained}
 use Rattle.hx_control.specs.declared.PassOutcome.{PassOutcome}
 use Rattle.hx_control.specs.declared.PassOutcome.TheVariants as ends
-use Rattle.hx_worlds.specs.declared.Settled.{Settled}
 use Rattle.hx_worlds.specs.declared.Voice.TheVariants.{Quiet}
 use Rattle.hx_worlds.specs.World.{State}
-use Rattle.hx_worlds.specs.Runs.{Run, gives, and_then}
+use Rattle.hx_worlds.specs.Runs.{gives, and_then}
 use Rattle.hx_worlds.specs.Turns as Turns
 use Rattle.hx_worlds.specs.Settles.{enough_rounds, work_all, unless_settled, rounds, settle_led}
 use Rattle.hx_safe.proofs.Whole.{reached_safe, reached_ranged}
@@ -73,9 +68,8 @@ module _ (spec : Spec) (valid : IsValid spec) (last : Option ℕ) (k : Controlle
     (first_turn : (x : State) → Stands spec last x → x.world.cluster.leader ≡ Some k → IfGoesOn (IsFirstTurn spec last k (enough_rounds x.world.cluster)) (Turns.do_pass Quiet k x))
     (first_work : (enough : ℕ) (y : State) → IsLed spec last k y → enough_rounds y.world.cluster ≡ enough → IfGoesOn (λ _ z. IsFirstRest spec last k enough z) (work_all y))
     (later_turn : (x : State) → IsAtRest spec last k x
-        → IfGoesOn (IsLaterTurn spec last k (all_walks x.world.cluster) (tries_left x.world.cluster) (left_of x.world.cluster)) (Turns.do_pass Quiet k x))
+    → IfGoesOn (IsLaterTurn spec last k (all_walks x.world.cluster) (tries_left x.world.cluster) (left_of x.world.cluster)) (Turns.do_pass Quiet k x))
     (later_work : (w t l : ℕ) (y : State) → IsSetOff spec last k w t l y → IfGoesOn (λ _ z. IsLaterRest spec last k w t l z) (work_all y)) where
-
   -- the rounds after the first
   rounds_end : (m n : ℕ) (x : State) → IsAtRest spec last k x → work_left x.world.cluster < m → IfGoesOn (λ s y. HasSettled (n + m) y s) (rounds m k n x)
   rounds_end zero n x rest less = absurd (omega (arith, less))

@@ -1,10 +1,8 @@
 -- Work on a live instance, and on all of them: nothing is pending after it.
-use Rattle.std.proofs.Common.{◌≡◌, ℕ, ◌+◌, ◌<◌, ◌≤◌, ◌||◌, ◌&&◌, ◌==◌, not, Bool, true, false, List, [], ◌∷◌, ◌++◌, length, map, filter, find, Option, Some, None, ◌⊎◌, inl, inr, refl, sym, ap, ◌∙◌, subst, arith}
-use Rattle.std.specs.Prelude.{if◌then◌else◌, nat_le, nat_lt, slice_set}
-use Rattle.std.specs.List.{list_any, list_all, filter_map}
+use Rattle.std.proofs.Common.{◌≡◌, ℕ, ◌<◌, ◌||◌, ◌&&◌, ◌==◌, Bool, true, false, List, [], ◌∷◌, ◌++◌, length, filter, Option, Some, None, refl, sym, ap, ◌∙◌, subst, arith}
+use Rattle.std.specs.Prelude.{nat_le, slice_set}
+use Rattle.std.specs.List.{list_any, filter_map}
 use Rattle.std.specs.Option.{option_map}
-use Rattle.std.proofs.lemmas.Bool.Decides.{nat_tests}
-use Rattle.hx_lists.specs.Lists.{sort_by}
 use Rattle.hx_ids.specs.declared.InstanceId.{InstanceId}
 use Rattle.hx_ids.specs.declared.SessionId.{SessionId}
 use Rattle.hx_ids.specs.declared.MsgId.{MsgId}
@@ -14,9 +12,8 @@ use Rattle.hx_cluster.specs.declared.description.Spec.{Spec}
 use Rattle.hx_cluster.specs.declared.state.Message.{Message}
 use Rattle.hx_cluster.specs.declared.state.Cluster.{Cluster}
 use Rattle.hx_cluster.specs.Ends.{part_eq, message_of}
-use Rattle.hx_cluster.specs.Steps.{live_of, session_of}
+use Rattle.hx_cluster.specs.Steps.{live_of}
 use Rattle.hx_cluster.specs.Reads.{fetched}
-use Rattle.hx_cluster.specs.Messages.{is_same}
 use Rattle.hx_cluster.specs.Valid.{IsValid}
 use Rattle.hx_control.specs.Controllers.{Controller}
 use Rattle.hx_replicas.specs.declared.slots.Work.{Work}
@@ -25,12 +22,11 @@ use Rattle.hx_replicas.specs.Participants.{Participant, slot_of, accepted_of, ha
 use Rattle.hx_script.specs.Ranges as Ranges
 use Rattle.hx_worlds.specs.declared.Voice.TheVariants.{Quiet}
 use Rattle.hx_worlds.specs.World.{World, State, Job, participant_of}
-use Rattle.hx_worlds.specs.Runs.{and_then, for_each}
+use Rattle.hx_worlds.specs.Runs.{and_then}
 use Rattle.hx_worlds.specs.Jobs as Jobs
-use Rattle.hx_safe.proofs.Counting.{and-first, and-second, and-both, any-append}
-use Rattle.hx_safe.proofs.Ends.{same-self, part_eq-self}
+use Rattle.hx_safe.proofs.Counting.{any-append}
+use Rattle.hx_safe.proofs.Ends.{part_eq-self}
 use Rattle.hx_safe.proofs.Ideals.{length-put}
-use Rattle.hx_safe.proofs.Kept.{IsKept}
 use Rattle.hx_agreed.specs.InStep.{of_instance, IsAcceptedHere, HasWork}
 use Rattle.hx_agreed.proofs.Frames.{same_is}
 use Rattle.hx_agreed.proofs.Replicas.{here_put, one_bagged}
@@ -40,7 +36,7 @@ use Rattle.hx_bounded.specs.Ending.{IfGoesOn}
 use Rattle.hx_bounded.proofs.Going.{goes_then, goes_so, goes_each}
 use Rattle.hx_bounded.proofs.Ends
 use Rattle.hx_bounded.proofs.Later.{IsLater, later_self, later_both, le_both, handed_later, handed_gone, finished_later, IsFrom}
-use Rattle.hx_bounded.proofs.Carrying.{IsClosed, IsWorking, IsCarried, from_self, from_both, from_take}
+use Rattle.hx_bounded.proofs.Carrying.{IsClosed, from_self, from_both, from_take}
 use Rattle.hx_bounded.proofs.Working.{IsAtWork, low_there, taken, IsGone, carry_ends}
 use Rattle.hx_bounded.proofs.Emptying.{IsEmptyOf, IsJobless, AreSeen, has_its, AreListed, any_filtered, same_number, work_listed, accepted_none, accepted_number, all_listed, session_now, IsReady, emptied}
 use Rattle.hx_bounded.proofs.Delivering.{IsDelivered, fetched_and_delivered}
@@ -56,7 +52,6 @@ any_listed i x id =
 
 module _ (spec : Spec) (valid : IsValid spec) (last : Option ℕ) (P : Cluster → Type 0) (H : Job → Type 0) (closed : IsClosed P H) (live : List Live) (ks : List Controller)
     (i : InstanceId) (low : i.0 < length spec.instances) where
-
   -- open jobs are carried to their ends
   record IsCarrying (js : List Job) (x : State) : Type 0 where
     at_work : IsAtWork spec valid last P H closed live ks x
@@ -245,9 +240,12 @@ module _ (spec : Spec) (valid : IsValid spec) (last : Option ℕ) (P : Cluster �
         → IfGoesOn (λ _ y. IsAtWork spec valid last P H closed live ks y × IsEmptyOf y.world.cluster i) (Jobs.do_work i x)
     worked there x a =
         goes_so (λ _ y. IsRun y) (λ _ y. IsAtWork spec valid last P H closed live ks y × IsEmptyOf y.world.cluster i) (Jobs.do_work i x) (work_done there x a)
-        (λ _ y here. (here.at_work, λ u is q.
-        let mine = session_now spec valid last P H closed live ks i low s own y here.at_work in
-        subst (λ (v : SessionId). message_of y.world.cluster.mail v q ≡ None) (session_is s u (sym mine ∙ is)) (here.empty q)))
+        (λ _ y here. (
+          here.at_work,
+          λ u is q.
+              let mine = session_now spec valid last P H closed live ks i low s own y here.at_work in
+              subst (λ (v : SessionId). message_of y.world.cluster.mail v q ≡ None) (session_is s u (sym mine ∙ is)) (here.empty q),
+        ))
       where
         session_is : (a b : SessionId) → Some a ≡ Some b → a ≡ b
         session_is a b e = cc

@@ -1,5 +1,5 @@
 -- Settles end.
-use Rattle.std.proofs.Common.{◌≡◌, ℕ, ◌+◌, ◌*◌, ◌<◌, ◌==◌, Bool, true, false, List, [], ◌∷◌, Option, Some, None, refl, sym, ap, ◌∙◌, subst}
+use Rattle.std.proofs.Common.{◌≡◌, ℕ, ◌<◌, Bool, true, false, List, [], Option, Some, None, refl, sym, ap, ◌∙◌, subst}
 use Rattle.hx_ids.specs.declared.InstanceId.{InstanceId}
 use Rattle.hx_ids.specs.declared.ControllerId.{ControllerId}
 use Rattle.hx_ids.specs.declared.SessionId.{SessionId}
@@ -10,7 +10,7 @@ use Rattle.hx_cluster.specs.declared.state.Message.{Message}
 use Rattle.hx_cluster.specs.declared.state.Cluster.{Cluster}
 use Rattle.hx_cluster.specs.declared.happenings.Outcome.{Outcome}
 use Rattle.hx_cluster.specs.Ends.{is_live, limit_at, message_of}
-use Rattle.hx_cluster.specs.Messages.{pending_of, after_take, after_write, after_ack}
+use Rattle.hx_cluster.specs.Messages.{pending_of, after_write, after_ack}
 use Rattle.hx_cluster.specs.Events.{can_write, can_ack}
 use Rattle.hx_cluster.specs.Safe.{IsSafe}
 use Rattle.hx_cluster.specs.Ranged.{IsRanged}
@@ -37,7 +37,7 @@ use Rattle.hx_bounded.specs.Rounds.{IsSound, HasNothingToDo, IsBetweenRounds, Is
 use Rattle.hx_bounded.proofs.Counting.{work_falls}
 use Rattle.hx_bounded.proofs.Falls.{write_falls, ack_falls}
 use Rattle.hx_bounded.proofs.Going.{goes_so}
-use Rattle.hx_bounded.proofs.Rounds.{IsLed, IsAtRest, IsSetOff, IsLaterTurn, IsLaterRest, safe_there, ranged_there, led_ends}
+use Rattle.hx_bounded.proofs.Rounds.{IsSetOff, IsLaterTurn, IsLaterRest, safe_there, ranged_there, led_ends}
 use Rattle.hx_bounded.proofs.Turning.{IsTold, IsThrough, turn_through, first_turn}
 use Rattle.hx_bounded.proofs.Passing.{jobs_dead, later_turn}
 use Rattle.hx_bounded.proofs.Resting.{any_work, first_work, later_work}
@@ -97,8 +97,7 @@ rounds_fall spec k x valid b =
         (λ _ z. IsBetweenRounds spec k z × (work_left z.world.cluster < work_left x.world.cluster)) (work_all y)
         (later_work spec valid x.world.cluster.line k (all_walks x.world.cluster) (tries_left x.world.cluster) (left_of x.world.cluster) y off)
         (λ _ z e.
-        let s = e.0.led.stands in
-        (
+        let s = e.0.led.stands in (
           record { sound = sound_of spec x.world.cluster.line z s; leads = e.0.led.leads; idle = e.0.led.idle; rest = nothing_to_do spec x.world.cluster.line z s e.0.mail },
           work_falls (all_walks x.world.cluster) (tries_left x.world.cluster) (left_of x.world.cluster) z.world.cluster (safe_there spec valid x.world.cluster.line z s) (ranged_there spec valid x.world.cluster.line z s) e.0.mail e.1,
         ))
@@ -112,14 +111,14 @@ rounds_fall spec k x valid b =
     one (Some (ends.Settled r)) y explained = explained
 
 -- settles
-pub settles : (spec : Spec) (x : State) → IsValid spec → IsSound spec x.world → IfGoesOn (IsEnd x.world.cluster x.world.cluster.leader) (settle x)
-settles spec x valid s = one x.world.cluster.leader refl
+pub settles : (spec : Spec) (x : State) → IsValid spec → IsOfItsHistory spec x.world → IsInStep x.world → IfGoesOn (IsEnd x.world.cluster x.world.cluster.leader) (settle x)
+settles spec x valid of in_step = one x.world.cluster.leader refl
   where
     one : (o : Option ControllerId) → x.world.cluster.leader ≡ o → IfGoesOn (IsEnd x.world.cluster o) (settle_led o x)
     one None is = record { to = refl }
     one (Some k) is =
         let last = x.world.cluster.line in
-        led_ends spec valid last k (first_turn spec valid last k) (first_work spec valid last k) (later_turn spec valid last k) (later_work spec valid last k) x (stands_of spec x s) is
+        led_ends spec valid last k (first_turn spec valid last k) (first_work spec valid last k) (later_turn spec valid last k) (later_work spec valid last k) x (stands_of spec x (record { of = of; in_step = in_step })) is
 
 -- and the laws of single events
 pub written_falls : (w t l : ℕ) (c : Cluster) (s : SessionId) (id : MsgId) (m : Message) (o : Outcome) → IsSafe c → IsRanged c → can_write c s id ≡ true → pending_of c s id ≡ Some m → is_honest m o ≡ true

@@ -1,42 +1,34 @@
 -- What the steps of the leader's turn come to.
-use Rattle.std.proofs.Common.{◌≡◌, ℕ, zero, suc, ◌+◌, ◌*◌, ◌<◌, ◌||◌, ◌&&◌, ◌==◌, not, Bool, true, false, List, [], ◌∷◌, ◌++◌, length, drop, map, Option, Some, None, ◌⊎◌, inl, inr, refl, sym, ap, ◌∙◌, subst, arith}
-use Rattle.std.specs.Prelude.{if◌then◌else◌, nat_lt, slice_get, slice_set, slice_index_or}
+use Rattle.std.proofs.Common.{◌≡◌, ℕ, ◌+◌, ◌*◌, ◌<◌, ◌&&◌, ◌==◌, Bool, true, false, List, [], ◌∷◌, length, Option, Some, None, refl, sym, ap, ◌∙◌, subst, arith}
+use Rattle.std.specs.Prelude.{if◌then◌else◌, slice_get, slice_set, slice_index_or}
 use Rattle.std.specs.Option.{option_map_or}
 use Rattle.std.proofs.lemmas.Bool.Decides.{nat_tests}
 use Rattle.std.proofs.lemmas.List.Elements.{All-weaker}
 use Rattle.hx_ids.specs.declared.ControllerId.{ControllerId}
 use Rattle.hx_ids.specs.declared.PassNo.{PassNo}
-use Rattle.hx_ids.specs.declared.SessionId.{SessionId}
-use Rattle.hx_ids.specs.declared.InstanceId.{InstanceId}
 use Rattle.hx_cluster.specs.declared.description.Spec.{Spec}
 use Rattle.hx_cluster.specs.declared.state.Cluster.{Cluster}
 use Rattle.hx_cluster.specs.declared.planning.Report.{Report}
 use Rattle.hx_cluster.specs.declared.planning.Target.{Target}
 use Rattle.hx_cluster.specs.declared.planning.Finding.{Finding}
 use Rattle.hx_cluster.specs.declared.planning.Finding.TheVariants as findings
-use Rattle.hx_cluster.specs.declared.planning.Plan.{Plan}
 use Rattle.hx_cluster.specs.declared.happenings.Proposal.{Proposal}
 use Rattle.hx_cluster.specs.declared.happenings.Placed.{Placed}
 use Rattle.hx_cluster.specs.declared.happenings.Placed.TheVariants as placings
-use Rattle.hx_cluster.specs.declared.happenings.Event.{Event}
-use Rattle.hx_cluster.specs.declared.happenings.Event.TheVariants as events
 use Rattle.hx_cluster.specs.declared.happenings.Seen.{Seen}
-use Rattle.hx_cluster.specs.Steps.{opening, is_leader, has_controller}
-use Rattle.hx_cluster.specs.Reads.{live_shown, pass_of}
+use Rattle.hx_cluster.specs.Steps.{has_controller}
 use Rattle.hx_cluster.specs.Messages.{placed_of, after_placed, after_proposal, after_proposals, raised_pass, next_pass, after_dispatch}
-use Rattle.hx_cluster.specs.Events.{next, replay, begun_of, dispatched_of, is_pass, is_epoch}
 use Rattle.hx_cluster.specs.Valid.{IsValid}
-use Rattle.hx_pass.specs.Turns.{Call, Live, Mail, States, Ideals, Send, Post, Turn, idle_turn, begun_turn, is_first, is_due, is_of_epoch, calls_after_live, with_live, gone_on, if_due, when_own, turn_after, posted_of}
+use Rattle.hx_pass.specs.Turns.{Call, Turn, is_first, is_due, if_due, when_own}
 use Rattle.hx_pass.specs.Explained.{IsReason, IsExplained}
 use Rattle.hx_control.specs.declared.PassOutcome.{PassOutcome}
-use Rattle.hx_control.specs.declared.PassOutcome.TheVariants as ends
 use Rattle.hx_control.specs.declared.ControlFault.{ControlFault}
 use Rattle.hx_control.specs.declared.ControlFault.TheVariants as faults
 use Rattle.hx_control.specs.Controllers.{Controller, idle_controller}
-use Rattle.hx_control.specs.Steps.{Step, Calls, Plans, Refuses, outcome_of, is_of_cluster, begin_step, read_step, dispatch_step, planned_step, post_step, of_cluster, step_at, step_of, after_step}
+use Rattle.hx_control.specs.Steps.{Step, Calls, Plans, Refuses, step_at, step_of, after_step}
 use Rattle.hx_worlds.specs.declared.Voice.TheVariants.{Quiet}
-use Rattle.hx_worlds.specs.World.{World, State, controller_of, with_controller}
-use Rattle.hx_worlds.specs.Runs.{done, gives, and_then, happened}
+use Rattle.hx_worlds.specs.World.{State, controller_of, with_controller}
+use Rattle.hx_worlds.specs.Runs.{gives, and_then, happened}
 use Rattle.hx_worlds.specs.Turns as Turns
 use Rattle.hx_worlds.specs.Settles.{all_parts, most_states, enough_rounds}
 use Rattle.hx_safe.proofs.Ends.{same-self}

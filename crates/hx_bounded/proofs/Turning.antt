@@ -1,5 +1,5 @@
 -- A turn of the leader ends idle, and explains the board where it settles.
-use Rattle.std.proofs.Common.{◌≡◌, ℕ, zero, suc, ◌+◌, ◌<◌, ◌||◌, ◌&&◌, ◌==◌, not, Bool, true, false, List, [], ◌∷◌, ◌++◌, length, drop, Option, Some, None, ◌⊎◌, inl, inr, refl, sym, ap, ◌∙◌, subst, arith}
+use Rattle.std.proofs.Common.{◌≡◌, ℕ, zero, suc, ◌<◌, ◌&&◌, not, Bool, true, false, List, [], ◌∷◌, ◌++◌, length, drop, Option, Some, None, ◌⊎◌, inl, inr, refl, sym, ap, ◌∙◌, subst, arith}
 use Rattle.std.specs.Prelude.{if◌then◌else◌}
 use Rattle.hx_ids.specs.declared.ControllerId.{ControllerId}
 use Rattle.hx_ids.specs.declared.SessionId.{SessionId}
@@ -10,14 +10,14 @@ use Rattle.hx_cluster.specs.declared.planning.Report.{Report}
 use Rattle.hx_cluster.specs.declared.planning.Plan.{Plan}
 use Rattle.hx_cluster.specs.declared.happenings.Event.{Event}
 use Rattle.hx_cluster.specs.declared.happenings.Event.TheVariants as events
-use Rattle.hx_cluster.specs.Steps.{opening, is_leader}
+use Rattle.hx_cluster.specs.Steps.{is_leader}
 use Rattle.hx_cluster.specs.Reads.{live_shown, mail_shown, states_shown, ideals_shown, pass_of}
-use Rattle.hx_cluster.specs.Events.{next, replay, begun_of, dispatched_of, is_pass, is_epoch}
+use Rattle.hx_cluster.specs.Events.{next, begun_of, dispatched_of, is_pass, is_epoch}
 use Rattle.hx_cluster.specs.Valid.{IsValid}
 use Rattle.hx_pass.specs.Turns.{Call, Live, Mail, States, Ideals, Send, Post, Turn, idle_turn, begun_turn, is_first, is_due, is_of_epoch, calls_after_live, with_live, gone_on, if_due, turn_of, turn_after, posted_of}
 use Rattle.hx_pass.specs.Plans.{plan}
 use Rattle.hx_pass.specs.Explained.{IsExplained}
-use Rattle.hx_covers.specs.Reading.{may_follow, is_in_order_from, is_in_order}
+use Rattle.hx_covers.specs.Reading.{is_in_order}
 use Rattle.hx_covers.proofs.Whole.{turn_law}
 use Rattle.hx_control.specs.declared.PassOutcome.{PassOutcome}
 use Rattle.hx_control.specs.declared.PassOutcome.TheVariants as ends
@@ -26,8 +26,8 @@ use Rattle.hx_control.specs.declared.ControlFault.TheVariants as faults
 use Rattle.hx_control.specs.Controllers.{Controller, idle_controller}
 use Rattle.hx_control.specs.Steps.{Step, Calls, Plans, Refuses, outcome_of, is_of_cluster, begin_step, read_step, dispatch_step, planned_step, post_step, of_cluster, step_at, step_of, after_step}
 use Rattle.hx_worlds.specs.declared.Voice.TheVariants.{Quiet}
-use Rattle.hx_worlds.specs.World.{World, State, controller_of, with_controller}
-use Rattle.hx_worlds.specs.Runs.{Run, gives, go_on, happened}
+use Rattle.hx_worlds.specs.World.{State, controller_of, with_controller}
+use Rattle.hx_worlds.specs.Runs.{gives, go_on, happened}
 use Rattle.hx_worlds.specs.Turns as Turns
 use Rattle.hx_worlds.specs.Settles.{enough_rounds}
 use Rattle.hx_safe.proofs.Ends.{same-self}

@@ -1,16 +1,13 @@
 -- What holds of a world stays as messages are taken, written and acknowledged.
-use Rattle.std.proofs.Common.{◌≡◌, ℕ, ◌<◌, ◌||◌, ◌&&◌, ◌==◌, not, Bool, true, false, List, [], ◌∷◌, ◌++◌, length, map, filter, find, Option, Some, None, refl, sym, ap, ◌∙◌, subst, arith}
+use Rattle.std.proofs.Common.{◌≡◌, ℕ, ◌<◌, not, Bool, true, false, List, length, Option, refl, sym, ap, ◌∙◌, subst, arith}
 use Rattle.std.specs.Prelude.{if◌then◌else◌}
 use Rattle.std.specs.List.{list_any}
-use Rattle.std.proofs.lemmas.Bool.Decides.{nat_tests}
 use Rattle.hx_ids.specs.declared.InstanceId.{InstanceId}
 use Rattle.hx_ids.specs.declared.MsgId.{MsgId}
 use Rattle.hx_ids.specs.declared.Live.{Live}
 use Rattle.hx_cluster.specs.declared.description.Spec.{Spec}
-use Rattle.hx_cluster.specs.declared.state.Message.{Message}
 use Rattle.hx_cluster.specs.declared.state.Cluster.{Cluster}
 use Rattle.hx_cluster.specs.Ends.{is_live}
-use Rattle.hx_cluster.specs.Messages.{pending_of}
 use Rattle.hx_cluster.specs.Valid.{IsValid}
 use Rattle.hx_replicas.specs.Participants.{accepted_by}
 use Rattle.hx_control.specs.Controllers.{Controller}
@@ -27,7 +24,7 @@ use Rattle.hx_bounded.specs.Ending.{IfGoesOn}
 use Rattle.hx_bounded.proofs.Going.{goes_then, goes_too, goes_so}
 use Rattle.hx_bounded.proofs.Rounds.{safe_there, ranged_there}
 use Rattle.hx_bounded.proofs.Ends
-use Rattle.hx_bounded.proofs.Carrying.{IsClosed, OfLive, IsWorking, write_live, live_written, can_live, IsCarried, WrittenIs, write_carries, ack_carries, carried_both}
+use Rattle.hx_bounded.proofs.Carrying.{IsClosed, OfLive, IsWorking, write_live, live_written, can_live, IsCarried, write_carries, ack_carries, carried_both}
 
 module _ (spec : Spec) (valid : IsValid spec) (last : Option ℕ) (P : Cluster → Type 0) (H : Job → Type 0) (closed : IsClosed P H) (live : List Live) (ks : List Controller) where
   abbrev Works : World → Type 0

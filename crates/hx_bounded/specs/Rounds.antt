@@ -1,5 +1,5 @@
 -- The rounds of a settle.
-use Rattle.std.specs.Prelude.{◌≡◌, ◌<◌, ℕ, false, List, [], Option, Some}
+use Rattle.std.specs.Prelude.{◌≡◌, ◌<◌, ℕ, false, [], Option, Some}
 use Rattle.hx_ids.specs.declared.InstanceId.{InstanceId}
 use Rattle.hx_ids.specs.declared.ControllerId.{ControllerId}
 use Rattle.hx_ids.specs.declared.PartId.{PartId}

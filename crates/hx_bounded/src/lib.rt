@@ -29,6 +29,8 @@ ghost use Rattle.hx_worlds.specs.declared.Voice.TheVariants.{Quiet};
 ghost use Rattle.hx_worlds.specs.World.{State};
 ghost use Rattle.hx_worlds.specs.Turns.{do_pass};
 ghost use Rattle.hx_worlds.specs.Settles.{enough_rounds, work_all, settle};
+ghost use Rattle.hx_scripted.specs.OfHistory.{IsOfItsHistory};
+ghost use Rattle.hx_agreed.specs.InStep.{IsInStep};
 ghost use Rattle.hx_settled.specs.Places.{tries_left};
 ghost use Rattle.hx_bounded.specs.Ending.{IfGoesOn, IsEnd};
 ghost use Rattle.hx_bounded.specs.Measure.{all_walks, work_left};
@@ -109,6 +111,7 @@ pub fn later_rounds_settle_or_leave_less()
 /// settles in no more rounds than are enough for the cluster that it began with, and its report
 /// explains the cluster that it leaves.
 pub fn settles_end()
-    ensures { (spec : Spec) (x : State) → IsValid spec → IsSound spec x.world
+    ensures { (spec : Spec) (x : State) → IsValid spec → IsOfItsHistory spec x.world
+        → IsInStep x.world
         → IfGoesOn (IsEnd x.world.cluster x.world.cluster.leader) (settle x) }
 {}
