@@ -2,7 +2,9 @@
 ghost use Rattle.std.specs.Prelude.{◌≡◌, length};
 ghost use Rattle.hx_lists.specs.Lists.{count};
 ghost use Rattle.hx_cluster.specs.Reads.{nothing_shown};
-ghost use Rattle.hx_control.specs.Controllers.{idle_controller, stage, is_mail_call, is_states_call};
+ghost use Rattle.hx_control.specs.Controllers.{idle_controller, stage};
+ghost use Rattle.hx_control.specs.Controllers.{is_mail_call, is_states_call};
+ghost use Rattle.hx_control.specs.Turning.{others_at};
 
 use crate::Stage;
 use hx_cluster::{Begun, Ideals, Plan, View};
@@ -23,6 +25,18 @@ pub(crate) enum Next {
     Ideals,
     Send,
     Post,
+}
+
+/// How many calls are left beside the reads of mail and of states.
+fn others(next: Next) -> usize
+    ensures { result ≡ others_at next }
+{
+    match next {
+        Next::Begin => 0,
+        Next::Live | Next::Post => 1,
+        Next::Send => 2,
+        Next::Mail(_) | Next::States(_) | Next::Ideals => 3,
+    }
 }
 
 /// What a turn was shown before its first read.
@@ -135,17 +149,11 @@ impl Controller {
 
     /// How many calls of the turn are left, none where it is idle. The reads of each session count
     /// once the sessions are known. It takes no memory.
-    #[tactic(auto, using(crate::proofs::Left::calls_left))]
     pub fn calls_left(&self) -> usize
         ensures { result ≡ length self.now.turn.left }
     {
-        let behind = match self.next {
-            Next::Begin => 0,
-            Next::Live | Next::Post => 1,
-            Next::Send => 2,
-            Next::Mail(_) | Next::States(_) | Next::Ideals => 3,
-        };
-        self.mail_left() + self.states_left() + behind
+        let others = others(self.next);
+        self.mail_left() + self.states_left() + others
     }
 
     /// Ends its turn. It takes no memory.

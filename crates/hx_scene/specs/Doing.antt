@@ -59,7 +59,7 @@ pub record IsBelow (most : ℕ) (p : ParticipantState) : Type 0 where
 pub record IsCounted (s : SceneState) : Type 0 where
   pub few : s.handed ≤ 2 ^ 62
   pub staff : All (IsBelow s.handed) s.staff
-  pub open : All (λ j. IsRunsBelow s.handed (plain_job j).handler) s.open
+  pub jobs : All (λ j. IsRunsBelow s.handed (plain_job j).handler) s.jobs
 
 -- what an operation keeps of a scene
 pub record Keeps (s u : SceneState) (asked : List Asked) : Type 0 where

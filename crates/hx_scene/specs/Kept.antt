@@ -18,4 +18,4 @@ pub record IsScene (s : SceneState) : Type 0 where
   pub history : HasHistory s.board
   pub of_history : IsOfItsHistory s.spec (world_of s)
   pub in_step : IsInStep (world_of s)
-  pub listed : All (IsListed (lists_of s)) s.open
+  pub listed : All (IsListed (lists_of s)) s.jobs

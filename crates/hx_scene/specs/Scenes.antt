@@ -32,7 +32,7 @@ pub record SceneState : Type 0 where
   pub board : Held
   pub controllers : List Controller
   pub staff : List ParticipantState
-  pub open : List OpenState
+  pub jobs : List OpenState
   pub bag : List Message
   pub handed : ℕ
 
@@ -43,7 +43,7 @@ world_of s = record {
   cluster = s.board.cluster;
   controllers = s.controllers;
   participants = map (λ p. p.plain) s.staff;
-  jobs = map plain_job s.open;
+  jobs = map plain_job s.jobs;
   bag = s.bag;
   history = s.board.history;
   weight = weight_at s.board;

@@ -47,7 +47,7 @@ impl<F: Factory> Model for Scene<F> {
       board = a.board;
       controllers = a.controllers.items;
       staff = a.participants.items;
-      open = a.jobs.items;
+      jobs = a.jobs.items;
       bag = a.bag.items;
       handed = a.handed;
     } };
@@ -58,7 +58,7 @@ impl<F: Factory> Model for Scene<F> {
           board = a.board;
           controllers = a.controllers.items;
           staff = a.participants.items;
-          open = a.jobs.items;
+          jobs = a.jobs.items;
           bag = a.bag.items;
           handed = a.handed;
         })
@@ -99,7 +99,7 @@ impl<F: Factory> Scene<F> {
           board = board;
           controllers = controllers.items;
           staff = participants.items;
-          open = [];
+          jobs = [];
           bag = [];
           handed = 0;
         }) }
@@ -108,7 +108,7 @@ impl<F: Factory> Scene<F> {
           board = board;
           controllers = controllers.items;
           staff = participants.items;
-          open = [];
+          jobs = [];
           bag = [];
           handed = 0;
         }) }

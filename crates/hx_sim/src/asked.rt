@@ -1,5 +1,11 @@
 //! The step that a script line asks for.
 
+ghost use Rattle.std.specs.Prelude.{◌≡◌, ◌≤◌, true, [], replicate, IfOk};
+ghost use Rattle.hx_script.specs.Asked.{part_at, step_asked};
+ghost use Rattle.hx_script.specs.NewIdeals.{bare_mode, bare_ideal};
+ghost use Rattle.hx_script.specs.Modes.{mode_numbered};
+ghost use Rattle.hx_script.specs.Ranges.{is_in_range};
+
 use crate::World;
 use hx_cluster::Admin;
 use hx_handler::Factory;
@@ -10,7 +16,9 @@ use hx_script::{What, mode_numbered};
 use std::alloc::{AllocError, Global};
 
 /// So many empty lists.
-fn empty_lists<T: Drop>(alloc: Global, count: u32) -> Result<Seq<Seq<T>>, AllocError> {
+fn empty_lists<T: Drop>(alloc: Global, count: u32) -> Result<Seq<Seq<T>>, AllocError>
+    ensures { IfOk result (λ lists. lists ≡ replicate count []) }
+{
     let mut lists = Vec::with_capacity(alloc, count as usize)?;
     for _ in 0..count {
         lists.push_reserved(Seq::new(alloc));
@@ -19,7 +27,9 @@ fn empty_lists<T: Drop>(alloc: Global, count: u32) -> Result<Seq<Seq<T>>, AllocE
 }
 
 /// A mode with empty lists or maps.
-fn bare_mode(alloc: Global, mode: u8, parts: u32) -> Result<Mode, AllocError> {
+fn bare_mode(alloc: Global, mode: u8, parts: u32) -> Result<Mode, AllocError>
+    ensures { IfOk result (λ m. m ≡ bare_mode (mode_numbered mode) parts) }
+{
     Ok(match mode_numbered(mode) {
         Some(ModeKind::FullAuto) => Mode::Full,
         Some(ModeKind::SemiAuto) => Mode::Semi(empty_lists(alloc, parts)?),
@@ -28,7 +38,11 @@ fn bare_mode(alloc: Global, mode: u8, parts: u32) -> Result<Mode, AllocError> {
 }
 
 /// What is wanted of a resource that a line adds.
-fn bare_ideal(alloc: Global, replicas: u32, parts: u32, mode: u8) -> Result<Ideal, AllocError> {
+fn bare_ideal(alloc: Global, replicas: u32, parts: u32, mode: u8) -> Result<Ideal, AllocError>
+    requires replicas { (1 ≤ replicas) × (replicas ≤ 64) }
+    requires parts { (1 ≤ parts) × (parts ≤ 1024) }
+    ensures { IfOk result (λ ideal. ideal ≡ bare_ideal replicas parts mode) }
+{
     let mode = bare_mode(alloc, mode, parts)?;
     match Ideal::check(replicas, parts, mode, 0, &[]) {
         Ok(ideal) => Ok(ideal),
@@ -36,24 +50,33 @@ fn bare_ideal(alloc: Global, replicas: u32, parts: u32, mode: u8) -> Result<Idea
     }
 }
 
-fn part_at(index: u32, resource: ResourceId) -> PartId {
+fn part_at(index: u32, resource: ResourceId) -> PartId
+    ensures { result ≡ part_at index resource }
+{
     PartId { resource, index }
 }
 
-fn copied_list(alloc: Global, list: &[InstanceId]) -> Result<Seq<InstanceId>, AllocError> {
+fn copied_list(alloc: Global, list: &[InstanceId]) -> Result<Seq<InstanceId>, AllocError>
+    ensures { IfOk result (λ copy. copy ≡ list.now) }
+{
     Seq::from_slice(alloc, list)
 }
 
 fn copied_map(
     alloc: Global,
     map: &[(InstanceId, StateId)],
-) -> Result<Seq<(InstanceId, StateId)>, AllocError> {
+) -> Result<Seq<(InstanceId, StateId)>, AllocError>
+    ensures { IfOk result (λ copy. copy ≡ map.now) }
+{
     Seq::from_slice(alloc, map)
 }
 
 impl<F: Factory> World<F> {
     /// The step that a line asks for, unless it names no resource.
-    pub(crate) fn step_asked(&self, what: &What) -> Result<Option<Admin>, AllocError> {
+    pub(crate) fn step_asked(&self, what: &What) -> Result<Option<Admin>, AllocError>
+        requires { is_in_range self.now.spec what.now ≡ true }
+        ensures { IfOk result (λ step. step ≡ step_asked self.now.board.cluster what.now) }
+    {
         let alloc = self.scene.alloc();
         let board = self.scene.board();
         Ok(match what {

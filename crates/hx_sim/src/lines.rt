@@ -1,5 +1,14 @@
 //! What a script line does.
 
+ghost use Rattle.std.specs.Prelude.{◌≡◌, true};
+ghost use Rattle.hx_cluster.specs.Steps.{has_instance, has_controller};
+ghost use Rattle.hx_script.specs.Asked.{step_asked};
+ghost use Rattle.hx_script.specs.Ranges.{is_in_range};
+ghost use Rattle.hx_worlds.specs.Jobs.{do_deliver};
+ghost use Rattle.hx_worlds.specs.Turns.{do_begin, do_read, without_outcome};
+ghost use Rattle.hx_worlds.specs.Scripts.{do_what, do_asked};
+ghost use Rattle.hx_scene.specs.Doing.{DoesDeed};
+
 use crate::World;
 use hx_board::RoomFault;
 use hx_handler::Factory;
@@ -16,7 +25,11 @@ impl<F: Factory> World<F> {
         voice: Voice,
         what: &What,
         out: &mut Page,
-    ) -> Result<(), RoomFault> {
+    ) -> Result<(), RoomFault>
+        requires { is_in_range self.old.spec what.now ≡ true }
+        ensures { DoesDeed (λ x. do_what voice what.now x)
+            self.old out.old self.new out.new result }
+    {
         match what {
             What::Die(i) => self.scene.die(voice, *i, out),
             What::Begin(k) => self.begin(voice, *k, out),
@@ -50,7 +63,11 @@ impl<F: Factory> World<F> {
         voice: Voice,
         what: &What,
         out: &mut Page,
-    ) -> Result<(), RoomFault> {
+    ) -> Result<(), RoomFault>
+        requires { is_in_range self.old.spec what.now ≡ true }
+        ensures { DoesDeed (λ x. do_asked voice (step_asked x.world.cluster what.now) x)
+            self.old out.old self.new out.new result }
+    {
         match self.step_asked(what)? {
             Some(step) => self.scene.step(voice, &step, out),
             None => self.scene.note(voice, &Note::NoResource, out),
@@ -64,7 +81,11 @@ impl<F: Factory> World<F> {
         instance: InstanceId,
         id: MsgId,
         out: &mut Page,
-    ) -> Result<(), RoomFault> {
+    ) -> Result<(), RoomFault>
+        requires { has_instance self.old.board.cluster instance ≡ true }
+        ensures { DoesDeed (λ x. do_deliver voice instance id x)
+            self.old out.old self.new out.new result }
+    {
         match self.scene.fetched(id) {
             Some(message) => self.scene.deliver(voice, instance, &message, out),
             None => self.scene.note(voice, &Note::NoMessage, out),
@@ -77,7 +98,11 @@ impl<F: Factory> World<F> {
         voice: Voice,
         controller: ControllerId,
         out: &mut Page,
-    ) -> Result<(), RoomFault> {
+    ) -> Result<(), RoomFault>
+        requires { has_controller self.old.board.cluster controller ≡ true }
+        ensures { DoesDeed (λ x. without_outcome (do_begin voice controller x))
+            self.old out.old self.new out.new result }
+    {
         self.scene.restart(controller);
         self.step(voice, controller, out)?;
         Ok(())
@@ -90,7 +115,11 @@ impl<F: Factory> World<F> {
         controller: ControllerId,
         kind: ReadKind,
         out: &mut Page,
-    ) -> Result<(), RoomFault> {
+    ) -> Result<(), RoomFault>
+        requires { has_controller self.old.board.cluster controller ≡ true }
+        ensures { DoesDeed (λ x. do_read voice controller kind x)
+            self.old out.old self.new out.new result }
+    {
         match kind {
             ReadKind::Live => self.read_live(voice, controller, out),
             ReadKind::Mail => self.read_mail(voice, controller, out),

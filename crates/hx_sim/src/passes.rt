@@ -1,6 +1,17 @@
 //! What controllers do: the steps of their turns, one by one, several of a kind, or all that are
 //! left.
 
+ghost use Rattle.std.specs.Prelude.{◌≡◌, true, Bool, List};
+ghost use Rattle.hx_cluster.specs.Steps.{has_controller};
+ghost use Rattle.hx_control.specs.Controllers.{stage as stage_of};
+ghost use Rattle.hx_pass.specs.Turns.{Call};
+ghost use Rattle.hx_worlds.specs.World.{controller_of};
+ghost use Rattle.hx_worlds.specs.Turns.{do_call, do_calls, do_rest, do_pass, do_word, do_read, do_send};
+ghost use Rattle.hx_worlds.specs.Turns.{do_post, out_of_turn, pass_over};
+ghost use Rattle.hx_scene.specs.Scenes.{world_of};
+ghost use Rattle.hx_scene.specs.Doing.{Does, DoesDeed};
+ghost use Rattle.hx_sim.specs.Words.{word_for, IsNextOf};
+
 use crate::World;
 use hx_board::RoomFault;
 use hx_control::{PassOutcome, Stage};
@@ -11,7 +22,9 @@ use hx_text::Page;
 use hx_worlds::Voice;
 
 /// The word for a step of a turn.
-fn word_of(stage: Stage) -> Word {
+fn word_of(stage: Stage) -> Word
+    ensures { result ≡ word_for stage }
+{
     match stage {
         Stage::Idle => Word::Begin,
         Stage::Live => Word::Live,
@@ -24,7 +37,10 @@ fn word_of(stage: Stage) -> Word {
 }
 
 impl<F: Factory> World<F> {
-    fn stage(&self, controller: ControllerId) -> Stage {
+    fn stage(&self, controller: ControllerId) -> Stage
+        requires { has_controller self.now.board.cluster controller ≡ true }
+        ensures { result ≡ stage_of (controller_of (world_of self.now) controller) }
+    {
         self.scene.controller(controller).stage()
     }
 
@@ -34,7 +50,11 @@ impl<F: Factory> World<F> {
         voice: Voice,
         controller: ControllerId,
         out: &mut Page,
-    ) -> Result<Option<PassOutcome>, RoomFault> {
+    ) -> Result<Option<PassOutcome>, RoomFault>
+        requires { has_controller self.old.board.cluster controller ≡ true }
+        ensures { Does (λ x. do_call voice controller x) (λ o. o)
+            self.old out.old self.new out.new result }
+    {
         if self.stage(controller) == Stage::Plan {
             self.step(voice, controller, out)?;
             if self.stage(controller) == Stage::Idle {
@@ -51,7 +71,11 @@ impl<F: Factory> World<F> {
         controller: ControllerId,
         count: usize,
         out: &mut Page,
-    ) -> Result<Option<PassOutcome>, RoomFault> {
+    ) -> Result<Option<PassOutcome>, RoomFault>
+        requires { has_controller self.old.board.cluster controller ≡ true }
+        ensures { Does (λ x. do_calls voice controller count x) (λ o. o)
+            self.old out.old self.new out.new result }
+    {
         let mut outcome = None;
         for _ in 0..count {
             if let Some(later) = self.call(voice, controller, out)? {
@@ -70,7 +94,11 @@ impl<F: Factory> World<F> {
         voice: Voice,
         controller: ControllerId,
         out: &mut Page,
-    ) -> Result<Option<PassOutcome>, RoomFault> {
+    ) -> Result<Option<PassOutcome>, RoomFault>
+        requires { has_controller self.old.board.cluster controller ≡ true }
+        ensures { Does (λ x. do_rest voice controller x) (λ o. o)
+            self.old out.old self.new out.new result }
+    {
         let count = self.scene.controller(controller).calls_left();
         self.calls(voice, controller, count, out)
     }
@@ -82,7 +110,11 @@ impl<F: Factory> World<F> {
         voice: Voice,
         controller: ControllerId,
         out: &mut Page,
-    ) -> Result<Option<PassOutcome>, RoomFault> {
+    ) -> Result<Option<PassOutcome>, RoomFault>
+        requires { has_controller self.old.board.cluster controller ≡ true }
+        ensures { Does (λ x. do_pass voice controller x) (λ o. o)
+            self.old out.old self.new out.new result }
+    {
         if self.stage(controller) == Stage::Idle {
             self.step(voice, controller, out)?;
         }
@@ -97,7 +129,11 @@ impl<F: Factory> World<F> {
         voice: Voice,
         controller: ControllerId,
         out: &mut Page,
-    ) -> Result<(), RoomFault> {
+    ) -> Result<(), RoomFault>
+        requires { has_controller self.old.board.cluster controller ≡ true }
+        ensures { DoesDeed (λ x. out_of_turn voice controller x)
+            self.old out.old self.new out.new result }
+    {
         let word = word_of(self.stage(controller));
         self.scene.note(voice, &Note::OutOfTurn(word), out)
     }
@@ -109,7 +145,12 @@ impl<F: Factory> World<F> {
         voice: Voice,
         controller: ControllerId,
         out: &mut Page,
-    ) -> Result<(), RoomFault> {
+    ) -> Result<(), RoomFault>
+        requires { has_controller self.old.board.cluster controller ≡ true }
+        ensures { (is_of : Call → Bool) → IsNextOf is_of (controller_of (world_of self.old) controller) is_next
+            → DoesDeed (λ x. do_word voice controller is_of x)
+            self.old out.old self.new out.new result }
+    {
         if !is_next {
             return self.out_of_turn(voice, controller, out);
         }
@@ -122,7 +163,11 @@ impl<F: Factory> World<F> {
         voice: Voice,
         controller: ControllerId,
         out: &mut Page,
-    ) -> Result<(), RoomFault> {
+    ) -> Result<(), RoomFault>
+        requires { has_controller self.old.board.cluster controller ≡ true }
+        ensures { DoesDeed (λ x. do_read voice controller ReadKind.Live x)
+            self.old out.old self.new out.new result }
+    {
         let is_next = self.stage(controller) == Stage::Live;
         self.call_if(is_next, voice, controller, out)
     }
@@ -132,7 +177,11 @@ impl<F: Factory> World<F> {
         voice: Voice,
         controller: ControllerId,
         out: &mut Page,
-    ) -> Result<(), RoomFault> {
+    ) -> Result<(), RoomFault>
+        requires { has_controller self.old.board.cluster controller ≡ true }
+        ensures { DoesDeed (λ x. do_read voice controller ReadKind.Ideals x)
+            self.old out.old self.new out.new result }
+    {
         let is_next = self.stage(controller) == Stage::Ideals;
         self.call_if(is_next, voice, controller, out)
     }
@@ -142,7 +191,11 @@ impl<F: Factory> World<F> {
         voice: Voice,
         controller: ControllerId,
         out: &mut Page,
-    ) -> Result<(), RoomFault> {
+    ) -> Result<(), RoomFault>
+        requires { has_controller self.old.board.cluster controller ≡ true }
+        ensures { DoesDeed (λ x. do_send voice controller x)
+            self.old out.old self.new out.new result }
+    {
         let is_next = matches!(self.stage(controller), Stage::Plan | Stage::Send);
         self.call_if(is_next, voice, controller, out)
     }
@@ -152,7 +205,11 @@ impl<F: Factory> World<F> {
         voice: Voice,
         controller: ControllerId,
         out: &mut Page,
-    ) -> Result<(), RoomFault> {
+    ) -> Result<(), RoomFault>
+        requires { has_controller self.old.board.cluster controller ≡ true }
+        ensures { DoesDeed (λ x. do_post voice controller x)
+            self.old out.old self.new out.new result }
+    {
         let is_next = self.stage(controller) == Stage::Post;
         self.call_if(is_next, voice, controller, out)
     }
@@ -164,7 +221,11 @@ impl<F: Factory> World<F> {
         voice: Voice,
         controller: ControllerId,
         out: &mut Page,
-    ) -> Result<(), RoomFault> {
+    ) -> Result<(), RoomFault>
+        requires { has_controller self.old.board.cluster controller ≡ true }
+        ensures { DoesDeed (λ x. pass_over voice controller x)
+            self.old out.old self.new out.new result }
+    {
         let turn = self.scene.controller(controller);
         if turn.stage() == Stage::Ideals && turn.shown() == 0 {
             return Ok(());
@@ -177,7 +238,11 @@ impl<F: Factory> World<F> {
         voice: Voice,
         controller: ControllerId,
         out: &mut Page,
-    ) -> Result<(), RoomFault> {
+    ) -> Result<(), RoomFault>
+        requires { has_controller self.old.board.cluster controller ≡ true }
+        ensures { DoesDeed (λ x. do_read voice controller ReadKind.Mail x)
+            self.old out.old self.new out.new result }
+    {
         let turn = self.scene.controller(controller);
         let Stage::Mail(_) = turn.stage() else {
             return self.pass_over(voice, controller, out);
@@ -192,7 +257,11 @@ impl<F: Factory> World<F> {
         voice: Voice,
         controller: ControllerId,
         out: &mut Page,
-    ) -> Result<(), RoomFault> {
+    ) -> Result<(), RoomFault>
+        requires { has_controller self.old.board.cluster controller ≡ true }
+        ensures { DoesDeed (λ x. do_read voice controller ReadKind.States x)
+            self.old out.old self.new out.new result }
+    {
         let turn = self.scene.controller(controller);
         let Stage::States(_) = turn.stage() else {
             return self.pass_over(voice, controller, out);

@@ -1,5 +1,10 @@
 //! What is said of a step of a turn: its outcome, or why it was refused.
 
+ghost use Rattle.std.specs.Prelude.{◌≡◌, true};
+ghost use Rattle.hx_cluster.specs.Steps.{has_controller};
+ghost use Rattle.hx_worlds.specs.Turns.{say_finding, say_entries, say_outcome, tell_outcome, note_fault, step};
+ghost use Rattle.hx_scene.specs.Doing.{Does, DoesDeed};
+
 use crate::World;
 use hx_board::RoomFault;
 use hx_cluster::{Entry, Finding};
@@ -11,7 +16,10 @@ use hx_text::Page;
 use hx_worlds::Voice;
 
 impl<F: Factory> World<F> {
-    fn say_entry(&mut self, entry: &Entry, out: &mut Page) -> Result<(), RoomFault> {
+    fn say_entry(&mut self, entry: &Entry, out: &mut Page) -> Result<(), RoomFault>
+        ensures { DoesDeed (λ x. say_finding entry.now.target entry.now.finding x)
+            self.old out.old self.new out.new result }
+    {
         match &entry.finding {
             Finding::Failed => {
                 let target = &entry.target;
@@ -30,7 +38,10 @@ impl<F: Factory> World<F> {
         &mut self,
         entries: &[Entry],
         out: &mut Page,
-    ) -> Result<(), RoomFault> {
+    ) -> Result<(), RoomFault>
+        ensures { DoesDeed (λ x. say_entries entries.now x)
+            self.old out.old self.new out.new result }
+    {
         for entry in entries {
             self.say_entry(entry, out)?;
         }
@@ -42,7 +53,10 @@ impl<F: Factory> World<F> {
         controller: ControllerId,
         outcome: &PassOutcome,
         out: &mut Page,
-    ) -> Result<(), RoomFault> {
+    ) -> Result<(), RoomFault>
+        ensures { DoesDeed (λ x. say_outcome controller outcome.now x)
+            self.old out.old self.new out.new result }
+    {
         match outcome {
             PassOutcome::Sent(n) => self.scene.say_sent(controller, *n, out),
             PassOutcome::Waiting { pending } => self.scene.say_waiting(controller, *pending, out),
@@ -60,7 +74,10 @@ impl<F: Factory> World<F> {
         controller: ControllerId,
         outcome: &Option<PassOutcome>,
         out: &mut Page,
-    ) -> Result<(), RoomFault> {
+    ) -> Result<(), RoomFault>
+        ensures { DoesDeed (λ x. tell_outcome voice controller outcome.now x)
+            self.old out.old self.new out.new result }
+    {
         match (voice, outcome) {
             (Voice::Loud(_), Some(outcome)) => self.say_outcome(controller, outcome, out),
             _ => Ok(()),
@@ -72,7 +89,10 @@ impl<F: Factory> World<F> {
         voice: Voice,
         fault: ControlFault,
         out: &mut Page,
-    ) -> Result<(), RoomFault> {
+    ) -> Result<(), RoomFault>
+        ensures { DoesDeed (λ x. note_fault voice fault x)
+            self.old out.old self.new out.new result }
+    {
         match fault {
             ControlFault::NotLeader { led_by } => {
                 self.scene.note(voice, &Note::NotLeader { led_by }, out)
@@ -88,7 +108,11 @@ impl<F: Factory> World<F> {
         voice: Voice,
         controller: ControllerId,
         out: &mut Page,
-    ) -> Result<Option<PassOutcome>, RoomFault> {
+    ) -> Result<Option<PassOutcome>, RoomFault>
+        requires { has_controller self.old.board.cluster controller ≡ true }
+        ensures { Does (λ x. step voice controller x) (λ o. o)
+            self.old out.old self.new out.new result }
+    {
         match self.scene.advance(controller, out)? {
             Ok(outcome) => {
                 self.tell_outcome(voice, controller, &outcome, out)?;

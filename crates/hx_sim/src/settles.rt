@@ -1,5 +1,11 @@
 //! A settle: rounds of the leader's turn and of work, up to the one whose turn settled.
 
+ghost use Rattle.std.specs.Prelude.{◌≡◌, true, ℕ, ◌+◌, ◌*◌, Option, IfOk, IfSome};
+ghost use Rattle.hx_cluster.specs.Steps.{has_controller};
+ghost use Rattle.hx_worlds.specs.Settles.{all_parts, most_states, enough_rounds, rounds, settle, say_settled, do_settle};
+ghost use Rattle.hx_scene.specs.Doing.{Does, DoesDeed};
+ghost use Rattle.hx_sim.specs.Rounds.{round};
+
 use crate::World;
 use hx_board::RoomFault;
 use hx_cluster::{Report, Resource};
@@ -13,7 +19,9 @@ use hx_worlds::{Settled, Voice};
 use std::alloc::AllocError;
 
 /// How many parts there are.
-fn all_parts(resources: &[Resource]) -> Option<u64> {
+fn all_parts(resources: &[Resource]) -> Option<u64>
+    ensures { IfSome result (λ parts. parts ≡ all_parts resources.now) }
+{
     let mut parts: u64 = 0;
     for resource in resources {
         parts = parts.checked_add(u64::from(resource.ideal.parts()))?;
@@ -22,7 +30,9 @@ fn all_parts(resources: &[Resource]) -> Option<u64> {
 }
 
 /// The most states that a model has.
-fn most_states(models: &[Model]) -> u64 {
+fn most_states(models: &[Model]) -> u64
+    ensures { result ≡ most_states models.now }
+{
     let mut most = 0;
     for model in models {
         most = most.max(model.states().len() as u64);
@@ -31,7 +41,10 @@ fn most_states(models: &[Model]) -> u64 {
 }
 
 /// How many rounds are enough for so many live sessions, parts and states.
-fn rounds_for(live: u64, parts: u64, states: u64) -> Option<u64> {
+fn rounds_for(live: u64, parts: u64, states: u64) -> Option<u64>
+    ensures { IfSome result (λ rounds. rounds
+        ≡ (2 * (live * parts) + 2) * (live * parts * (states + 2) + 2)) }
+{
     let replicas = live.checked_mul(parts)?;
     let budget = replicas.checked_mul(2)?.checked_add(2)?;
     let moves = replicas.checked_mul(states.checked_add(2)?)?.checked_add(2)?;
@@ -40,7 +53,9 @@ fn rounds_for(live: u64, parts: u64, states: u64) -> Option<u64> {
 
 impl<F: Factory> World<F> {
     /// How many rounds are enough. More than a number of 64 bits are want of memory.
-    fn enough_rounds(&self) -> Result<u64, AllocError> {
+    fn enough_rounds(&self) -> Result<u64, AllocError>
+        ensures { IfOk result (λ rounds. rounds ≡ enough_rounds self.now.board.cluster) }
+    {
         let board = self.scene.board();
         let live = board.roster()?.len() as u64;
         let parts = all_parts(board.resources()).ok_or(AllocError)?;
@@ -53,7 +68,11 @@ impl<F: Factory> World<F> {
         &mut self,
         controller: ControllerId,
         out: &mut Page,
-    ) -> Result<Option<Report>, RoomFault> {
+    ) -> Result<Option<Report>, RoomFault>
+        requires { has_controller self.old.board.cluster controller ≡ true }
+        ensures { Does (λ x. round controller x) (λ r. r)
+            self.old out.old self.new out.new result }
+    {
         if let Some(PassOutcome::Settled(report)) = self.pass(Voice::Quiet, controller, out)? {
             return Ok(Some(report));
         }
@@ -67,7 +86,11 @@ impl<F: Factory> World<F> {
         controller: ControllerId,
         most: u64,
         out: &mut Page,
-    ) -> Result<Settled, RoomFault> {
+    ) -> Result<Settled, RoomFault>
+        requires { has_controller self.old.board.cluster controller ≡ true }
+        ensures { Does (λ x. rounds most controller 0 x) (λ s. s)
+            self.old out.old self.new out.new result }
+    {
         for passes in 0..most {
             if let Some(report) = self.round(controller, out)? {
                 return Ok(Settled {
@@ -83,7 +106,10 @@ impl<F: Factory> World<F> {
     }
 
     /// Settles the cluster, if somebody leads.
-    pub(crate) fn settle_led(&mut self, out: &mut Page) -> Result<Option<Settled>, RoomFault> {
+    pub(crate) fn settle_led(&mut self, out: &mut Page) -> Result<Option<Settled>, RoomFault>
+        ensures { Does (λ x. settle x) (λ s. s)
+            self.old out.old self.new out.new result }
+    {
         let Some(controller) = self.scene.board().leader() else {
             return Ok(None);
         };
@@ -97,7 +123,10 @@ impl<F: Factory> World<F> {
         controller: ControllerId,
         settled: &Settled,
         out: &mut Page,
-    ) -> Result<(), RoomFault> {
+    ) -> Result<(), RoomFault>
+        ensures { DoesDeed (λ x. say_settled controller settled.now x)
+            self.old out.old self.new out.new result }
+    {
         self.scene.say_settle(controller, settled.passes, out)?;
         match &settled.report {
             Some(report) => self.say_entries(report.entries.as_slice(), out),
@@ -106,7 +135,10 @@ impl<F: Factory> World<F> {
     }
 
     /// Settles the cluster, and says what came of it.
-    pub(crate) fn settle_aloud(&mut self, voice: Voice, out: &mut Page) -> Result<(), RoomFault> {
+    pub(crate) fn settle_aloud(&mut self, voice: Voice, out: &mut Page) -> Result<(), RoomFault>
+        ensures { DoesDeed (λ x. do_settle voice x)
+            self.old out.old self.new out.new result }
+    {
         let leader = self.scene.board().leader();
         let settled = self.settle_led(out)?;
         match (leader, settled) {

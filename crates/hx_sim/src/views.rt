@@ -1,5 +1,12 @@
 //! The view, and routing.
 
+ghost use Rattle.std.specs.Prelude.{◌≡◌, ◌++◌, OnOk, IfOk, filter};
+ghost use Rattle.hx_cluster.specs.Reads.{live_shown};
+ghost use Rattle.hx_print.specs.Texts.{row_seen, view_of_part, is_viewed, parts_at, viewed_parts};
+ghost use Rattle.hx_worlds.specs.Runs.{for_each};
+ghost use Rattle.hx_worlds.specs.Scripts.{do_view, say_view_of, do_route, routed};
+ghost use Rattle.hx_scene.specs.Doing.{DoesDeed};
+
 use crate::World;
 use hx_board::{Board, RoomFault};
 use hx_cluster::{Resource, Seen};
@@ -15,7 +22,9 @@ fn holder(
     board: &Board,
     part: PartId,
     shown: (SessionId, InstanceId),
-) -> Option<(InstanceId, StateId)> {
+) -> Option<(InstanceId, StateId)>
+    ensures { result ≡ row_seen board.now.cluster.rows part shown }
+{
     match board.row(shown.0, part) {
         Some(state) => Some((shown.1, state)),
         None => None,
@@ -28,7 +37,10 @@ fn holders(
     board: &Board,
     shown: &[(SessionId, InstanceId)],
     part: PartId,
-) -> Result<Vec<(InstanceId, StateId)>, AllocError> {
+) -> Result<Vec<(InstanceId, StateId)>, AllocError>
+    requires { shown.now ≡ live_shown board.now.cluster }
+    ensures { IfOk result (λ holders. holders.items ≡ view_of_part board.now.cluster part) }
+{
     shown
         .iter()
         .filter_map(|e| holder(board, part, *e))
@@ -44,7 +56,12 @@ fn add_viewed(
     resource: ResourceId,
     found: &Resource,
     parts: &mut Vec<PartId>,
-) -> Result<(), AllocError> {
+) -> Result<(), AllocError>
+    requires { shown.now ≡ live_shown board.now.cluster }
+    ensures { OnOk result (parts.new.items ≡ parts.old.items
+        ++ filter (is_viewed board.now.cluster found.now.dropped)
+        (parts_at resource.0 found.now.ideal.parts)) }
+{
     for index in 0..found.ideal.parts() {
         let part = PartId { resource, index };
         if !found.dropped || !holders(alloc, board, shown, part)?.is_empty() {
@@ -59,7 +76,10 @@ fn viewed_parts(
     alloc: Global,
     board: &Board,
     shown: &[(SessionId, InstanceId)],
-) -> Result<Vec<PartId>, AllocError> {
+) -> Result<Vec<PartId>, AllocError>
+    requires { shown.now ≡ live_shown board.now.cluster }
+    ensures { IfOk result (λ parts. parts.items ≡ viewed_parts board.now.cluster) }
+{
     let mut parts = Vec::new(alloc);
     for (number, resource) in board.resources().iter().enumerate() {
         let id = ResourceId(number as u32);
@@ -74,7 +94,9 @@ fn routed(
     rows: &[Seen],
     part: PartId,
     state: StateId,
-) -> Result<Vec<InstanceId>, AllocError> {
+) -> Result<Vec<InstanceId>, AllocError>
+    ensures { IfOk result (λ instances. instances.items ≡ routed rows.now part state) }
+{
     rows.iter()
         .copied()
         .filter(|row| row.part == part && row.state == state)
@@ -88,7 +110,11 @@ impl<F: Factory> World<F> {
         shown: &[(SessionId, InstanceId)],
         parts: &[PartId],
         out: &mut Page,
-    ) -> Result<(), RoomFault> {
+    ) -> Result<(), RoomFault>
+        requires { shown.now ≡ live_shown self.old.board.cluster }
+        ensures { DoesDeed (λ x. for_each (λ p y. say_view_of p (view_of_part y.world.cluster p) y) parts.now x)
+            self.old out.old self.new out.new result }
+    {
         for part in parts {
             let holders = holders(self.scene.alloc(), self.scene.board(), shown, *part)?;
             self.scene.say_view(*part, &holders, out)?;
@@ -97,7 +123,10 @@ impl<F: Factory> World<F> {
     }
 
     /// Prints the view: who has which replica. Each line is charged.
-    pub fn view(&mut self, out: &mut Page) -> Result<(), RoomFault> {
+    pub fn view(&mut self, out: &mut Page) -> Result<(), RoomFault>
+        ensures { DoesDeed (λ x. do_view x)
+            self.old out.old self.new out.new result }
+    {
         let shown = self.scene.board().shown()?;
         let parts = viewed_parts(self.scene.alloc(), self.scene.board(), &shown)?;
         self.view_each(&shown, &parts, out)
@@ -112,7 +141,10 @@ impl<F: Factory> World<F> {
         index: u32,
         state: StateId,
         out: &mut Page,
-    ) -> Result<(), RoomFault> {
+    ) -> Result<(), RoomFault>
+        ensures { DoesDeed (λ x. do_route voice name index state x)
+            self.old out.old self.new out.new result }
+    {
         let board = self.scene.board();
         let Some(resource) = board.newest(name) else {
             return self.scene.note(voice, &Note::NoResource, out);

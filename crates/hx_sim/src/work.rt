@@ -1,5 +1,15 @@
 //! What an instance does by itself: it fetches, and carries each message to its end.
 
+ghost use Rattle.std.specs.Prelude.{◌≡◌, true, map};
+ghost use Rattle.std.specs.List.{All};
+ghost use Rattle.hx_cluster.specs.Reads.{fetched};
+ghost use Rattle.hx_cluster.specs.Steps.{has_instance};
+ghost use Rattle.hx_worlds.specs.Runs.{for_each};
+ghost use Rattle.hx_worlds.specs.Jobs.{carry, carry_jobs, deliver, fetch_and_deliver, run_message, run_accepted, do_work};
+ghost use Rattle.hx_worlds.specs.Settles.{work_all};
+ghost use Rattle.hx_scene.specs.Scenes.{IsBagged};
+ghost use Rattle.hx_scene.specs.Doing.{DoesDeed};
+
 use crate::World;
 use hx_board::RoomFault;
 use hx_cluster::Message;
@@ -15,13 +25,21 @@ impl<F: Factory> World<F> {
         instance: InstanceId,
         id: MsgId,
         out: &mut Page,
-    ) -> Result<(), RoomFault> {
+    ) -> Result<(), RoomFault>
+        requires { has_instance self.old.board.cluster instance ≡ true }
+        ensures { DoesDeed (λ x. carry instance id x)
+            self.old out.old self.new out.new result }
+    {
         self.scene.write(Voice::Quiet, instance, id, out)?;
         self.scene.ack(Voice::Quiet, instance, id, out)
     }
 
     /// Carries all open jobs to their ends, in order.
-    fn carry_all(&mut self, instance: InstanceId, out: &mut Page) -> Result<(), RoomFault> {
+    fn carry_all(&mut self, instance: InstanceId, out: &mut Page) -> Result<(), RoomFault>
+        requires { has_instance self.old.board.cluster instance ≡ true }
+        ensures { DoesDeed (λ x. carry_jobs instance x)
+            self.old out.old self.new out.new result }
+    {
         let open = self.scene.open_jobs(instance)?;
         for id in &open {
             self.carry(instance, *id, out)?;
@@ -35,7 +53,12 @@ impl<F: Factory> World<F> {
         instance: InstanceId,
         messages: &[Message],
         out: &mut Page,
-    ) -> Result<(), RoomFault> {
+    ) -> Result<(), RoomFault>
+        requires instance { has_instance self.old.board.cluster instance ≡ true }
+        requires bagged { All (IsBagged self.old.bag) messages.now }
+        ensures { DoesDeed (λ x. for_each (λ m y. deliver Voice.Quiet instance m y) messages.now x)
+            self.old out.old self.new out.new result }
+    {
         for message in messages {
             self.scene.deliver(Voice::Quiet, instance, message, out)?;
         }
@@ -47,7 +70,11 @@ impl<F: Factory> World<F> {
         &mut self,
         instance: InstanceId,
         out: &mut Page,
-    ) -> Result<(), RoomFault> {
+    ) -> Result<(), RoomFault>
+        requires { has_instance self.old.board.cluster instance ≡ true }
+        ensures { DoesDeed (λ x. fetch_and_deliver instance (fetched x.world.cluster instance) x)
+            self.old out.old self.new out.new result }
+    {
         let messages = self.scene.fetch(instance, out)?;
         self.deliver_all(instance, &messages, out)
     }
@@ -58,13 +85,21 @@ impl<F: Factory> World<F> {
         instance: InstanceId,
         message: &Message,
         out: &mut Page,
-    ) -> Result<(), RoomFault> {
+    ) -> Result<(), RoomFault>
+        requires { has_instance self.old.board.cluster instance ≡ true }
+        ensures { DoesDeed (λ x. run_message instance message.now x)
+            self.old out.old self.new out.new result }
+    {
         self.scene.take(Voice::Quiet, instance, message.id, out)?;
         self.carry(instance, message.id, out)
     }
 
     /// Runs all accepted messages, in order.
-    fn run_accepted(&mut self, instance: InstanceId, out: &mut Page) -> Result<(), RoomFault> {
+    fn run_accepted(&mut self, instance: InstanceId, out: &mut Page) -> Result<(), RoomFault>
+        requires { has_instance self.old.board.cluster instance ≡ true }
+        ensures { DoesDeed (λ x. run_accepted instance x)
+            self.old out.old self.new out.new result }
+    {
         let accepted = self.scene.accepted(instance)?;
         for message in &accepted {
             self.run(instance, message, out)?;
@@ -74,7 +109,11 @@ impl<F: Factory> World<F> {
 
     /// Carries the open jobs of an instance to their ends, fetches, delivers what was fetched, and
     /// carries each accepted message to its end.
-    pub(crate) fn work(&mut self, instance: InstanceId, out: &mut Page) -> Result<(), RoomFault> {
+    pub(crate) fn work(&mut self, instance: InstanceId, out: &mut Page) -> Result<(), RoomFault>
+        requires { has_instance self.old.board.cluster instance ≡ true }
+        ensures { DoesDeed (λ x. do_work instance x)
+            self.old out.old self.new out.new result }
+    {
         self.carry_all(instance, out)?;
         self.fetch_and_deliver(instance, out)?;
         self.run_accepted(instance, out)
@@ -84,7 +123,11 @@ impl<F: Factory> World<F> {
         &mut self,
         shown: &[(SessionId, InstanceId)],
         out: &mut Page,
-    ) -> Result<(), RoomFault> {
+    ) -> Result<(), RoomFault>
+        requires { All (λ e. has_instance self.old.board.cluster e.1 ≡ true) shown.now }
+        ensures { DoesDeed (λ x. for_each (λ i y. do_work i y) (map (λ e. e.1) shown.now) x)
+            self.old out.old self.new out.new result }
+    {
         for (_, instance) in shown {
             self.work(*instance, out)?;
         }
@@ -92,7 +135,10 @@ impl<F: Factory> World<F> {
     }
 
     /// Has each live instance work, in order.
-    pub(crate) fn work_all(&mut self, out: &mut Page) -> Result<(), RoomFault> {
+    pub(crate) fn work_all(&mut self, out: &mut Page) -> Result<(), RoomFault>
+        ensures { DoesDeed (λ x. work_all x)
+            self.old out.old self.new out.new result }
+    {
         let shown = self.scene.board().shown()?;
         self.work_each(&shown, out)
     }

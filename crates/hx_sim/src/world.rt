@@ -1,5 +1,12 @@
 //! A world: a board with controllers and participants, one script line at a time.
 
+ghost use Rattle.std.specs.Prelude.{◌≡◌, true, [], Some, IfOk};
+ghost use Rattle.hx_board.specs.Board.{next_line_of};
+ghost use Rattle.hx_worlds.specs.Scripts.{is_next_line, do_line};
+ghost use Rattle.hx_worlds.specs.Settles.{settle as settles};
+ghost use Rattle.hx_scene.specs.Kept.{IsScene};
+ghost use Rattle.hx_scene.specs.Doing.{Does, DoesDeed};
+
 use hx_board::{Board, RoomFault};
 use hx_cluster::Spec;
 use hx_control::Controller;
@@ -10,11 +17,20 @@ use hx_script::Line;
 use hx_text::Page;
 use hx_worlds::{Settled, Voice};
 use std::alloc::{AllocError, Global};
+use std::marker::Model;
 
 /// A board, its controllers and its participants, with what is open between them. It can't be
 /// dropped: it has to be closed.
 pub struct World<F: Factory> {
     pub(crate) scene: Scene<F>,
+}
+
+impl<F: Factory> Model for World<F> {
+    ghost use Rattle.hx_scene.specs.Scenes.{SceneState};
+
+    ghost Value = { SceneState };
+
+    ghost view = { λ a. a.scene };
 }
 
 impl<F: Factory> World<F> {
@@ -26,30 +42,60 @@ impl<F: Factory> World<F> {
         board: Board,
         controllers: Vec<Controller>,
         participants: Vec<Participant<F>>,
-    ) -> Result<World<F>, AllocError> {
+    ) -> Result<World<F>, AllocError>
+        requires { IsScene (record {
+          spec = spec;
+          board = board;
+          controllers = controllers.items;
+          staff = participants.items;
+          open = [];
+          bag = [];
+          handed = 0;
+        }) }
+        ensures { IfOk result (λ world. world ≡ record {
+          spec = spec;
+          board = board;
+          controllers = controllers.items;
+          staff = participants.items;
+          open = [];
+          bag = [];
+          handed = 0;
+        }) }
+    {
         let scene = Scene::from_parts(alloc, spec, board, controllers, participants)?;
         Ok(World { scene })
     }
 
     /// The board. It takes no memory.
-    pub fn board(&self) -> &Board {
+    pub fn board(&self) -> &Board
+        ensures board { result.now ≡ self.now.board }
+        ensures kept { IsScene self.now }
+    {
         self.scene.board()
     }
 
     /// Closes every participant, and gives the board. It takes no memory.
-    pub fn close(self) -> Board {
+    pub fn close(self) -> Board
+        ensures { result ≡ self.board }
+    {
         let World { scene } = self;
         scene.close()
     }
 
-    /// Takes a script line and does it, and prints what it brings.
-    pub fn line(&mut self, line: &Line, out: &mut Page) -> Result<(), RoomFault> {
+    /// Takes a script line, the next of the board's, and does it, and prints what it brings.
+    pub fn line(&mut self, line: &Line, out: &mut Page) -> Result<(), RoomFault>
+        requires next { next_line_of self.old.board ≡ Some line.now.number }
+        requires given { is_next_line self.old.spec self.old.board.cluster.line line.now ≡ true }
+        ensures { DoesDeed (λ x. do_line line.now x) self.old out.old self.new out.new result }
+    {
         self.scene.take_line(line.number, out)?;
         self.what(Voice::Loud(line.number), &line.what, out)
     }
 
-    /// Settles the cluster, under its leader.
-    pub fn settle(&mut self, out: &mut Page) -> Result<Option<Settled>, RoomFault> {
+    /// Settles the cluster, if somebody leads, and prints the log of it.
+    pub fn settle(&mut self, out: &mut Page) -> Result<Option<Settled>, RoomFault>
+        ensures { Does (λ x. settles x) (λ s. s) self.old out.old self.new out.new result }
+    {
         self.settle_led(out)
     }
 }
