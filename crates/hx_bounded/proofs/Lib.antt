@@ -14,4 +14,5 @@ pub mod Resting
 pub mod Stepping
 pub mod Turning
 pub mod Passing
-pub mod Settled
+pub mod Laws
+mod Examples

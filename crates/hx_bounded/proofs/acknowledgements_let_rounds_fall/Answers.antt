@@ -1,4 +1,4 @@
-use Rattle.hx_bounded.proofs.Settled.{acked_falls}
+use Rattle.hx_bounded.proofs.Laws.{acked_falls}
 use Rattle.hx_bounded.proofs.acknowledgements_let_rounds_fall.Goals as goal
 
 pub returns : goal.returns
