@@ -57,10 +57,6 @@ none_of_its i (j ∷ js) e = one (Jobs.is_job_of i j) refl (none_of_its i js (λ
 no_jobs : (i : InstanceId) (x : State) → IsJobless i x.world → Jobs.jobs_of i x ≡ []
 no_jobs i x none = ap (sort_by Jobs.job_before) (none_of_its i x.world.jobs none)
 
--- after a fetch
-after_fetch : (b : Bool) (i : InstanceId) (mail : Mail) (x : State) → State
-after_fetch b i mail x = Jobs.bagged mail.messages (if b then x else Jobs.adopted i mail.session x)
-
 fetch_is : (i : InstanceId) (mail : Mail) (x : State) → IsJobless i x.world
     → Jobs.fetched_as i mail x ≡ Jobs.bagged mail.messages (if Jobs.same_session (participant_of x.world i).session mail.session then x else Jobs.adopted i mail.session x)
 fetch_is i mail x none =
@@ -76,9 +72,6 @@ find_kept p k q (x ∷ ms) m e f g = grind (arith, e, f, g, find_kept p k q ms m
 
 module _ (spec : Spec) (valid : IsValid spec) (last : Option ℕ) (P : Cluster → Type 0) (H : Job → Type 0) (closed : IsClosed P H) (live : List Live) (ks : List Controller)
     (i : InstanceId) (low : i.0 < length spec.instances) (s : SessionId) (own : option_map (λ l. l.session) (live_of live i) ≡ Some s) where
-  abbrev Ready : State → Type 0
-  Ready x = IsReady spec valid last P H closed live ks i low s own x
-
   -- as the messages of a fetch are delivered
   record IsDelivering (ms : List Message) (x : State) : Type 0 where
     ready : IsReady spec valid last P H closed live ks i low s own x
@@ -181,18 +174,19 @@ module _ (spec : Spec) (valid : IsValid spec) (last : Option ℕ) (P : Cluster �
 
   -- a fetch
   module _ (there : Ranges.has_instance spec i ≡ true) (x : State) (a : IsAtWork spec valid last P H closed live ks x) (none : IsJobless i x.world) where
-    c : Cluster
-    c = x.world.cluster
+    abbrev its_mail : List Message
+    its_mail = messages_for x.world.cluster (session_of x.world.cluster i)
 
-    fetch_event : Event
-    fetch_event = events.Fetch i (session_of x.world.cluster i) (length (messages_for x.world.cluster (session_of x.world.cluster i)))
+    abbrev fetching : State
+    fetching = happened (events.Fetch i (session_of x.world.cluster i) (length its_mail)) x
+
+    abbrev after_fetch : Bool → State
+    after_fetch b = Jobs.bagged its_mail (if b then fetching else Jobs.adopted i (session_of x.world.cluster i) fetching)
 
     begun : (b : Bool) → Jobs.same_session (participant_of x.world i).session (session_of x.world.cluster i) ≡ b → (z : State)
-        → z ≡ Jobs.bagged (messages_for x.world.cluster (session_of x.world.cluster i))
-        (if b then happened (events.Fetch i (session_of x.world.cluster i) (length (messages_for x.world.cluster (session_of x.world.cluster i)))) x
-        else Jobs.adopted i (session_of x.world.cluster i) (happened (events.Fetch i (session_of x.world.cluster i) (length (messages_for x.world.cluster (session_of x.world.cluster i)))) x))
-        → IsTaken spec valid last z (messages_for x.world.cluster (session_of x.world.cluster i)) → list_all (is_fetched spec z.world.history) (messages_for x.world.cluster (session_of x.world.cluster i)) ≡ true
-        → IsDelivering (messages_for x.world.cluster (session_of x.world.cluster i)) z
+        → z ≡ after_fetch b
+        → IsTaken spec valid last z its_mail → list_all (is_fetched spec z.world.history) its_mail ≡ true
+        → IsDelivering its_mail z
     begun b same z is taken shown = record {
       ready = record {
         at_work = record { stands = taken.stands; works = subst (λ (y : State). IsWorking P H live ks y.world) (sym is) (works b) };
@@ -204,31 +198,19 @@ module _ (spec : Spec) (valid : IsValid spec) (last : Option ℕ) (P : Cluster �
       seen = λ q m at. inl (seen q m (subst (λ (y : State). message_of y.world.cluster.mail s q ≡ Some m) is at));
     }
       where
-        e : Event
-        e = events.Fetch i (session_of x.world.cluster i) (length (messages_for x.world.cluster (session_of x.world.cluster i)))
-
-        ms : List Message
-        ms = messages_for x.world.cluster (session_of x.world.cluster i)
-
         w : IsWorking P H live ks x.world
         w = a.works
 
-        works : (b : Bool) → IsWorking P H live ks (Jobs.bagged (messages_for x.world.cluster (session_of x.world.cluster i))
-            (if b then happened (events.Fetch i (session_of x.world.cluster i) (length (messages_for x.world.cluster (session_of x.world.cluster i)))) x
-            else Jobs.adopted i (session_of x.world.cluster i) (happened (events.Fetch i (session_of x.world.cluster i) (length (messages_for x.world.cluster (session_of x.world.cluster i)))) x))).world
+        works : (b : Bool) → IsWorking P H live ks (after_fetch b).world
         works true = record { holds = w.holds; sessions = w.sessions; jobs = w.jobs; controllers = w.controllers }
         works false = record { holds = w.holds; sessions = w.sessions; jobs = w.jobs; controllers = w.controllers }
 
-        jobless : (b : Bool) → IsJobless i (Jobs.bagged (messages_for x.world.cluster (session_of x.world.cluster i))
-            (if b then happened (events.Fetch i (session_of x.world.cluster i) (length (messages_for x.world.cluster (session_of x.world.cluster i)))) x
-            else Jobs.adopted i (session_of x.world.cluster i) (happened (events.Fetch i (session_of x.world.cluster i) (length (messages_for x.world.cluster (session_of x.world.cluster i)))) x))).world
+        jobless : (b : Bool) → IsJobless i (after_fetch b).world
         jobless true = none
         jobless false = none
 
         mine : (b : Bool) → Jobs.same_session (participant_of x.world i).session (session_of x.world.cluster i) ≡ b
-            → (participant_of (Jobs.bagged (messages_for x.world.cluster (session_of x.world.cluster i))
-            (if b then happened (events.Fetch i (session_of x.world.cluster i) (length (messages_for x.world.cluster (session_of x.world.cluster i)))) x
-            else Jobs.adopted i (session_of x.world.cluster i) (happened (events.Fetch i (session_of x.world.cluster i) (length (messages_for x.world.cluster (session_of x.world.cluster i)))) x))).world i).session ≡ Some s
+            → (participant_of (after_fetch b).world i).session ≡ Some s
         mine true is =
             same_is (participant_of x.world i).session s
             (ap (Jobs.same_session (participant_of x.world i).session) (sym (session_now spec valid last P H closed live ks i low s own x a)) ∙ is)
@@ -236,16 +218,12 @@ module _ (spec : Spec) (valid : IsValid spec) (last : Option ℕ) (P : Cluster �
             ap (λ (p : Participant). p.session) (here_put x.world.participants i (adopt (participant_of x.world i) (session_of x.world.cluster i)) (low_there spec valid last P H closed live ks i low x a.stands))
             ∙ session_now spec valid last P H closed live ks i low s own x a
 
-        same_mail : (b : Bool) → (Jobs.bagged (messages_for x.world.cluster (session_of x.world.cluster i))
-            (if b then happened (events.Fetch i (session_of x.world.cluster i) (length (messages_for x.world.cluster (session_of x.world.cluster i)))) x
-            else Jobs.adopted i (session_of x.world.cluster i) (happened (events.Fetch i (session_of x.world.cluster i) (length (messages_for x.world.cluster (session_of x.world.cluster i)))) x))).world.cluster ≡ x.world.cluster
+        same_mail : (b : Bool) → (after_fetch b).world.cluster ≡ x.world.cluster
         same_mail true = refl
         same_mail false = refl
 
-        seen : (q : PartId) (m : Message) → message_of (Jobs.bagged (messages_for x.world.cluster (session_of x.world.cluster i))
-            (if b then happened (events.Fetch i (session_of x.world.cluster i) (length (messages_for x.world.cluster (session_of x.world.cluster i)))) x
-            else Jobs.adopted i (session_of x.world.cluster i) (happened (events.Fetch i (session_of x.world.cluster i) (length (messages_for x.world.cluster (session_of x.world.cluster i)))) x))).world.cluster.mail s q ≡ Some m
-            → has_its (messages_for x.world.cluster (session_of x.world.cluster i)) m.id ≡ true
+        seen : (q : PartId) (m : Message) → message_of (after_fetch b).world.cluster.mail s q ≡ Some m
+            → has_its its_mail m.id ≡ true
         seen q m at =
             let found : message_of x.world.cluster.mail s q ≡ Some m = ap (λ (d : Cluster). message_of d.mail s q) (sym (same_mail b)) ∙ at in
             ap (λ (o : Option SessionId). has_its (messages_for x.world.cluster o) m.id) (session_now spec valid last P H closed live ks i low s own x a)
@@ -254,11 +232,11 @@ module _ (spec : Spec) (valid : IsValid spec) (last : Option ℕ) (P : Cluster �
 
     pub fetched_and_delivered : IfGoesOn (λ _ y. IsDelivered y) (Jobs.fetch_and_deliver i (fetched x.world.cluster i) x)
     fetched_and_delivered =
-        goes_fetched (λ _ y. IsDelivered y) (events.Fetch i (session_of x.world.cluster i) (length (messages_for x.world.cluster (session_of x.world.cluster i)))) x
+        goes_fetched (λ _ y. IsDelivered y) (events.Fetch i (session_of x.world.cluster i) (length its_mail)) x
         (λ y. Jobs.fetched_as i (fetched x.world.cluster i) y) (λ y. for_each (Jobs.deliver Quiet i) (fetched x.world.cluster i).messages y)
         (λ room.
         let mail = fetched x.world.cluster i in
-        let y = happened (events.Fetch i (session_of x.world.cluster i) (length (messages_for x.world.cluster (session_of x.world.cluster i)))) x in
+        let y = fetching in
         let b = Jobs.same_session (participant_of x.world i).session (session_of x.world.cluster i) in
         let z = Jobs.fetched_as i mail y in
         all_delivered mail.messages z

@@ -140,9 +140,6 @@ free_slot x m idle above from =
 
 module _ (spec : Spec) (valid : IsValid spec) (last : Option ℕ) (P : Cluster → Type 0) (H : Job → Type 0) (closed : IsClosed P H) (live : List Live) (ks : List Controller)
     (i : InstanceId) (low : i.0 < length spec.instances) (s : SessionId) (own : option_map (λ l. l.session) (live_of live i) ≡ Some s) where
-  abbrev AtWork : State → Type 0
-  AtWork x = IsAtWork spec valid last P H closed live ks x
-
   pub kept_now : (x : State) → IsAtWork spec valid last P H closed live ks x → IsKept x.world.cluster
   kept_now x a = (whole_there spec last x.world valid a.stands.scripted).kept
 
@@ -206,9 +203,6 @@ module _ (spec : Spec) (valid : IsValid spec) (last : Option ℕ) (P : Cluster �
         → (deliver_fault (participant_of x.world i) m ≡ None) ⊎ (nat_le m.id.0 (slot_of (participant_of x.world i) q).last.0 ≡ true)
     seen_or_free q m found = one (slot_of (participant_of x.world i) q).work refl
       where
-        c : Cluster
-        c = x.world.cluster
-
         k : IsKept x.world.cluster
         k = kept_now x r.at_work
 

@@ -119,9 +119,6 @@ to_write_taken s id (m ∷ ms) = (λ i. one (has_id s id m) i || to_write_taken 
 pub take_falls : (w t l : ℕ) (c : Cluster) (s : SessionId) (id : MsgId) → IsFalling w t l c → IsFalling w t l (after_take c s id)
 take_falls w t l c s id f = record { size = f.size; resets = λ m u. resets m (before_take c s id m u); falls = falls f.falls }
   where
-    d : Cluster
-    d = after_take c s id
-
     resets : (m : Message) → WasUnwritten c m → is_spendable (after_take c s id) m outcomes.Ok ≡ true
     resets m b = subst (λ (x : Message). is_spendable (after_take c s id) x outcomes.Ok ≡ true) b.is (f.resets b.before b.unwritten)
 
@@ -188,9 +185,6 @@ done_there c s id can = one (is_live c.live s) can
 
 -- a message that is found by its number is that of its replica
 module _ (c : Cluster) (k : IsKept c) (s : SessionId) (id : MsgId) (m : Message) (at : pending_of c s id ≡ Some m) where
-  has : has_id s id m ≡ true
-  has = find-passes (has_id s id) c.mail m at
-
   session : m.session ≡ s
   session = session_same m.session s (let is : ((m.session.0 == s.0) && (m.id.0 == id.0)) ≡ true = find-passes (has_id s id) c.mail m at in grind (arith, is))
 

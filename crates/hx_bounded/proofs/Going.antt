@@ -1,5 +1,5 @@
 -- What holds of the answers and the states of operations that go on.
-use Rattle.std.proofs.Common.{◌≡◌, ℕ, ◌+◌, ◌≤◌, Bool, true, false, List, [], ◌∷◌, ◌++◌, refl, arith}
+use Rattle.std.proofs.Common.{◌≡◌, ℕ, ◌+◌, ◌≤◌, Bool, true, false, List, [], ◌∷◌, ◌++◌, refl, subst, arith}
 use Rattle.std.proofs.lemmas.Bool.Decides.{nat_tests}
 use Rattle.std.specs.Prelude.{if◌then◌else◌, nat_lt}
 use Rattle.hx_cluster.specs.declared.happenings.Event.{Event}
@@ -30,10 +30,6 @@ goes_gives P x answer here = record { to = here }
 pub goes_too : {A : Type 0} (I : State → Type 0) (P : A → State → Type 0) (r : Run A) → Keeps I r → IfGoesOn P r → IfGoesOn (λ answer x. I x × P answer x) r
 goes_too I P (GoesOn is x answer) k g = record { to = (k.left, g.to) }
 goes_too I P (Stops is x) k g = record { to = tt }
-
-pub goes_kept : {A : Type 0} (I : State → Type 0) (r : Run A) → Keeps I r → IfGoesOn (λ _ x. I x) r
-goes_kept I (GoesOn is x answer) k = record { to = k.left }
-goes_kept I (Stops is x) k = record { to = tt }
 
 pub goes_so : {A : Type 0} (P Q : A → State → Type 0) (r : Run A) → IfGoesOn P r → ((answer : A) (x : State) → P answer x → Q answer x) → IfGoesOn Q r
 goes_so P Q (GoesOn is x answer) g so = record { to = so answer x g.to }
@@ -80,3 +76,7 @@ goes_fetched Q e x f g more = fetched_or Q (nat_lt x.world.limit (x.world.weight
 pub goes_both : {A : Type 0} (P Q : A → State → Type 0) (r : Run A) → IfGoesOn P r → IfGoesOn Q r → IfGoesOn (λ answer x. P answer x × Q answer x) r
 goes_both P Q (GoesOn is x answer) f g = record { to = (f.to, g.to) }
 goes_both P Q (Stops is x) f g = record { to = tt }
+
+-- a run that went on
+pub went_on : {A : Type 0} (P : A → State → Type 0) (r : Run A) (is : List Item) (x : State) (answer : A) → r ≡ GoesOn is x answer → IfGoesOn P r → P answer x
+went_on P r is x answer same g = (subst (IfGoesOn P) same g).to

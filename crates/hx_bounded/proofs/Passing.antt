@@ -140,6 +140,10 @@ jobs_dead spec last x st none =
 
 -- where nothing was shown and nothing has changed
 module _ (spec : Spec) (valid : IsValid spec) (last : Option ℕ) (k : ControllerId) (w t l : ℕ) where
+  -- the leader's controller
+  abbrev own : State → Controller
+  own x = controller_of x.world k
+
   -- a turn that has seen the cluster as it is
   record IsFresh (left : List Call) (made : Option Plan) (x : State) : Type 0 where
     stands : Stands spec last x
@@ -150,55 +154,46 @@ module _ (spec : Spec) (valid : IsValid spec) (last : Option ℕ) (k : Controlle
     tries : tries_left x.world.cluster ≡ t
     lefts : left_of x.world.cluster ≡ l
     calls : Turns.left_of x k ≡ left
-    plan : (controller_of x.world k).plan ≡ made
-    epoch : (controller_of x.world k).turn.begun.epoch ≡ x.world.cluster.epoch
-    pass : (controller_of x.world k).turn.begun.pass.0 ≡ (pass_of x.world.cluster k).0
-    change : (controller_of x.world k).turn.begun.change ≡ x.world.cluster.change
-    shown : (controller_of x.world k).turn.view.mail ≡ []
+    plan : (own x).plan ≡ made
+    epoch : (own x).turn.begun.epoch ≡ x.world.cluster.epoch
+    pass : (own x).turn.begun.pass.0 ≡ (pass_of x.world.cluster k).0
+    change : (own x).turn.begun.change ≡ x.world.cluster.change
+    shown : (own x).turn.view.mail ≡ []
 
   -- how the turn ends
   abbrev IsPassed : Option PassOutcome → State → Type 0
   IsPassed o y = by_outcome (λ report. Unit {0}) (IsFalling w t l y.world.cluster × HasNoJobs y.world) o
 
   module _ (x : State) (st : Stands spec last x) (leads : x.world.cluster.leader ≡ Some k) where
-    x0 : Controller
-    x0 = controller_of x.world k
-
-    its_id : (controller_of x.world k).id ≡ k
+    its_id : (own x).id ≡ k
     its_id = (st.scripted.of.turns k).id
 
     has_it : has_controller x.world.cluster k ≡ true
     has_it = ap (λ (o : Option ControllerId). option_map_or (has_controller x.world.cluster) o true) (sym leads) ∙ (ranged_there spec valid last x st).leader
 
-    put : (y : Controller) (s : State) → s.world.controllers ≡ x.world.controllers → y.id ≡ (controller_of x.world k).id → controller_of (with_controller y s).world k ≡ y
+    put : (y : Controller) (s : State) → s.world.controllers ≡ x.world.controllers → y.id ≡ (own x).id → controller_of (with_controller y s).world k ≡ y
     put y s same id = put_is k s y (subst (λ (ks : List Controller). k.0 < length ks) (sym same) (listed spec valid last k x st leads)) (id ∙ its_id)
 
-    comes_at : (left : List Call) → Turns.left_of x k ≡ left → IfGoesOn (λ o y. Stands spec last y × ComesTo (controller_of x.world k) (step_at spec x.world.cluster (controller_of x.world k) left) x o y) (Turns.step Quiet k x)
+    comes_at : (left : List Call) → Turns.left_of x k ≡ left → IfGoesOn (λ o y. Stands spec last y × ComesTo (own x) (step_at spec x.world.cluster (own x) left) x o y) (Turns.step Quiet k x)
     comes_at left is =
-        goes_too (Stands spec last) (ComesTo (controller_of x.world k) (step_at spec x.world.cluster (controller_of x.world k) left) x) (Turns.step Quiet k x) (keeps_step spec valid last Quiet k x st)
-        (subst (λ (given : Spec). IfGoesOn (ComesTo (controller_of x.world k) (step_at given x.world.cluster (controller_of x.world k) left) x) (Turns.step Quiet k x)) st.scripted.of.given (step_comes k x left is))
+        goes_too (Stands spec last) (ComesTo (own x) (step_at spec x.world.cluster (own x) left) x) (Turns.step Quiet k x) (keeps_step spec valid last Quiet k x st)
+        (subst (λ (given : Spec). IfGoesOn (ComesTo (own x) (step_at given x.world.cluster (own x) left) x) (Turns.step Quiet k x)) st.scripted.of.given (step_comes k x left is))
 
   -- a begin
   begun : (x : State) → IsAtRest spec last k x → all_walks x.world.cluster ≡ w → tries_left x.world.cluster ≡ t → left_of x.world.cluster ≡ l → IfGoesOn (λ _ y. IsFresh (Live ∷ []) None y) (Turns.step Quiet k x)
   begun x rest walks tries lefts =
-      goes_so (λ o y. Stands spec last y × ComesTo (controller_of x.world k) (begin_step x.world.cluster (controller_of x.world k)) x o y) (λ _ y. IsFresh (Live ∷ []) None y) (Turns.step Quiet k x)
+      goes_so (λ o y. Stands spec last y × ComesTo (own x) (begin_step x.world.cluster (own x)) x o y) (λ _ y. IsFresh (Live ∷ []) None y) (Turns.step Quiet k x)
       (comes_at x rest.led.stands rest.led.leads [] rest.led.idle)
-      (λ o y e. one (is_leader (controller_of x.world k).id x.world.cluster.leader) leads_it o y e.0 e.1)
+      (λ o y e. one (is_leader (own x).id x.world.cluster.leader) leads_it o y e.0 e.1)
     where
-      c : Cluster
-      c = x.world.cluster
-
-      st : Stands spec last x
-      st = rest.led.stands
-
-      id : (controller_of x.world k).id ≡ k
+      id : (own x).id ≡ k
       id = its_id x rest.led.stands rest.led.leads
 
-      leads_it : is_leader (controller_of x.world k).id x.world.cluster.leader ≡ true
+      leads_it : is_leader (own x).id x.world.cluster.leader ≡ true
       leads_it = (λ i. is_leader (id i) (rest.led.leads i)) ∙ same-self k.0
 
       one : (b : Bool) → b ≡ true → (o : Option PassOutcome) (y : State) → Stands spec last y
-          → ComesTo (controller_of x.world k) (if b then Calls (events.Begin (controller_of x.world k).id (begun_of x.world.cluster (controller_of x.world k).id)) None else Refuses (faults.NotLeader x.world.cluster.leader)) x o y
+          → ComesTo (own x) (if b then Calls (events.Begin (own x).id (begun_of x.world.cluster (own x).id)) None else Refuses (faults.NotLeader x.world.cluster.leader)) x o y
           → IsFresh (Live ∷ []) None y
       one false is o y now comes = cc
       one true is o y now comes = subst (IsFresh (Live ∷ []) None) (sym comes.1) (record {
@@ -221,43 +216,37 @@ module _ (spec : Spec) (valid : IsValid spec) (last : Option ℕ) (k : Controlle
         shown = ap (λ (z : Controller). z.turn.view.mail) here ∙ ap (λ (u : Turn). u.view.mail) turn;
       })
         where
-          j : ControllerId
-          j = (controller_of x.world k).id
+          b : IsBeside x.world.cluster (next_pass x.world.cluster (own x).id)
+          b = beside_pass x.world.cluster (own x).id
 
-          e : Event
-          e = events.Begin (controller_of x.world k).id (begun_of x.world.cluster (controller_of x.world k).id)
-
-          b : IsBeside x.world.cluster (next_pass x.world.cluster (controller_of x.world k).id)
-          b = beside_pass x.world.cluster (controller_of x.world k).id
-
-          here : controller_of (with_controller (after_step x.world.cluster (controller_of x.world k) (Calls (events.Begin (controller_of x.world k).id (begun_of x.world.cluster (controller_of x.world k).id)) None)) (happened (events.Begin (controller_of x.world k).id (begun_of x.world.cluster (controller_of x.world k).id)) x)).world k
-              ≡ after_step x.world.cluster (controller_of x.world k) (Calls (events.Begin (controller_of x.world k).id (begun_of x.world.cluster (controller_of x.world k).id)) None)
+          here : controller_of (with_controller (after_step x.world.cluster (own x) (Calls (events.Begin (own x).id (begun_of x.world.cluster (own x).id)) None)) (happened (events.Begin (own x).id (begun_of x.world.cluster (own x).id)) x)).world k
+              ≡ after_step x.world.cluster (own x) (Calls (events.Begin (own x).id (begun_of x.world.cluster (own x).id)) None)
           here =
-              put x rest.led.stands rest.led.leads (after_step x.world.cluster (controller_of x.world k) (Calls (events.Begin (controller_of x.world k).id (begun_of x.world.cluster (controller_of x.world k).id)) None))
-              (happened (events.Begin (controller_of x.world k).id (begun_of x.world.cluster (controller_of x.world k).id)) x) refl refl
+              put x rest.led.stands rest.led.leads (after_step x.world.cluster (own x) (Calls (events.Begin (own x).id (begun_of x.world.cluster (own x).id)) None))
+              (happened (events.Begin (own x).id (begun_of x.world.cluster (own x).id)) x) refl refl
 
-          turn : turn_after x.world.cluster (controller_of x.world k).id (controller_of x.world k).turn (events.Begin (controller_of x.world k).id (begun_of x.world.cluster (controller_of x.world k).id))
-              ≡ begun_turn (begun_of x.world.cluster (controller_of x.world k).id)
-          turn = own_turn (controller_of x.world k).id (controller_of x.world k).turn (begun_turn (begun_of x.world.cluster (controller_of x.world k).id))
+          turn : turn_after x.world.cluster (own x).id (own x).turn (events.Begin (own x).id (begun_of x.world.cluster (own x).id))
+              ≡ begun_turn (begun_of x.world.cluster (own x).id)
+          turn = own_turn (own x).id (own x).turn (begun_turn (begun_of x.world.cluster (own x).id))
 
   -- a read, whose turn goes on so
-  read_on : (call : Call) (rest : List Call) (x : State) → IsFresh (call ∷ rest) None x → (e : Event) (u : Turn) → step_at spec x.world.cluster (controller_of x.world k) (call ∷ rest) ≡ read_step x.world.cluster (controller_of x.world k) e
-      → next x.world.cluster e ≡ x.world.cluster → turn_after x.world.cluster (controller_of x.world k).id (controller_of x.world k).turn e ≡ u
-      → (after : List Call) → u.left ≡ after → u.begun ≡ (controller_of x.world k).turn.begun → u.view.mail ≡ [] → IfGoesOn (λ o y. (o ≡ None) × IsFresh after None y) (Turns.step Quiet k x)
+  read_on : (call : Call) (rest : List Call) (x : State) → IsFresh (call ∷ rest) None x → (e : Event) (u : Turn) → step_at spec x.world.cluster (own x) (call ∷ rest) ≡ read_step x.world.cluster (own x) e
+      → next x.world.cluster e ≡ x.world.cluster → turn_after x.world.cluster (own x).id (own x).turn e ≡ u
+      → (after : List Call) → u.left ≡ after → u.begun ≡ (own x).turn.begun → u.view.mail ≡ [] → IfGoesOn (λ o y. (o ≡ None) × IsFresh after None y) (Turns.step Quiet k x)
   read_on call rest x f e u is_read same turn after goes begun shown =
-      goes_so (λ o y. Stands spec last y × ComesTo (controller_of x.world k) (step_at spec x.world.cluster (controller_of x.world k) (call ∷ rest)) x o y) (λ o y. (o ≡ None) × IsFresh after None y) (Turns.step Quiet k x)
+      goes_so (λ o y. Stands spec last y × ComesTo (own x) (step_at spec x.world.cluster (own x) (call ∷ rest)) x o y) (λ o y. (o ≡ None) × IsFresh after None y) (Turns.step Quiet k x)
       (comes_at x f.stands f.leads (call ∷ rest) f.calls)
-      (λ o y c. one (is_pass x.world.cluster (controller_of x.world k).id (controller_of x.world k).turn.begun.pass) passes o y c.0
-      (subst (λ (s : Step). ComesTo (controller_of x.world k) s x o y) is_read c.1))
+      (λ o y c. one (is_pass x.world.cluster (own x).id (own x).turn.begun.pass) passes o y c.0
+      (subst (λ (s : Step). ComesTo (own x) s x o y) is_read c.1))
     where
-      passes : is_pass x.world.cluster (controller_of x.world k).id (controller_of x.world k).turn.begun.pass ≡ true
+      passes : is_pass x.world.cluster (own x).id (own x).turn.begun.pass ≡ true
       passes =
-          ap (λ (j : ControllerId). is_pass x.world.cluster j (controller_of x.world k).turn.begun.pass) (its_id x f.stands f.leads)
-          ∙ and-both (has_controller x.world.cluster k) ((pass_of x.world.cluster k).0 == (controller_of x.world k).turn.begun.pass.0) (has_it x f.stands f.leads)
+          ap (λ (j : ControllerId). is_pass x.world.cluster j (own x).turn.begun.pass) (its_id x f.stands f.leads)
+          ∙ and-both (has_controller x.world.cluster k) ((pass_of x.world.cluster k).0 == (own x).turn.begun.pass.0) (has_it x f.stands f.leads)
           (ap (λ (n : ℕ). (pass_of x.world.cluster k).0 == n) f.pass ∙ same-self (pass_of x.world.cluster k).0)
 
       one : (b : Bool) → b ≡ true → (o : Option PassOutcome) (y : State) → Stands spec last y
-          → ComesTo (controller_of x.world k) (if b then Calls e None else Refuses (faults.OldPass (pass_of x.world.cluster (controller_of x.world k).id))) x o y → (o ≡ None) × IsFresh after None y
+          → ComesTo (own x) (if b then Calls e None else Refuses (faults.OldPass (pass_of x.world.cluster (own x).id))) x o y → (o ≡ None) × IsFresh after None y
       one false is o y now comes = cc
       one true is o y now comes = (
         comes.0,
@@ -278,72 +267,69 @@ module _ (spec : Spec) (valid : IsValid spec) (last : Option ℕ) (k : Controlle
         }),
       )
         where
-          here : controller_of (with_controller (after_step x.world.cluster (controller_of x.world k) (Calls e None)) (happened e x)).world k ≡ after_step x.world.cluster (controller_of x.world k) (Calls e None)
-          here = put x f.stands f.leads (after_step x.world.cluster (controller_of x.world k) (Calls e None)) (happened e x) refl refl
+          here : controller_of (with_controller (after_step x.world.cluster (own x) (Calls e None)) (happened e x)).world k ≡ after_step x.world.cluster (own x) (Calls e None)
+          here = put x f.stands f.leads (after_step x.world.cluster (own x) (Calls e None)) (happened e x) refl refl
 
   live_on : (x : State) → IsFresh (Live ∷ []) None x → IfGoesOn (λ o y. (o ≡ None) × IsFresh (calls_after_live (live_shown x.world.cluster)) None y) (Turns.step Quiet k x)
   live_on x f =
-      read_on Live [] x f (events.Live (controller_of x.world k).id (controller_of x.world k).turn.begun.pass) (with_live x.world.cluster (controller_of x.world k).turn) refl refl
-      (own_turn (controller_of x.world k).id (controller_of x.world k).turn (if_due (is_due (controller_of x.world k).turn Live (controller_of x.world k).turn.begun.pass) (with_live x.world.cluster (controller_of x.world k).turn))
-      ∙ due_turn (controller_of x.world k).turn (with_live x.world.cluster (controller_of x.world k).turn) Live [] f.calls refl) (calls_after_live (live_shown x.world.cluster)) refl refl f.shown
+      read_on Live [] x f (events.Live (own x).id (own x).turn.begun.pass) (with_live x.world.cluster (own x).turn) refl refl
+      (own_turn (own x).id (own x).turn (if_due (is_due (own x).turn Live (own x).turn.begun.pass) (with_live x.world.cluster (own x).turn))
+      ∙ due_turn (own x).turn (with_live x.world.cluster (own x).turn) Live [] f.calls refl) (calls_after_live (live_shown x.world.cluster)) refl refl f.shown
 
   none_shown : (c : Cluster) (s : SessionId) (ms : List Message) → ms ≡ [] → c.mail ≡ [] → ms ++ mail_shown c s ≡ []
   none_shown c s ms none empty = λ i. none i ++ filter (λ m. m.session.0 == s.0) (empty i)
 
   call_on : (call : Call) (rest : List Call) (x : State) → are_reads (call ∷ rest) ≡ true → IsFresh (call ∷ rest) None x → IfGoesOn (λ o y. (o ≡ None) × IsFresh rest None y) (Turns.do_call_of Quiet k (call ∷ rest) x)
   call_on (Mail s) rest x are f =
-      let t = (controller_of x.world k).turn in
+      let t = (own x).turn in
       let u = gone_on t (record t.view { mail = t.view.mail ++ mail_shown x.world.cluster s }) in
-      read_on (Mail s) rest x f (events.Mail (controller_of x.world k).id t.begun.pass s) u refl refl
-      (own_turn (controller_of x.world k).id t (if_due (is_due t (Mail s) t.begun.pass) u) ∙ due_turn t u (Mail s) rest f.calls (same-self s.0)) rest (ap (drop 1) f.calls) refl
+      read_on (Mail s) rest x f (events.Mail (own x).id t.begun.pass s) u refl refl
+      (own_turn (own x).id t (if_due (is_due t (Mail s) t.begun.pass) u) ∙ due_turn t u (Mail s) rest f.calls (same-self s.0)) rest (ap (drop 1) f.calls) refl
       (none_shown x.world.cluster s t.view.mail f.shown f.mail)
   call_on (States s) rest x are f =
-      let t = (controller_of x.world k).turn in
+      let t = (own x).turn in
       let u = gone_on t (record t.view { rows = t.view.rows ++ states_shown x.world.cluster s }) in
-      read_on (States s) rest x f (events.States (controller_of x.world k).id t.begun.pass s) u refl refl
-      (own_turn (controller_of x.world k).id t (if_due (is_due t (States s) t.begun.pass) u) ∙ due_turn t u (States s) rest f.calls (same-self s.0)) rest (ap (drop 1) f.calls) refl f.shown
+      read_on (States s) rest x f (events.States (own x).id t.begun.pass s) u refl refl
+      (own_turn (own x).id t (if_due (is_due t (States s) t.begun.pass) u) ∙ due_turn t u (States s) rest f.calls (same-self s.0)) rest (ap (drop 1) f.calls) refl f.shown
   call_on Ideals rest x are f =
-      let t = (controller_of x.world k).turn in
+      let t = (own x).turn in
       let u = gone_on t (record t.view { ideals = ideals_shown x.world.cluster }) in
-      read_on Ideals rest x f (events.Ideals (controller_of x.world k).id t.begun.pass) u refl refl
-      (own_turn (controller_of x.world k).id t (if_due (is_due t Ideals t.begun.pass) u) ∙ due_turn t u Ideals rest f.calls refl) rest (ap (drop 1) f.calls) refl f.shown
+      read_on Ideals rest x f (events.Ideals (own x).id t.begun.pass) u refl refl
+      (own_turn (own x).id t (if_due (is_due t Ideals t.begun.pass) u) ∙ due_turn t u Ideals rest f.calls refl) rest (ap (drop 1) f.calls) refl f.shown
   call_on Live rest x are f = cc
   call_on Send rest x are f = cc
   call_on Post rest x are f = cc
 
   -- before the dispatch the view is that of the cluster
   module _ (made : Option Plan) (x : State) (f : IsFresh (Send ∷ Post ∷ []) made x) where
-    j : ControllerId
-    j = (controller_of x.world k).id
-
-    told : ((controller_of x.world k).turn ≡ idle_turn) ⊎ ((controller_of x.world k).turn ≡ turn_of spec (controller_of x.world k).id x.world.history)
-        → (controller_of x.world k).turn ≡ turn_of spec (controller_of x.world k).id x.world.history
+    told : ((own x).turn ≡ idle_turn) ⊎ ((own x).turn ≡ turn_of spec (own x).id x.world.history)
+        → (own x).turn ≡ turn_of spec (own x).id x.world.history
     told (inl idle) = absurd (let no : [] ≡ Send ∷ Post ∷ [] = ap (λ (u : Turn). u.left) (sym idle) ∙ f.calls in cc)
     told (inr same) = same
 
-    turn : (controller_of x.world k).turn ≡ turn_of spec (controller_of x.world k).id x.world.history
+    turn : (own x).turn ≡ turn_of spec (own x).id x.world.history
     turn = told (f.stands.scripted.of.turns k).of_board.told
 
-    read : is_read (turn_of spec (controller_of x.world k).id x.world.history) ≡ true
+    read : is_read (turn_of spec (own x).id x.world.history) ≡ true
     read = ap is_read (sym turn) ∙ ap (λ (calls : List Call). is_first Send calls || is_first Post calls) f.calls
 
     cluster : x.world.cluster ≡ replay (opening spec) x.world.history
     cluster = f.stands.scripted.of.cluster
 
-    view : (controller_of x.world k).turn.view ≡ read_at x.world.cluster
+    view : (own x).turn.view ≡ read_at x.world.cluster
     view =
         ap (λ (u : Turn). u.view) turn
-        ∙ read_whole spec x.world.history (controller_of x.world k).id valid f.stands.scripted.of.lawful.0 read
+        ∙ read_whole spec x.world.history (own x).id valid f.stands.scripted.of.lawful.0 read
         (ap (λ (u : Turn). u.begun.change) (sym turn) ∙ f.change ∙ ap (λ (c : Cluster). c.change) cluster)
         ∙ ap read_at (sym cluster)
 
     fixed : IsFixed (opening spec) x.world.cluster
     fixed = fixed_there spec last x.world f.stands.scripted
 
-    formed : is_well_formed spec.models (length x.world.cluster.instances) (controller_of x.world k).turn.view ≡ true
+    formed : is_well_formed spec.models (length x.world.cluster.instances) (own x).turn.view ≡ true
     formed =
         (λ i. is_well_formed spec.models (many i) ((turn i).view))
-        ∙ read_law spec valid x.world.history f.stands.scripted.of.lawful.0 (controller_of x.world k).id read
+        ∙ read_law spec valid x.world.history f.stands.scripted.of.lawful.0 (own x).id read
       where
         many : length x.world.cluster.instances ≡ length spec.instances
         many = (fixed_there spec last x.world f.stands.scripted).instances ∙ length-replicate (length spec.instances) false
@@ -361,32 +347,32 @@ module _ (spec : Spec) (valid : IsValid spec) (last : Option ℕ) (k : Controlle
         each [] = refl
         each (n ∷ ns) = and-both (has_parts_of x.world.cluster v n) (list_all (has_parts_of x.world.cluster v) ns) (one n) (each ns)
 
-    of_it : is_of_cluster spec x.world.cluster (controller_of x.world k).turn.view ≡ true
+    of_it : is_of_cluster spec x.world.cluster (own x).turn.view ≡ true
     of_it =
-        and-both (is_well_formed spec.models (length x.world.cluster.instances) (controller_of x.world k).turn.view)
-        (list_all (has_parts_of x.world.cluster (controller_of x.world k).turn.view) (numbers_below (length (controller_of x.world k).turn.view.ideals.resources)))
-        formed (same_parts (controller_of x.world k).turn.view (ap (λ (v : View). v.ideals.resources) view))
+        and-both (is_well_formed spec.models (length x.world.cluster.instances) (own x).turn.view)
+        (list_all (has_parts_of x.world.cluster (own x).turn.view) (numbers_below (length (own x).turn.view.ideals.resources)))
+        formed (same_parts (own x).turn.view (ap (λ (v : View). v.ideals.resources) view))
 
-    plan_is : plan spec.models spec.rules (controller_of x.world k).turn.view ≡ plan x.world.cluster.models x.world.cluster.rules (view_at x.world.cluster)
+    plan_is : plan spec.models spec.rules (own x).turn.view ≡ plan x.world.cluster.models x.world.cluster.rules (view_at x.world.cluster)
     plan_is = (λ i. plan (sym fixed.models i) (sym fixed.rules i) (view i)) ∙ plan_read x.world.cluster (safe_there spec valid last x f.stands)
 
   -- the plan is made
   planned_on : (x : State) → IsFresh (Send ∷ Post ∷ []) None x → IfGoesOn (λ o y. (o ≡ None) × ((p : Plan) × IsFresh (Send ∷ Post ∷ []) (Some p) y)) (Turns.step Quiet k x)
   planned_on x f =
-      goes_so (λ o y. Stands spec last y × ComesTo (controller_of x.world k) (step_at spec x.world.cluster (controller_of x.world k) (Send ∷ Post ∷ [])) x o y)
+      goes_so (λ o y. Stands spec last y × ComesTo (own x) (step_at spec x.world.cluster (own x) (Send ∷ Post ∷ [])) x o y)
       (λ o y. (o ≡ None) × ((p : Plan) × IsFresh (Send ∷ Post ∷ []) (Some p) y)) (Turns.step Quiet k x)
       (comes_at x f.stands f.leads (Send ∷ Post ∷ []) f.calls)
-      (λ o y c. one (is_of_cluster spec x.world.cluster (controller_of x.world k).turn.view) (of_it None x f) o y c.0
-      (subst (λ (a : Option Plan). ComesTo (controller_of x.world k) (of_cluster (is_of_cluster spec x.world.cluster (controller_of x.world k).turn.view) (planned_step spec x.world.cluster (controller_of x.world k) a)) x o y) f.plan c.1))
+      (λ o y c. one (is_of_cluster spec x.world.cluster (own x).turn.view) (of_it None x f) o y c.0
+      (subst (λ (a : Option Plan). ComesTo (own x) (of_cluster (is_of_cluster spec x.world.cluster (own x).turn.view) (planned_step spec x.world.cluster (own x) a)) x o y) f.plan c.1))
     where
-      one : (b : Bool) → b ≡ true → (o : Option PassOutcome) (y : State) → Stands spec last y → ComesTo (controller_of x.world k) (of_cluster b (planned_step spec x.world.cluster (controller_of x.world k) None)) x o y
+      one : (b : Bool) → b ≡ true → (o : Option PassOutcome) (y : State) → Stands spec last y → ComesTo (own x) (of_cluster b (planned_step spec x.world.cluster (own x) None)) x o y
           → (o ≡ None) × ((p : Plan) × IsFresh (Send ∷ Post ∷ []) (Some p) y)
       one false is o y now comes = cc
       one true is o y now comes = (
         comes.0,
         (
-          plan spec.models spec.rules (controller_of x.world k).turn.view,
-          subst (IsFresh (Send ∷ Post ∷ []) (Some (plan spec.models spec.rules (controller_of x.world k).turn.view))) (sym comes.1) (record {
+          plan spec.models spec.rules (own x).turn.view,
+          subst (IsFresh (Send ∷ Post ∷ []) (Some (plan spec.models spec.rules (own x).turn.view))) (sym comes.1) (record {
             stands = subst (Stands spec last) comes.1 now;
             leads = f.leads;
             mail = f.mail;
@@ -404,9 +390,9 @@ module _ (spec : Spec) (valid : IsValid spec) (last : Option ℕ) (k : Controlle
         ),
       )
         where
-          here : controller_of (with_controller (record (controller_of x.world k) { plan = Some (plan spec.models spec.rules (controller_of x.world k).turn.view) }) x).world k
-              ≡ record (controller_of x.world k) { plan = Some (plan spec.models spec.rules (controller_of x.world k).turn.view) }
-          here = put x f.stands f.leads (record (controller_of x.world k) { plan = Some (plan spec.models spec.rules (controller_of x.world k).turn.view) }) x refl refl
+          here : controller_of (with_controller (record (own x) { plan = Some (plan spec.models spec.rules (own x).turn.view) }) x).world k
+              ≡ record (own x) { plan = Some (plan spec.models spec.rules (own x).turn.view) }
+          here = put x f.stands f.leads (record (own x) { plan = Some (plan spec.models spec.rules (own x).turn.view) }) x refl refl
 
   -- the dispatch
   record IsSent (o : Option PassOutcome) (y : State) : Type 0 where
@@ -419,92 +405,92 @@ module _ (spec : Spec) (valid : IsValid spec) (last : Option ℕ) (k : Controlle
 
   sent_on : (p : Plan) (x : State) → IsFresh (Send ∷ Post ∷ []) (Some p) x → IfGoesOn IsSent (Turns.step Quiet k x)
   sent_on p x f =
-      goes_so (λ o y. Stands spec last y × ComesTo (controller_of x.world k) (step_at spec x.world.cluster (controller_of x.world k) (Send ∷ Post ∷ [])) x o y) IsSent (Turns.step Quiet k x)
+      goes_so (λ o y. Stands spec last y × ComesTo (own x) (step_at spec x.world.cluster (own x) (Send ∷ Post ∷ [])) x o y) IsSent (Turns.step Quiet k x)
       (comes_at x f.stands f.leads (Send ∷ Post ∷ []) f.calls)
-      (λ o y c. one (is_of_cluster spec x.world.cluster (controller_of x.world k).turn.view) (of_it (Some p) x f) (is_epoch x.world.cluster (controller_of x.world k).turn.begun.epoch) epoch_is
-      (is_pass x.world.cluster (controller_of x.world k).id (controller_of x.world k).turn.begun.pass) pass_is o y c.0
-      (subst (λ (a : Option Plan). ComesTo (controller_of x.world k) (of_cluster (is_of_cluster spec x.world.cluster (controller_of x.world k).turn.view) (planned_step spec x.world.cluster (controller_of x.world k) a)) x o y) f.plan c.1))
+      (λ o y c. one (is_of_cluster spec x.world.cluster (own x).turn.view) (of_it (Some p) x f) (is_epoch x.world.cluster (own x).turn.begun.epoch) epoch_is
+      (is_pass x.world.cluster (own x).id (own x).turn.begun.pass) pass_is o y c.0
+      (subst (λ (a : Option Plan). ComesTo (own x) (of_cluster (is_of_cluster spec x.world.cluster (own x).turn.view) (planned_step spec x.world.cluster (own x) a)) x o y) f.plan c.1))
     where
-      epoch_is : is_epoch x.world.cluster (controller_of x.world k).turn.begun.epoch ≡ true
+      epoch_is : is_epoch x.world.cluster (own x).turn.begun.epoch ≡ true
       epoch_is = ap (λ (e : Epoch). x.world.cluster.epoch.0 == e.0) f.epoch ∙ same-self x.world.cluster.epoch.0
 
-      pass_is : is_pass x.world.cluster (controller_of x.world k).id (controller_of x.world k).turn.begun.pass ≡ true
+      pass_is : is_pass x.world.cluster (own x).id (own x).turn.begun.pass ≡ true
       pass_is =
-          ap (λ (n : ControllerId). is_pass x.world.cluster n (controller_of x.world k).turn.begun.pass) (its_id x f.stands f.leads)
-          ∙ and-both (has_controller x.world.cluster k) ((pass_of x.world.cluster k).0 == (controller_of x.world k).turn.begun.pass.0) (has_it x f.stands f.leads)
+          ap (λ (n : ControllerId). is_pass x.world.cluster n (own x).turn.begun.pass) (its_id x f.stands f.leads)
+          ∙ and-both (has_controller x.world.cluster k) ((pass_of x.world.cluster k).0 == (own x).turn.begun.pass.0) (has_it x f.stands f.leads)
           (ap (λ (n : ℕ). (pass_of x.world.cluster k).0 == n) f.pass ∙ same-self (pass_of x.world.cluster k).0)
 
       event : Event
       event =
-          events.Dispatch (controller_of x.world k).id (controller_of x.world k).turn.begun.epoch (controller_of x.world k).turn.begun.pass p.proposals
-          (dispatched_of x.world.cluster (controller_of x.world k).id p.proposals)
+          events.Dispatch (own x).id (own x).turn.begun.epoch (own x).turn.begun.pass p.proposals
+          (dispatched_of x.world.cluster (own x).id p.proposals)
 
       outcome : PassOutcome
-      outcome = outcome_of (controller_of x.world k).turn p (dispatched_of x.world.cluster (controller_of x.world k).id p.proposals)
+      outcome = outcome_of (own x).turn p (dispatched_of x.world.cluster (own x).id p.proposals)
 
       plan_so : p ≡ plan x.world.cluster.models x.world.cluster.rules (view_at x.world.cluster)
-      plan_so = (subst (IsPlanOf spec (controller_of x.world k).turn) f.plan (f.stands.scripted.of.turns k).of_board.planned).1 ∙ plan_is (Some p) x f
+      plan_so = (subst (IsPlanOf spec (own x).turn) f.plan (f.stands.scripted.of.turns k).of_board.planned).1 ∙ plan_is (Some p) x f
 
-      jobs_so : (qs : List Proposal) → Each (λ i. is_live (after_dispatch x.world.cluster (controller_of x.world k).id qs).live i.message.session ≡ false) x.world.jobs
+      jobs_so : (qs : List Proposal) → Each (λ i. is_live (after_dispatch x.world.cluster (own x).id qs).live i.message.session ≡ false) x.world.jobs
       jobs_so qs =
-          subst (λ (ls : List LiveSession). Each (λ i. is_live ls i.message.session ≡ false) x.world.jobs) (sym (alike_dispatch x.world.cluster (controller_of x.world k).id qs).live) f.jobs
+          subst (λ (ls : List LiveSession). Each (λ i. is_live ls i.message.session ≡ false) x.world.jobs) (sym (alike_dispatch x.world.cluster (own x).id qs).live) f.jobs
 
       -- it settles where nothing is proposed
       passed : (qs : List Proposal) → p.proposals ≡ qs
-          → by_outcome (λ report. Unit {0}) (IsFalling w t l (after_dispatch x.world.cluster (controller_of x.world k).id p.proposals)
-          × Each (λ i. is_live (after_dispatch x.world.cluster (controller_of x.world k).id p.proposals).live i.message.session ≡ false) x.world.jobs)
-          (Some (outcome_of (controller_of x.world k).turn p (dispatched_of x.world.cluster (controller_of x.world k).id p.proposals)))
+          → by_outcome (λ report. Unit {0}) (IsFalling w t l (after_dispatch x.world.cluster (own x).id p.proposals)
+          × Each (λ i. is_live (after_dispatch x.world.cluster (own x).id p.proposals).live i.message.session ≡ false) x.world.jobs)
+          (Some (outcome_of (own x).turn p (dispatched_of x.world.cluster (own x).id p.proposals)))
       passed [] none = subst (by_outcome (λ report. Unit {0}) _) (sym (ap (λ (o : PassOutcome). Some o) settles)) tt
         where
-          settles : outcome_of (controller_of x.world k).turn p (dispatched_of x.world.cluster (controller_of x.world k).id p.proposals) ≡ ends.Settled p.report
+          settles : outcome_of (own x).turn p (dispatched_of x.world.cluster (own x).id p.proposals) ≡ ends.Settled p.report
           settles =
-              (λ i. if nat_lt 0 (length (none i)) then ends.Sent (count is_sent (dispatched_of x.world.cluster (controller_of x.world k).id p.proposals).placed)
-              else if nat_lt 0 (length (f.shown i)) then ends.Waiting (length (controller_of x.world k).turn.view.mail)
-              else if f.change i == x.world.cluster.change then ends.Settled p.report else ends.Moved (controller_of x.world k).turn.begun.change x.world.cluster.change)
-              ∙ ap (λ (b : Bool). if b then ends.Settled p.report else ends.Moved (controller_of x.world k).turn.begun.change x.world.cluster.change) (same-self x.world.cluster.change)
+              (λ i. if nat_lt 0 (length (none i)) then ends.Sent (count is_sent (dispatched_of x.world.cluster (own x).id p.proposals).placed)
+              else if nat_lt 0 (length (f.shown i)) then ends.Waiting (length (own x).turn.view.mail)
+              else if f.change i == x.world.cluster.change then ends.Settled p.report else ends.Moved (own x).turn.begun.change x.world.cluster.change)
+              ∙ ap (λ (b : Bool). if b then ends.Settled p.report else ends.Moved (own x).turn.begun.change x.world.cluster.change) (same-self x.world.cluster.change)
       passed (q ∷ qs) some = subst (by_outcome (λ report. Unit {0}) _) (sym (ap (λ (o : PassOutcome). Some o) sends)) (falls, jobs_so p.proposals)
         where
-          sends : outcome_of (controller_of x.world k).turn p (dispatched_of x.world.cluster (controller_of x.world k).id p.proposals)
-              ≡ ends.Sent (count is_sent (dispatched_of x.world.cluster (controller_of x.world k).id p.proposals).placed)
+          sends : outcome_of (own x).turn p (dispatched_of x.world.cluster (own x).id p.proposals)
+              ≡ ends.Sent (count is_sent (dispatched_of x.world.cluster (own x).id p.proposals).placed)
           sends =
-              (λ i. if nat_lt 0 (length (some i)) then ends.Sent (count is_sent (dispatched_of x.world.cluster (controller_of x.world k).id p.proposals).placed)
-              else if nat_lt 0 (length (controller_of x.world k).turn.view.mail) then ends.Waiting (length (controller_of x.world k).turn.view.mail)
-              else if (controller_of x.world k).turn.begun.change == x.world.cluster.change then ends.Settled p.report else ends.Moved (controller_of x.world k).turn.begun.change x.world.cluster.change)
-              ∙ ap (λ (b : Bool). if b then ends.Sent (count is_sent (dispatched_of x.world.cluster (controller_of x.world k).id p.proposals).placed)
-              else if nat_lt 0 (length (controller_of x.world k).turn.view.mail) then ends.Waiting (length (controller_of x.world k).turn.view.mail)
-              else if (controller_of x.world k).turn.begun.change == x.world.cluster.change then ends.Settled p.report else ends.Moved (controller_of x.world k).turn.begun.change x.world.cluster.change) (more (length qs))
+              (λ i. if nat_lt 0 (length (some i)) then ends.Sent (count is_sent (dispatched_of x.world.cluster (own x).id p.proposals).placed)
+              else if nat_lt 0 (length (own x).turn.view.mail) then ends.Waiting (length (own x).turn.view.mail)
+              else if (own x).turn.begun.change == x.world.cluster.change then ends.Settled p.report else ends.Moved (own x).turn.begun.change x.world.cluster.change)
+              ∙ ap (λ (b : Bool). if b then ends.Sent (count is_sent (dispatched_of x.world.cluster (own x).id p.proposals).placed)
+              else if nat_lt 0 (length (own x).turn.view.mail) then ends.Waiting (length (own x).turn.view.mail)
+              else if (own x).turn.begun.change == x.world.cluster.change then ends.Settled p.report else ends.Moved (own x).turn.begun.change x.world.cluster.change) (more (length qs))
             where
               more : (n : ℕ) → nat_lt 0 (suc n) ≡ true
               more n = grind (arith, nat_tests)
 
-          falls : IsFalling w t l (after_dispatch x.world.cluster (controller_of x.world k).id p.proposals)
+          falls : IsFalling w t l (after_dispatch x.world.cluster (own x).id p.proposals)
           falls =
-              subst (λ (qs : List Proposal). IsFalling w t l (after_dispatch x.world.cluster (controller_of x.world k).id qs)) (sym some)
-              (subst (λ (n : ℕ). IsFalling n t l (after_dispatch x.world.cluster (controller_of x.world k).id (q ∷ qs))) f.walks
-              (subst (λ (n : ℕ). IsFalling (all_walks x.world.cluster) n l (after_dispatch x.world.cluster (controller_of x.world k).id (q ∷ qs))) f.tries
-              (subst (λ (n : ℕ). IsFalling (all_walks x.world.cluster) (tries_left x.world.cluster) n (after_dispatch x.world.cluster (controller_of x.world k).id (q ∷ qs))) f.lefts
-              (dispatch_falls x.world.cluster (controller_of x.world k).id q qs (safe_there spec valid last x f.stands) (ranged_there spec valid last x f.stands) f.mail
+              subst (λ (qs : List Proposal). IsFalling w t l (after_dispatch x.world.cluster (own x).id qs)) (sym some)
+              (subst (λ (n : ℕ). IsFalling n t l (after_dispatch x.world.cluster (own x).id (q ∷ qs))) f.walks
+              (subst (λ (n : ℕ). IsFalling (all_walks x.world.cluster) n l (after_dispatch x.world.cluster (own x).id (q ∷ qs))) f.tries
+              (subst (λ (n : ℕ). IsFalling (all_walks x.world.cluster) (tries_left x.world.cluster) n (after_dispatch x.world.cluster (own x).id (q ∷ qs))) f.lefts
+              (dispatch_falls x.world.cluster (own x).id q qs (safe_there spec valid last x f.stands) (ranged_there spec valid last x f.stands) f.mail
               (ap (λ (r : Plan). r.proposals) (sym plan_so) ∙ some)))))
 
       one : (a : Bool) → a ≡ true → (b : Bool) → b ≡ true → (d : Bool) → d ≡ true → (o : Option PassOutcome) (y : State) → Stands spec last y
-          → ComesTo (controller_of x.world k) (of_cluster a (if not b then Refuses (faults.Fenced x.world.cluster.epoch) else if not d then Refuses (faults.OldPass (pass_of x.world.cluster (controller_of x.world k).id))
-          else Calls (events.Dispatch (controller_of x.world k).id (controller_of x.world k).turn.begun.epoch (controller_of x.world k).turn.begun.pass p.proposals
-          (dispatched_of x.world.cluster (controller_of x.world k).id p.proposals)) (Some (outcome_of (controller_of x.world k).turn p (dispatched_of x.world.cluster (controller_of x.world k).id p.proposals))))) x o y
+          → ComesTo (own x) (of_cluster a (if not b then Refuses (faults.Fenced x.world.cluster.epoch) else if not d then Refuses (faults.OldPass (pass_of x.world.cluster (own x).id))
+          else Calls (events.Dispatch (own x).id (own x).turn.begun.epoch (own x).turn.begun.pass p.proposals
+          (dispatched_of x.world.cluster (own x).id p.proposals)) (Some (outcome_of (own x).turn p (dispatched_of x.world.cluster (own x).id p.proposals))))) x o y
           → IsSent o y
       one false ia b ib d id o y now comes = cc
       one true ia false ib d id o y now comes = cc
       one true ia true ib false id o y now comes = cc
       one true ia true ib true id o y now comes = record {
-        outcome = outcome_of (controller_of x.world k).turn p (dispatched_of x.world.cluster (controller_of x.world k).id p.proposals);
+        outcome = outcome_of (own x).turn p (dispatched_of x.world.cluster (own x).id p.proposals);
         is = comes.0;
-        passed = subst (λ (z : State). by_outcome (λ report. Unit {0}) (IsFalling w t l z.world.cluster × HasNoJobs z.world) (Some (outcome_of (controller_of x.world k).turn p (dispatched_of x.world.cluster (controller_of x.world k).id p.proposals)))) (sym comes.1) (passed p.proposals refl);
+        passed = subst (λ (z : State). by_outcome (λ report. Unit {0}) (IsFalling w t l z.world.cluster × HasNoJobs z.world) (Some (outcome_of (own x).turn p (dispatched_of x.world.cluster (own x).id p.proposals)))) (sym comes.1) (passed p.proposals refl);
         stands = now;
-        leads = ap (λ (z : State). z.world.cluster.leader) comes.1 ∙ (alike_dispatch x.world.cluster (controller_of x.world k).id p.proposals).leader ∙ f.leads;
+        leads = ap (λ (z : State). z.world.cluster.leader) comes.1 ∙ (alike_dispatch x.world.cluster (own x).id p.proposals).leader ∙ f.leads;
         calls =
             ap (λ (z : State). Turns.left_of z k) comes.1
-            ∙ ap (λ (z : Controller). z.turn.left) (put x f.stands f.leads (after_step x.world.cluster (controller_of x.world k) (Calls event (Some outcome))) (happened event x) refl refl)
-            ∙ ap (λ (u : Turn). u.left) (own_turn (controller_of x.world k).id (controller_of x.world k).turn (if_due (is_due (controller_of x.world k).turn Send (controller_of x.world k).turn.begun.pass && is_of_epoch (controller_of x.world k).turn (controller_of x.world k).turn.begun.epoch) (gone_on (controller_of x.world k).turn (controller_of x.world k).turn.view)))
-            ∙ (λ i. (if_due ((is_first Send (f.calls i) && same-self (controller_of x.world k).turn.begun.pass.0 i) && same-self (controller_of x.world k).turn.begun.epoch.0 i) (gone_on (controller_of x.world k).turn (controller_of x.world k).turn.view)).left)
+            ∙ ap (λ (z : Controller). z.turn.left) (put x f.stands f.leads (after_step x.world.cluster (own x) (Calls event (Some outcome))) (happened event x) refl refl)
+            ∙ ap (λ (u : Turn). u.left) (own_turn (own x).id (own x).turn (if_due (is_due (own x).turn Send (own x).turn.begun.pass && is_of_epoch (own x).turn (own x).turn.begun.epoch) (gone_on (own x).turn (own x).turn.view)))
+            ∙ (λ i. (if_due ((is_first Send (f.calls i) && same-self (own x).turn.begun.pass.0 i) && same-self (own x).turn.begun.epoch.0 i) (gone_on (own x).turn (own x).turn.view)).left)
             ∙ ap (drop 1) f.calls;
       }
 
@@ -512,9 +498,9 @@ module _ (spec : Spec) (valid : IsValid spec) (last : Option ℕ) (k : Controlle
   posted_on : (o : PassOutcome) (y : State) → Stands spec last y → y.world.cluster.leader ≡ Some k → Turns.left_of y k ≡ Post ∷ [] → IsPassed (Some o) y
       → IfGoesOn (λ p z. (p ≡ None) × IsPassed (Some o) z) (Turns.step Quiet k y)
   posted_on o y st leads calls passed =
-      goes_so (λ p z. Stands spec last z × ComesTo (controller_of y.world k) (step_at spec y.world.cluster (controller_of y.world k) (Post ∷ [])) y p z) (λ p z. (p ≡ None) × IsPassed (Some o) z) (Turns.step Quiet k y)
+      goes_so (λ p z. Stands spec last z × ComesTo (own y) (step_at spec y.world.cluster (own y) (Post ∷ [])) y p z) (λ p z. (p ≡ None) × IsPassed (Some o) z) (Turns.step Quiet k y)
       (comes_at y st leads (Post ∷ []) calls)
-      (λ p z c. one (is_of_cluster spec y.world.cluster (controller_of y.world k).turn.view) (is_epoch y.world.cluster (controller_of y.world k).turn.begun.epoch) p z c.1)
+      (λ p z c. one (is_of_cluster spec y.world.cluster (own y).turn.view) (is_epoch y.world.cluster (own y).turn.begun.epoch) p z c.1)
     where
       so : (q : PassOutcome) → IsPassed (Some q) y → (rows : List Seen)
           → by_outcome (λ report. Unit {0}) (IsFalling w t l (record y.world.cluster { posted = rows }) × HasNoJobs y.world) (Some q)
@@ -523,15 +509,15 @@ module _ (spec : Spec) (valid : IsValid spec) (last : Option ℕ) (k : Controlle
       so (ends.Waiting n) p rows = (way_posted w t l y.world.cluster rows p.0, p.1)
       so (ends.Moved from to) p rows = (way_posted w t l y.world.cluster rows p.0, p.1)
 
-      refused : (z : State) → z ≡ with_controller (idle_controller (controller_of y.world k).id) y → IsPassed (Some o) z
+      refused : (z : State) → z ≡ with_controller (idle_controller (own y).id) y → IsPassed (Some o) z
       refused z is = subst (IsPassed (Some o)) (sym is) passed
 
       one : (a b : Bool) (p : Option PassOutcome) (z : State)
-          → ComesTo (controller_of y.world k) (of_cluster a (if b then Calls (events.Post (controller_of y.world k).id (controller_of y.world k).turn.begun.epoch (posted_of (controller_of y.world k).turn.view)) None
+          → ComesTo (own y) (of_cluster a (if b then Calls (events.Post (own y).id (own y).turn.begun.epoch (posted_of (own y).turn.view)) None
           else Refuses (faults.Fenced y.world.cluster.epoch))) y p z → (p ≡ None) × IsPassed (Some o) z
       one false b p z comes = (comes.0, refused z comes.1)
       one true false p z comes = (comes.0, refused z comes.1)
-      one true true p z comes = (comes.0, subst (IsPassed (Some o)) (sym comes.1) (so o passed (posted_of (controller_of y.world k).turn.view)))
+      one true true p z comes = (comes.0, subst (IsPassed (Some o)) (sym comes.1) (so o passed (posted_of (own y).turn.view)))
 
   -- what comes before an outcome doesn't count
   without_earlier : (p : Option PassOutcome) (z : State) → IsPassed p z → IsPassed (Turns.or_earlier None p) z

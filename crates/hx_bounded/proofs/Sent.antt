@@ -179,9 +179,6 @@ pub dispatch_falls : (c : Cluster) (k : ControllerId) (q : Proposal) (qs : List 
     → IsFalling (all_walks c) (tries_left c) (left_of c) (after_dispatch c k (q ∷ qs))
 dispatch_falls c k q qs safe ranged none proposes = falls
   where
-    d : Cluster
-    d = after_dispatch c k (q ∷ qs)
-
     s : IsSending c (after_dispatch c k (q ∷ qs))
     s =
         subst (λ (ps : List Proposal). IsSending c (after_proposals (next_pass c k) ps)) proposes

@@ -148,6 +148,10 @@ told_both b c d (Some (ends.Waiting n)) None f g = tt
 told_both b c d (Some (ends.Moved from to)) None f g = tt
 
 module _ (spec : Spec) (valid : IsValid spec) (last : Option ℕ) (k : ControllerId) where
+  -- the leader's controller
+  abbrev own : State → Controller
+  own x = controller_of x.world k
+
   pub record IsMoved (x : State) (o : Option PassOutcome) (y : State) : Type 0 where
     pub stands : Stands spec last y
     pub leads : y.world.cluster.leader ≡ Some k
@@ -165,10 +169,10 @@ module _ (spec : Spec) (valid : IsValid spec) (last : Option ℕ) (k : Controlle
     told = told_both x.world.cluster y.world.cluster z.world.cluster o p f.told g.told;
   }
 
-  settled_there : (s : State) → Stands spec last s → (e : Event) (r : Report) → step_of spec s.world.cluster (controller_of s.world k) ≡ Calls e (Some (ends.Settled r)) → IsExplained (next s.world.cluster e) r
+  settled_there : (s : State) → Stands spec last s → (e : Event) (r : Report) → step_of spec s.world.cluster (own s) ≡ Calls e (Some (ends.Settled r)) → IsExplained (next s.world.cluster e) r
   settled_there s st e r is =
-      subst (λ (c : Cluster). step_of spec c (controller_of s.world k) ≡ Calls e (Some (ends.Settled r)) → IsExplained (next c e) r) (sym st.scripted.of.cluster)
-      (λ at. (settled_board spec s.world.history (controller_of s.world k) e r valid st.scripted.of.lawful.0 (st.scripted.of.turns k).of_board at).1) is
+      subst (λ (c : Cluster). step_of spec c (own s) ≡ Calls e (Some (ends.Settled r)) → IsExplained (next c e) r) (sym st.scripted.of.cluster)
+      (λ at. (settled_board spec s.world.history (own s) e r valid st.scripted.of.lawful.0 (st.scripted.of.turns k).of_board at).1) is
 
   -- a step
   record IsStepped (left : List Call) (s : State) (o : Option PassOutcome) (y : State) : Type 0 where
@@ -176,14 +180,11 @@ module _ (spec : Spec) (valid : IsValid spec) (last : Option ℕ) (k : Controlle
     goes : (Turns.left_of y k ≡ []) ⊎ (Turns.left_of y k ≡ after_call (live_shown s.world.cluster) left)
 
   module _ (s : State) (st : Stands spec last s) (leads : s.world.cluster.leader ≡ Some k) where
-    x0 : Controller
-    x0 = controller_of s.world k
-
-    put : (y : Controller) (t : State) → t.world.controllers ≡ s.world.controllers → y.id ≡ (controller_of s.world k).id → controller_of (with_controller y t).world k ≡ y
+    put : (y : Controller) (t : State) → t.world.controllers ≡ s.world.controllers → y.id ≡ (own s).id → controller_of (with_controller y t).world k ≡ y
     put y t same id =
         put_is k t y (subst (λ (ks : List Controller). k.0 < length ks) (sym same) (listed spec valid last k s st leads)) (id ∙ (st.scripted.of.turns k).id)
 
-    told_of : (e : Event) (o : Option PassOutcome) (left : List Call) → IsFine s.world.cluster (controller_of s.world k) left e o → step_of spec s.world.cluster (controller_of s.world k) ≡ Calls e o
+    told_of : (e : Event) (o : Option PassOutcome) (left : List Call) → IsFine s.world.cluster (own s) left e o → step_of spec s.world.cluster (own s) ≡ Calls e o
         → IsTold s.world.cluster o (next s.world.cluster e)
     told_of e None left fine is = fine.keeps refl
     told_of e (Some (ends.Settled r)) left fine is = settled_there s st e r is
@@ -191,11 +192,11 @@ module _ (spec : Spec) (valid : IsValid spec) (last : Option ℕ) (k : Controlle
     told_of e (Some (ends.Waiting n)) left fine is = tt
     told_of e (Some (ends.Moved from to)) left fine is = tt
 
-    from_step : (left : List Call) (step : Step) → step_of spec s.world.cluster (controller_of s.world k) ≡ step → AreFine s.world.cluster (controller_of s.world k) left step
-        → (o : Option PassOutcome) (y : State) → Stands spec last y → ComesTo (controller_of s.world k) step s o y → IsStepped left s o y
+    from_step : (left : List Call) (step : Step) → step_of spec s.world.cluster (own s) ≡ step → AreFine s.world.cluster (own s) left step
+        → (o : Option PassOutcome) (y : State) → Stands spec last y → ComesTo (own s) step s o y → IsStepped left s o y
     from_step left (Plans p) is fine o y now comes = absurd fine
     from_step left (Calls e a) is fine o y now comes =
-        let x' = after_step s.world.cluster (controller_of s.world k) (Calls e a) in
+        let x' = after_step s.world.cluster (own s) (Calls e a) in
         record {
           moved = record {
             stands = now;
@@ -213,43 +214,43 @@ module _ (spec : Spec) (valid : IsValid spec) (last : Option ℕ) (k : Controlle
             alike = subst (λ (z : State). IsAlike s.world.cluster z.world.cluster) (sym comes.1) (alike_self s.world.cluster);
             told = subst (λ (z : State). IsTold s.world.cluster o z.world.cluster) (sym comes.1) (subst (λ (b : Option PassOutcome). IsTold s.world.cluster b s.world.cluster) (sym comes.0) (λ r e. e));
           };
-          goes = inl (ap (λ (z : State). Turns.left_of z k) comes.1 ∙ ap (λ (z : Controller). z.turn.left) (put (idle_controller (controller_of s.world k).id) s refl refl));
+          goes = inl (ap (λ (z : State). Turns.left_of z k) comes.1 ∙ ap (λ (z : Controller). z.turn.left) (put (idle_controller (own s).id) s refl refl));
         }
 
-    comes_at : (left : List Call) → Turns.left_of s k ≡ left → IfGoesOn (λ o y. Stands spec last y × ComesTo (controller_of s.world k) (step_at spec s.world.cluster (controller_of s.world k) left) s o y) (Turns.step Quiet k s)
+    comes_at : (left : List Call) → Turns.left_of s k ≡ left → IfGoesOn (λ o y. Stands spec last y × ComesTo (own s) (step_at spec s.world.cluster (own s) left) s o y) (Turns.step Quiet k s)
     comes_at left is =
-        goes_too (Stands spec last) (ComesTo (controller_of s.world k) (step_at spec s.world.cluster (controller_of s.world k) left) s) (Turns.step Quiet k s) (keeps_step spec valid last Quiet k s st)
-        (subst (λ (given : Spec). IfGoesOn (ComesTo (controller_of s.world k) (step_at given s.world.cluster (controller_of s.world k) left) s) (Turns.step Quiet k s)) st.scripted.of.given (step_comes k s left is))
+        goes_too (Stands spec last) (ComesTo (own s) (step_at spec s.world.cluster (own s) left) s) (Turns.step Quiet k s) (keeps_step spec valid last Quiet k s st)
+        (subst (λ (given : Spec). IfGoesOn (ComesTo (own s) (step_at given s.world.cluster (own s) left) s) (Turns.step Quiet k s)) st.scripted.of.given (step_comes k s left is))
 
-    stepped : (left : List Call) → Turns.left_of s k ≡ left → AreFine s.world.cluster (controller_of s.world k) left (step_at spec s.world.cluster (controller_of s.world k) left)
+    stepped : (left : List Call) → Turns.left_of s k ≡ left → AreFine s.world.cluster (own s) left (step_at spec s.world.cluster (own s) left)
         → IfGoesOn (IsStepped left s) (Turns.step Quiet k s)
     stepped left is fine =
-        goes_so (λ o y. Stands spec last y × ComesTo (controller_of s.world k) (step_at spec s.world.cluster (controller_of s.world k) left) s o y) (IsStepped left s) (Turns.step Quiet k s) (comes_at left is)
-        (λ o y e. from_step left (step_at spec s.world.cluster (controller_of s.world k) left) (ap (step_at spec s.world.cluster (controller_of s.world k)) is) fine o y e.0 e.1)
+        goes_so (λ o y. Stands spec last y × ComesTo (own s) (step_at spec s.world.cluster (own s) left) s o y) (IsStepped left s) (Turns.step Quiet k s) (comes_at left is)
+        (λ o y e. from_step left (step_at spec s.world.cluster (own s) left) (ap (step_at spec s.world.cluster (own s)) is) fine o y e.0 e.1)
 
     -- a dispatch whose plan was made
-    sent : (rest : List Call) (p : Plan) → Turns.left_of s k ≡ Send ∷ rest → (controller_of s.world k).plan ≡ Some p → IfGoesOn (IsStepped (Send ∷ rest) s) (Turns.step Quiet k s)
+    sent : (rest : List Call) (p : Plan) → Turns.left_of s k ≡ Send ∷ rest → (own s).plan ≡ Some p → IfGoesOn (IsStepped (Send ∷ rest) s) (Turns.step Quiet k s)
     sent rest p is made =
         stepped (Send ∷ rest) is
-        (subst (λ (o : Option Plan). AreFine s.world.cluster (controller_of s.world k) (Send ∷ rest) (of_cluster (is_of_cluster spec s.world.cluster (controller_of s.world k).turn.view) (planned_step spec s.world.cluster (controller_of s.world k) o)))
-        (sym made) (dispatch_fine s.world.cluster (controller_of s.world k) rest is (is_of_cluster spec s.world.cluster (controller_of s.world k).turn.view) p))
+        (subst (λ (o : Option Plan). AreFine s.world.cluster (own s) (Send ∷ rest) (of_cluster (is_of_cluster spec s.world.cluster (own s).turn.view) (planned_step spec s.world.cluster (own s) o)))
+        (sym made) (dispatch_fine s.world.cluster (own s) rest is (is_of_cluster spec s.world.cluster (own s).turn.view) p))
 
     -- the plan is made, or the turn is given up
     record IsPlanned (rest : List Call) (o : Option PassOutcome) (y : State) : Type 0 where
       moved : IsMoved s None y
       none : o ≡ None
-      goes : (Turns.left_of y k ≡ []) ⊎ ((Turns.left_of y k ≡ Send ∷ rest) × ((p : Plan) × ((controller_of y.world k).plan ≡ Some p)))
+      goes : (Turns.left_of y k ≡ []) ⊎ ((Turns.left_of y k ≡ Send ∷ rest) × ((p : Plan) × ((own y).plan ≡ Some p)))
 
-    planned : (rest : List Call) → Turns.left_of s k ≡ Send ∷ rest → (controller_of s.world k).plan ≡ None → IfGoesOn (IsPlanned rest) (Turns.step Quiet k s)
+    planned : (rest : List Call) → Turns.left_of s k ≡ Send ∷ rest → (own s).plan ≡ None → IfGoesOn (IsPlanned rest) (Turns.step Quiet k s)
     planned rest is none =
-        goes_so (λ o y. Stands spec last y × ComesTo (controller_of s.world k) (step_at spec s.world.cluster (controller_of s.world k) (Send ∷ rest)) s o y) (IsPlanned rest) (Turns.step Quiet k s) (comes_at (Send ∷ rest) is)
-        (λ o y e. one (is_of_cluster spec s.world.cluster (controller_of s.world k).turn.view) o y e.0
-        (subst (λ (a : Option Plan). ComesTo (controller_of s.world k) (of_cluster (is_of_cluster spec s.world.cluster (controller_of s.world k).turn.view) (planned_step spec s.world.cluster (controller_of s.world k) a)) s o y) none e.1))
+        goes_so (λ o y. Stands spec last y × ComesTo (own s) (step_at spec s.world.cluster (own s) (Send ∷ rest)) s o y) (IsPlanned rest) (Turns.step Quiet k s) (comes_at (Send ∷ rest) is)
+        (λ o y e. one (is_of_cluster spec s.world.cluster (own s).turn.view) o y e.0
+        (subst (λ (a : Option Plan). ComesTo (own s) (of_cluster (is_of_cluster spec s.world.cluster (own s).turn.view) (planned_step spec s.world.cluster (own s) a)) s o y) none e.1))
       where
-        one : (b : Bool) (o : Option PassOutcome) (y : State) → Stands spec last y → ComesTo (controller_of s.world k) (of_cluster b (planned_step spec s.world.cluster (controller_of s.world k) None)) s o y → IsPlanned rest o y
+        one : (b : Bool) (o : Option PassOutcome) (y : State) → Stands spec last y → ComesTo (own s) (of_cluster b (planned_step spec s.world.cluster (own s) None)) s o y → IsPlanned rest o y
         one true o y now comes =
-            let p = plan spec.models spec.rules (controller_of s.world k).turn.view in
-            let here = ap (λ (z : State). controller_of z.world k) comes.1 ∙ put (record (controller_of s.world k) { plan = Some p }) s refl refl in
+            let p = plan spec.models spec.rules (own s).turn.view in
+            let here = ap (λ (z : State). controller_of z.world k) comes.1 ∙ put (record (own s) { plan = Some p }) s refl refl in
             record {
               moved = record {
                 stands = now;
@@ -269,20 +270,20 @@ module _ (spec : Spec) (valid : IsValid spec) (last : Option ℕ) (k : Controlle
                 told = subst (λ (z : State). IsTold s.world.cluster None z.world.cluster) (sym comes.1) (λ r e. e);
               };
               none = comes.0;
-              goes = inl (ap (λ (z : State). Turns.left_of z k) comes.1 ∙ ap (λ (z : Controller). z.turn.left) (put (idle_controller (controller_of s.world k).id) s refl refl));
+              goes = inl (ap (λ (z : State). Turns.left_of z k) comes.1 ∙ ap (λ (z : Controller). z.turn.left) (put (idle_controller (own s).id) s refl refl));
             }
 
   -- the call of a turn that is next
   call_of : (s : State) → Stands spec last s → s.world.cluster.leader ≡ Some k → (left : List Call) → Turns.left_of s k ≡ left → IfGoesOn (IsStepped left s) (Turns.do_call_of Quiet k left s)
-  call_of s st leads [] is = stepped s st leads [] is (call_fine s.world.cluster (controller_of s.world k) spec [] is refl)
-  call_of s st leads (Live ∷ rest) is = stepped s st leads (Live ∷ rest) is (call_fine s.world.cluster (controller_of s.world k) spec (Live ∷ rest) is refl)
-  call_of s st leads (Mail u ∷ rest) is = stepped s st leads (Mail u ∷ rest) is (call_fine s.world.cluster (controller_of s.world k) spec (Mail u ∷ rest) is refl)
-  call_of s st leads (States u ∷ rest) is = stepped s st leads (States u ∷ rest) is (call_fine s.world.cluster (controller_of s.world k) spec (States u ∷ rest) is refl)
-  call_of s st leads (Ideals ∷ rest) is = stepped s st leads (Ideals ∷ rest) is (call_fine s.world.cluster (controller_of s.world k) spec (Ideals ∷ rest) is refl)
-  call_of s st leads (Post ∷ rest) is = stepped s st leads (Post ∷ rest) is (call_fine s.world.cluster (controller_of s.world k) spec (Post ∷ rest) is refl)
-  call_of s st leads (Send ∷ rest) is = one (controller_of s.world k).plan refl
+  call_of s st leads [] is = stepped s st leads [] is (call_fine s.world.cluster (own s) spec [] is refl)
+  call_of s st leads (Live ∷ rest) is = stepped s st leads (Live ∷ rest) is (call_fine s.world.cluster (own s) spec (Live ∷ rest) is refl)
+  call_of s st leads (Mail u ∷ rest) is = stepped s st leads (Mail u ∷ rest) is (call_fine s.world.cluster (own s) spec (Mail u ∷ rest) is refl)
+  call_of s st leads (States u ∷ rest) is = stepped s st leads (States u ∷ rest) is (call_fine s.world.cluster (own s) spec (States u ∷ rest) is refl)
+  call_of s st leads (Ideals ∷ rest) is = stepped s st leads (Ideals ∷ rest) is (call_fine s.world.cluster (own s) spec (Ideals ∷ rest) is refl)
+  call_of s st leads (Post ∷ rest) is = stepped s st leads (Post ∷ rest) is (call_fine s.world.cluster (own s) spec (Post ∷ rest) is refl)
+  call_of s st leads (Send ∷ rest) is = one (own s).plan refl
     where
-      after : (y : State) → IsMoved s None y → (Turns.left_of y k ≡ []) ⊎ ((Turns.left_of y k ≡ Send ∷ rest) × ((p : Plan) × ((controller_of y.world k).plan ≡ Some p)))
+      after : (y : State) → IsMoved s None y → (Turns.left_of y k ≡ []) ⊎ ((Turns.left_of y k ≡ Send ∷ rest) × ((p : Plan) × ((own y).plan ≡ Some p)))
           → IfGoesOn (IsStepped (Send ∷ rest) s) (Turns.if_under_way (Turns.left_of y k) (λ z. Turns.step Quiet k z) y)
       after y moved (inl none) =
           subst (λ (calls : List Call). IfGoesOn (IsStepped (Send ∷ rest) s) (Turns.if_under_way calls (λ z. Turns.step Quiet k z) y)) (sym none) (record { to = record { moved = moved; goes = inl none } })
@@ -295,7 +296,7 @@ module _ (spec : Spec) (valid : IsValid spec) (last : Option ℕ) (k : Controlle
           earlier None z e = moved_both s y z None None moved e
           earlier (Some o) z e = moved_both s y z None (Some o) moved e
 
-      one : (o : Option Plan) → (controller_of s.world k).plan ≡ o
+      one : (o : Option Plan) → (own s).plan ≡ o
           → IfGoesOn (IsStepped (Send ∷ rest) s) (go_on (Turns.make_plan Quiet k o s) (λ _ y. Turns.if_under_way (Turns.left_of y k) (λ z. Turns.step Quiet k z) y))
       one None none =
           goes_on (IsPlanned s st leads rest) (IsStepped (Send ∷ rest) s) (Turns.step Quiet k s) (λ _ y. Turns.if_under_way (Turns.left_of y k) (λ z. Turns.step Quiet k z) y)
@@ -305,7 +306,7 @@ module _ (spec : Spec) (valid : IsValid spec) (last : Option ℕ) (k : Controlle
           (goes_gives {A = Option PassOutcome} (λ _ y. IsMoved s None y × (y ≡ s)) s None (moved_self s st leads, refl))
           (λ o y e.
           let left : Turns.left_of y k ≡ Send ∷ rest = ap (λ (z : State). Turns.left_of z k) e.1 ∙ is in
-          let plan : (controller_of y.world k).plan ≡ Some p = ap (λ (z : State). (controller_of z.world k).plan) e.1 ∙ made in
+          let plan : (own y).plan ≡ Some p = ap (λ (z : State). (own z).plan) e.1 ∙ made in
           after y e.0 (inr (left, (p, plan))))
 
   -- the order of calls
@@ -316,13 +317,10 @@ module _ (spec : Spec) (valid : IsValid spec) (last : Option ℕ) (k : Controlle
   order_there : (s : State) → Stands spec last s → is_in_order (Turns.left_of s k) ≡ true
   order_there s st = one (st.scripted.of.turns k).of_board.told
     where
-      t : Turn
-      t = (controller_of s.world k).turn
-
-      one : ((controller_of s.world k).turn ≡ idle_turn) ⊎ ((controller_of s.world k).turn ≡ turn_of spec (controller_of s.world k).id s.world.history) → is_in_order (controller_of s.world k).turn.left ≡ true
+      one : ((own s).turn ≡ idle_turn) ⊎ ((own s).turn ≡ turn_of spec (own s).id s.world.history) → is_in_order (own s).turn.left ≡ true
       one (inl idle) = ap (λ (u : Turn). is_in_order u.left) idle
       one (inr told) =
-          ap (λ (u : Turn). is_in_order u.left) told ∙ (turn_law spec valid s.world.history st.scripted.of.lawful.0 (controller_of s.world k).id).order
+          ap (λ (u : Turn). is_in_order u.left) told ∙ (turn_law spec valid s.world.history st.scripted.of.lawful.0 (own s).id).order
 
   not_led_next : (call : Call) (rest : List Call) → is_in_order (call ∷ rest) ≡ true → is_led rest ≡ false
   not_led_next call [] e = refl
@@ -434,16 +432,16 @@ module _ (spec : Spec) (valid : IsValid spec) (last : Option ℕ) (k : Controlle
   -- a whole turn
   begins : (s : State) → Stands spec last s → s.world.cluster.leader ≡ Some k → (left : List Call) → Turns.left_of s k ≡ left → IfGoesOn (λ _ y. IsMoved s None y) (Turns.begin_if_idle Quiet k left s)
   begins s st leads [] is =
-      goes_so (λ o y. Stands spec last y × ComesTo (controller_of s.world k) (begin_step s.world.cluster (controller_of s.world k)) s o y) (λ _ y. IsMoved s None y) (Turns.step Quiet k s)
+      goes_so (λ o y. Stands spec last y × ComesTo (own s) (begin_step s.world.cluster (own s)) s o y) (λ _ y. IsMoved s None y) (Turns.step Quiet k s)
       (comes_at s st leads [] is)
-      (λ o y e. none_of o y (no_outcome (is_leader (controller_of s.world k).id s.world.cluster.leader) o y e.1)
-      (from_step s st leads [] (begin_step s.world.cluster (controller_of s.world k)) (ap (step_at spec s.world.cluster (controller_of s.world k)) is) (call_fine s.world.cluster (controller_of s.world k) spec [] is refl) o y e.0 e.1).moved)
+      (λ o y e. none_of o y (no_outcome (is_leader (own s).id s.world.cluster.leader) o y e.1)
+      (from_step s st leads [] (begin_step s.world.cluster (own s)) (ap (step_at spec s.world.cluster (own s)) is) (call_fine s.world.cluster (own s) spec [] is refl) o y e.0 e.1).moved)
     where
       none_of : (o : Option PassOutcome) (y : State) → o ≡ None → IsMoved s o y → IsMoved s None y
       none_of o y none m = subst (λ (p : Option PassOutcome). IsMoved s p y) none m
 
       no_outcome : (b : Bool) (o : Option PassOutcome) (y : State)
-          → ComesTo (controller_of s.world k) (if b then Calls (events.Begin (controller_of s.world k).id (begun_of s.world.cluster (controller_of s.world k).id)) None else Refuses (faults.NotLeader s.world.cluster.leader)) s o y → o ≡ None
+          → ComesTo (own s) (if b then Calls (events.Begin (own s).id (begun_of s.world.cluster (own s).id)) None else Refuses (faults.NotLeader s.world.cluster.leader)) s o y → o ≡ None
       no_outcome true o y e = e.0
       no_outcome false o y e = e.0
   begins s st leads (call ∷ rest) is = record { to = moved_self s st leads }

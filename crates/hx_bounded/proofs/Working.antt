@@ -27,9 +27,6 @@ use Rattle.hx_bounded.proofs.Ends
 use Rattle.hx_bounded.proofs.Carrying.{IsClosed, OfLive, IsWorking, write_live, live_written, can_live, IsCarried, write_carries, ack_carries, carried_both}
 
 module _ (spec : Spec) (valid : IsValid spec) (last : Option ℕ) (P : Cluster → Type 0) (H : Job → Type 0) (closed : IsClosed P H) (live : List Live) (ks : List Controller) where
-  abbrev Works : World → Type 0
-  Works w = IsWorking P H live ks w
-
   works_same : (w v : World) → v ≡ w → IsWorking P H live ks w → IsWorking P H live ks v
   works_same w v same k = subst (IsWorking P H live ks) (sym same) k
 
