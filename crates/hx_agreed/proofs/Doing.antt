@@ -166,7 +166,7 @@ module _ (spec : Spec) (valid : IsValid spec) (last : Option ℕ) where
       (accepted_slot x.world.cluster x.world.bag x.world.jobs i (participant_of x.world i) id m (s.in_step.parts.each i) is) refl (makes (slot_of (participant_of x.world i) m.part) m)
 
   -- a job whose session ended
-  ended_there : (j : Job) (x : State) → Stands spec last x → IsHeldJob x.world.cluster x.world.participants x.world.jobs j → is_live x.world.cluster.live j.message.session ≡ false → Stands spec last (Jobs.end_job j x)
+  pub ended_there : (j : Job) (x : State) → Stands spec last x → IsHeldJob x.world.cluster x.world.participants x.world.jobs j → is_live x.world.cluster.live j.message.session ≡ false → Stands spec last (Jobs.end_job j x)
   ended_there j x s h dead = record {
     scripted = job_ended spec last j x s.scripted;
     in_step = record {

@@ -104,17 +104,17 @@ same_session_is a b s e f =
     ap (λ (o : Option SessionId). Jobs.same_session o b) e ∙ ap (λ (o : Option SessionId). Jobs.same_session (Some s) o) f ∙ same-self s.0
 
 module _ (spec : Spec) (valid : IsValid spec) (last : Option ℕ) where
-  kept_now : (x : State) → Stands spec last x → IsKept x.world.cluster
+  pub kept_now : (x : State) → Stands spec last x → IsKept x.world.cluster
   kept_now x s = (whole_there spec last x.world valid s.scripted).kept
 
-  in_range_now : (i : InstanceId) (x : State) → Ranges.has_instance spec i ≡ true → Stands spec last x → i.0 < length x.world.participants
+  pub in_range_now : (i : InstanceId) (x : State) → Ranges.has_instance spec i ≡ true → Stands spec last x → i.0 < length x.world.participants
   in_range_now i x there s =
       let many = s.in_step.participants in
       let given : length x.world.spec.instances ≡ length spec.instances = ap (λ (g : Spec). length g.instances) s.scripted.of.given in
       grind (arith, nat_tests, there, many, given)
 
   -- a session is adopted
-  adopted_now : (i : InstanceId) (o : Option SessionId) (x : State) → Ranges.has_instance spec i ≡ true → Stands spec last x
+  pub adopted_now : (i : InstanceId) (o : Option SessionId) (x : State) → Ranges.has_instance spec i ≡ true → Stands spec last x
       → ((s : SessionId) → (of_instance x.world.participants i).session ≡ Some s → is_live x.world.cluster.live s ≡ false) → ((s : SessionId) → o ≡ Some s → session_of x.world.cluster i ≡ Some s)
       → Stands spec last (Jobs.adopt_in i o x)
   adopted_now i o x there s dead theirs = record {
@@ -166,7 +166,7 @@ module _ (spec : Spec) (valid : IsValid spec) (last : Option ℕ) where
         ready = ready_here mail.messages y g f;
       }
 
-  fetch_happens : (i : InstanceId) (x : State) → Ranges.has_instance spec i ≡ true → Stands spec last x
+  pub fetch_happens : (i : InstanceId) (x : State) → Ranges.has_instance spec i ≡ true → Stands spec last x
       → x.world.weight + weight_of (events.Fetch i (session_of x.world.cluster i) (length (messages_for x.world.cluster (session_of x.world.cluster i)))) ≤ x.world.limit
       → Stands spec last (happened (events.Fetch i (session_of x.world.cluster i) (length (messages_for x.world.cluster (session_of x.world.cluster i)))) x)
   fetch_happens i x there s room =
@@ -205,7 +205,7 @@ module _ (spec : Spec) (valid : IsValid spec) (last : Option ℕ) where
       (λ room. next (Jobs.fetched_as i mail y) (fetched_now i x there s room)
       (subst (λ (h : List Event). list_all (is_fetched spec h) mail.messages ≡ true) (sym (fetched_history b i mail y)) (mail_fetched i x s)))
 
-  fetch_done : (i : InstanceId) (x : State) → Ranges.has_instance spec i ≡ true → Stands spec last x → Keeps (Stands spec last) (Jobs.do_fetch i x)
+  pub fetch_done : (i : InstanceId) (x : State) → Ranges.has_instance spec i ≡ true → Stands spec last x → Keeps (Stands spec last) (Jobs.do_fetch i x)
   fetch_done i x there s =
       let mail = fetched x.world.cluster i in
       let e : Event = events.Fetch i mail.session (length mail.messages) in
@@ -223,13 +223,13 @@ module _ (spec : Spec) (valid : IsValid spec) (last : Option ℕ) where
     };
   }
 
-  delivered : (v : Voice) (i : InstanceId) (m : Message) (f : Option DeliverFault) (x : State) → deliver_fault (participant_of x.world i) m ≡ f → Stands spec last x → is_fetched spec x.world.history m ≡ true
+  pub delivered : (v : Voice) (i : InstanceId) (m : Message) (f : Option DeliverFault) (x : State) → deliver_fault (participant_of x.world i) m ≡ f → Stands spec last x → is_fetched spec x.world.history m ≡ true
       → IsInBag x.world.cluster x.world.participants m → list_any (is_same m) x.world.bag ≡ true → Keeps (Stands spec last) (Jobs.delivered v i m f x)
   delivered v i m (Some f) x e s is its there = keeps_note spec valid last v _ x s
   delivered v i m None x e s is its there =
       keeps_loud spec valid last v 1 _ (with_participant i (accept (participant_of x.world i) m) x) (accepted_now i m x s is e its there)
 
-  from_bag : (v : Voice) (i : InstanceId) (id : MsgId) (o : Option Message) (x : State) → Stands spec last x → Jobs.in_bag id x ≡ o → Keeps (Stands spec last) (Jobs.deliver_from_bag v i o x)
+  pub from_bag : (v : Voice) (i : InstanceId) (id : MsgId) (o : Option Message) (x : State) → Stands spec last x → Jobs.in_bag id x ≡ o → Keeps (Stands spec last) (Jobs.deliver_from_bag v i o x)
   from_bag v i id None x s is = keeps_note spec valid last v _ x s
   from_bag v i id (Some m) x s is =
       delivered v i m _ x refl s (all-find (is_fetched spec x.world.history) (λ m. m.id.0 == id.0) x.world.bag m s.scripted.of.bag is)
@@ -253,7 +253,7 @@ module _ (spec : Spec) (valid : IsValid spec) (last : Option ℕ) where
       (λ y same there now. all_delivered i ms y there now
       (subst (λ (h : List Event). list_all (is_fetched spec h) ms ≡ true) (sym same) (and-second (is_fetched spec x.world.history m) (list_all (is_fetched spec x.world.history) ms) all)))
 
-  work_done : (i : InstanceId) (x : State) → Ranges.has_instance spec i ≡ true → Stands spec last x → Keeps (Stands spec last) (Jobs.do_work i x)
+  pub work_done : (i : InstanceId) (x : State) → Ranges.has_instance spec i ≡ true → Stands spec last x → Keeps (Stands spec last) (Jobs.do_work i x)
   work_done i x there s =
       keeps_then (Stands spec last) _ _
       (keeps_each (Stands spec last) (λ j y. Jobs.carry i j.message.id y) (λ j y here. keeps_carried spec valid last i j.message.id y here) (Jobs.jobs_of i x) x s) (λ y here.
@@ -303,11 +303,11 @@ module _ (spec : Spec) (valid : IsValid spec) (last : Option ℕ) where
   settle_told v (Some k) None x s = keeps_note spec valid last v _ x s
   settle_told v (Some k) (Some o) x s = keeps_then (Stands spec last) _ _ (keeps_line spec valid last 1 _ x s) (λ y there. report_lines o.report y there)
 
-  settle_done : (v : Voice) (x : State) → Stands spec last x → Keeps (Stands spec last) (Settles.do_settle v x)
+  pub settle_done : (v : Voice) (x : State) → Stands spec last x → Keeps (Stands spec last) (Settles.do_settle v x)
   settle_done v x s = keeps_on (Stands spec last) _ _ (settled _ x s) (λ o y there. settle_told v x.world.cluster.leader o y there)
 
   -- steps
-  step_happens : (step : Admin) (x : State) → is_in_range x.world.cluster step ≡ true → refusal_of x.world.cluster step ≡ None → Stands spec last x
+  pub step_happens : (step : Admin) (x : State) → is_in_range x.world.cluster step ≡ true → refusal_of x.world.cluster step ≡ None → Stands spec last x
       → x.world.weight + weight_of (events.Admin step (did_of x.world.cluster step)) ≤ x.world.limit → Stands spec last (happened (events.Admin step (did_of x.world.cluster step)) x)
   step_happens step x well is s room =
       let e : Event = events.Admin step (did_of x.world.cluster step) in
@@ -316,12 +316,12 @@ module _ (spec : Spec) (valid : IsValid spec) (last : Option ℕ) where
         in_step = board_happens spec valid last e x s (well, is, refl) refl room;
       }
 
-  stepped : (v : Voice) (step : Admin) (f : Option StepFault) (x : State) → refusal_of x.world.cluster step ≡ f → is_in_range x.world.cluster step ≡ true → Stands spec last x
+  pub stepped : (v : Voice) (step : Admin) (f : Option StepFault) (x : State) → refusal_of x.world.cluster step ≡ f → is_in_range x.world.cluster step ≡ true → Stands spec last x
       → Keeps (Stands spec last) (Scripts.stepped v step f x)
   stepped v step (Some f) x is well s = keeps_note spec valid last v _ x s
   stepped v step None x is well s = happens (Stands spec last) (events.Admin step (did_of x.world.cluster step)) x s (step_happens step x well is s)
 
-  asked : (v : Voice) (step : Option Admin) (x : State) → IsAskedWell x.world.cluster step → Stands spec last x → Keeps (Stands spec last) (Scripts.do_asked v step x)
+  pub asked : (v : Voice) (step : Option Admin) (x : State) → IsAskedWell x.world.cluster step → Stands spec last x → Keeps (Stands spec last) (Scripts.do_asked v step x)
   asked v None x well s = keeps_note spec valid last v _ x s
   asked v (Some step) x well s = stepped v step _ x refl well s
 
@@ -336,7 +336,7 @@ module _ (spec : Spec) (valid : IsValid spec) (last : Option ℕ) where
           absurd (after_end x.world.cluster i (whole_there spec last x.world valid st.scripted).seated.instances (live_of x.world.cluster.live i) refl s
           (subst (λ (c : Cluster). session_of c i ≡ Some s) same own) (subst (λ (c : Cluster). is_live c.live s ≡ true) same e))
 
-  died : (v : Voice) (i : InstanceId) (f : Option StepFault) (x : State) → Ranges.has_instance spec i ≡ true → refusal_of x.world.cluster (steps.End i) ≡ f → is_in_range x.world.cluster (steps.End i) ≡ true → Stands spec last x
+  pub died : (v : Voice) (i : InstanceId) (f : Option StepFault) (x : State) → Ranges.has_instance spec i ≡ true → refusal_of x.world.cluster (steps.End i) ≡ f → is_in_range x.world.cluster (steps.End i) ≡ true → Stands spec last x
       → Keeps (Stands spec last) (Scripts.died v i f x)
   died v i (Some f) x there is well s = keeps_note spec valid last v _ x s
   died v i None x there is well s =
@@ -348,17 +348,17 @@ module _ (spec : Spec) (valid : IsValid spec) (last : Option ℕ) where
       never : (u : SessionId) → ◌≡◌ {A = Option SessionId} None (Some u) → ⊥
       never u e = (cc)
 
-  view_done : (x : State) → Stands spec last x → Keeps (Stands spec last) (Scripts.do_view x)
+  pub view_done : (x : State) → Stands spec last x → Keeps (Stands spec last) (Scripts.do_view x)
   view_done x s =
       keeps_each (Stands spec last) (λ p y. Scripts.say_view_of p (view_of_part y.world.cluster p) y)
       (λ p y there. keeps_line spec valid last (1 + length (view_of_part y.world.cluster p)) (view_line y.world.spec y.world.cluster.resources p (view_of_part y.world.cluster p)) y there)
       (viewed_parts x.world.cluster) x s
 
-  routed : (v : Voice) (index : ℕ) (t : StateId) (r : Option ResourceId) (x : State) → Stands spec last x → Keeps (Stands spec last) (Scripts.route_on v index t r x)
+  pub routed : (v : Voice) (index : ℕ) (t : StateId) (r : Option ResourceId) (x : State) → Stands spec last x → Keeps (Stands spec last) (Scripts.route_on v index t r x)
   routed v index t None x s = keeps_note spec valid last v _ x s
   routed v index t (Some r) x s = keeps_line spec valid last _ _ x s
 
-  what_done : (v : Voice) (what : What) (x : State) → Ranges.is_in_range spec what ≡ true → Stands spec last x → Keeps (Stands spec last) (Scripts.do_what v what x)
+  pub what_done : (v : Voice) (what : What) (x : State) → Ranges.is_in_range spec what ≡ true → Stands spec last x → Keeps (Stands spec last) (Scripts.do_what v what x)
   what_done v (asks.Die i) x is s = died v i _ x is refl (instance_there spec x.world.cluster i (fixed_there spec last x.world s.scripted) is) s
   what_done v (asks.Begin k) x is s = keeps_unasked spec valid last _ (keeps_begin spec valid last v k x s)
   what_done v (asks.Read k kind) x is s = keeps_read spec valid last v k kind x s
@@ -378,17 +378,17 @@ module _ (spec : Spec) (valid : IsValid spec) (last : Option ℕ) where
   what_done v what x is s = asked v (step_asked x.world.cluster what) x (asked_well spec x.world.cluster what valid (fixed_there spec last x.world s.scripted) is) s
 
 -- it holds of a state after some line
-record HasStood (spec : Spec) (x : State) : Type 0 where
+pub record HasStood (spec : Spec) (x : State) : Type 0 where
   pub last : Option ℕ
   pub stands : Stands spec last x
 
-line_happens : (spec : Spec) (valid : IsValid spec) (last : Option ℕ) (l : Line) (x : State) → is_later last l.number ≡ true → Stands spec last x → x.world.weight + weight_of (events.Line l.number) ≤ x.world.limit
-    → Stands spec (Some l.number) (happened (events.Line l.number) x)
-line_happens spec valid last l x later s room =
-    let e : Event = events.Line l.number in
-    let step = ap (λ (o : Option ℕ). is_later o l.number) s.scripted.line ∙ later in
+pub line_happens : (spec : Spec) (valid : IsValid spec) (last : Option ℕ) (n : ℕ) (x : State) → is_later last n ≡ true → Stands spec last x → x.world.weight + weight_of (events.Line n) ≤ x.world.limit
+    → Stands spec (Some n) (happened (events.Line n) x)
+line_happens spec valid last n x later s room =
+    let e : Event = events.Line n in
+    let step = ap (λ (o : Option ℕ). is_later o n) s.scripted.line ∙ later in
     record {
-      scripted = scripted_other spec last (Some l.number) x.world e (happened e x).world.weight s.scripted step tt refl (λ k. refl);
+      scripted = scripted_other spec last (Some n) x.world e (happened e x).world.weight s.scripted step tt refl (λ k. refl);
       in_step = board_happens spec valid last e x s step refl room;
     }
 
@@ -402,7 +402,7 @@ line_left spec l x valid of in_step next =
     let ranged = and-second (is_later last l.number) (Ranges.is_line_in_range spec l) next in
     (happens_then (HasStood spec) (events.Line l.number) x (λ y. Scripts.do_what (Loud l.number) l.what y) (record { last = last; stands = s })
     (λ room. keeps_more (Stands spec (Some l.number)) (HasStood spec) (Scripts.do_what (Loud l.number) l.what (happened (events.Line l.number) x))
-    (what_done spec valid (Some l.number) (Loud l.number) l.what (happened (events.Line l.number) x) ranged (line_happens spec valid last l x later s room))
+    (what_done spec valid (Some l.number) (Loud l.number) l.what (happened (events.Line l.number) x) ranged (line_happens spec valid last l.number x later s room))
     (λ y there. record { last = Some l.number; stands = there }))).left.stands.in_step
 
 pub settle_left : (spec : Spec) (x : State) → IsValid spec → IsOfItsHistory spec x.world → IsInStep x.world → IsInStep (state_of (Settles.settle x)).world

@@ -1,5 +1,5 @@
 -- What controllers do in a world keeps it in step.
-use Rattle.std.proofs.Common.{ℕ, ◌∙◌, Bool, true, false, List, [], ◌∷◌, zero, suc, length}
+use Rattle.std.proofs.Common.{ℕ, ◌+◌, ◌≤◌, ◌∙◌, Bool, true, false, List, [], ◌∷◌, zero, suc, length}
 use Rattle.std.specs.Prelude.{Option, None, Some}
 use Rattle.hx_ids.specs.declared.ControllerId.{ControllerId}
 use Rattle.hx_cluster.specs.declared.description.Spec.{Spec}
@@ -8,6 +8,8 @@ use Rattle.hx_cluster.specs.declared.planning.Plan.{Plan}
 use Rattle.hx_cluster.specs.declared.planning.Target.{Target}
 use Rattle.hx_cluster.specs.declared.planning.Finding.{Finding}
 use Rattle.hx_cluster.specs.declared.planning.Finding.TheVariants as findings
+use Rattle.hx_cluster.specs.declared.happenings.Event.{Event}
+use Rattle.hx_cluster.specs.Weight.{weight_of}
 use Rattle.hx_cluster.specs.Valid.{IsValid}
 use Rattle.hx_print.specs.declared.Note.{Note}
 use Rattle.hx_script.specs.declared.ReadKind.{ReadKind}
@@ -79,23 +81,33 @@ module _ (spec : Spec) (valid : IsValid spec) (last : Option ℕ) where
   fault_note v faults.OutOfMemory x s = record { left = s }
 
   -- a turn that is given up
-  idle_there : (k : ControllerId) (x : State) → Stands spec last x → Stands spec last (with_controller (idle_controller k) x)
+  pub idle_there : (k : ControllerId) (x : State) → Stands spec last x → Stands spec last (with_controller (idle_controller k) x)
   idle_there k x s = record { scripted = fault_there spec last x k s.scripted; in_step = record { parts = s.in_step.parts; participants = s.in_step.participants; weight = s.in_step.weight } }
+
+  -- a call that was made, and a plan
+  pub called_there : (k : Controller) (e : Event) (o : Option PassOutcome) (x : State) → Stands spec last x → IsNext spec x.world k (Calls e o) → x.world.weight + weight_of e ≤ x.world.limit
+      → Stands spec last (with_controller (after_step x.world.cluster k (Calls e o)) (happened e x))
+  called_there k e o x s n room = record {
+    scripted = call_there spec last x k e o s.scripted n;
+    in_step =
+        let b = board_happens spec valid last e x s n.called.step (own_of_board k.id e (n.called.own k.id ∙ same-self k.id.0)) room in
+        record { parts = b.parts; participants = b.participants; weight = b.weight };
+  }
+
+  pub planned_there : (k : Controller) (p : Plan) (x : State) → Stands spec last x → IsNext spec x.world k (Plans p) → Stands spec last (with_controller (after_step x.world.cluster k (Plans p)) x)
+  planned_there k p x s n = record {
+    scripted = plan_there spec last x k p s.scripted n;
+    in_step = record { parts = s.in_step.parts; participants = s.in_step.participants; weight = s.in_step.weight };
+  }
 
   -- steps and calls
   step_made : (v : Voice) (k : Controller) (step : Step) (x : State) → Stands spec last x → IsNext spec x.world k step → Keeps (Stands spec last) (Turns.stepped v k step x)
   step_made v k (Calls e o) x s n =
       let y = with_controller (after_step x.world.cluster k (Calls e o)) (happened e x) in
       happens_then (Stands spec last) e x _ s
-      (λ room. keeps_then (Stands spec last) (Turns.tell_outcome v k.id o y) (λ z. gives z o)
-      (told_outcome v k.id o y (record {
-        scripted = call_there spec last x k e o s.scripted n;
-        in_step =
-            let b = board_happens spec valid last e x s n.called.step (own_of_board k.id e (n.called.own k.id ∙ same-self k.id.0)) room in
-            record { parts = b.parts; participants = b.participants; weight = b.weight };
-      }))
+      (λ room. keeps_then (Stands spec last) (Turns.tell_outcome v k.id o y) (λ z. gives z o) (told_outcome v k.id o y (called_there k e o x s n room))
       (λ z there. keeps_gives (Stands spec last) z o there))
-  step_made v k (Plans p) x s n = record { left = record { scripted = plan_there spec last x k p s.scripted n; in_step = record { parts = s.in_step.parts; participants = s.in_step.participants; weight = s.in_step.weight } } }
+  step_made v k (Plans p) x s n = record { left = planned_there k p x s n }
   step_made v k (Refuses f) x s n =
       let y = with_controller (idle_controller k.id) x in
       keeps_then (Stands spec last) (Turns.note_fault v f y) (λ z. gives z None) (fault_note v f y (idle_there k.id x s)) (λ z there. keeps_gives (Stands spec last) z None there)

@@ -24,12 +24,13 @@ use Rattle.hx_replicas.specs.declared.slots.Work.{Work}
 use Rattle.hx_replicas.specs.declared.slots.Work.TheVariants.{Idle, Accepted, Out}
 use Rattle.hx_replicas.specs.Participants.{Participant, Slot, slot_of, counts_as, state_for}
 use Rattle.hx_worlds.specs.World.{Job}
-use Rattle.hx_worlds.specs.Agree.{is_below, is_known_at, is_accepted_as, is_out_as, is_lent_to, is_at_end}
+use Rattle.hx_worlds.specs.Agree.{is_below, is_known_at, is_accepted_as, is_out_as, is_exactly, is_lent_to, is_at_end}
 use Rattle.hx_safe.proofs.Counting.{and-first, and-second, and-both, find-passes, find-any, find-single, all-find}
 use Rattle.hx_safe.proofs.Ends.{same-self, session_same, part_same}
 use Rattle.hx_safe.proofs.Kept.{IsKept, number-below}
 use Rattle.hx_agreed.specs.InStep.{of_instance, IsUntaken, IsPending, is_lent_as, IsOutHere, HasWork, HasSlot, IsAlong, IsUntouched, IsPlaced, IsTakenBy, IsHeldJob, IsOldIn, IsInBag, AreInStep}
 use Rattle.hx_agreed.proofs.Lists.{or-first, or-second}
+use Rattle.hx_agreed.proofs.Lent.{exactly_same}
 
 -- two messages that are the same but for their marks
 pub record AreSame (a b : Message) : Type 0 where
@@ -284,7 +285,7 @@ pub out_for : (c : Cluster) (bag : List Message) (jobs : List Job) (i : Instance
     → is_lent_to j w ≡ true → HasWork c bag jobs i mine q x w → IsOutFor bag jobs i mine q x j
 out_for c bag jobs i mine q x j Idle is e h = cc
 out_for c bag jobs i mine q x j (Accepted m) is e h = cc
-out_for c bag jobs i mine q x j (Out m is_held) is e h = record { message = m; is_held = is_held; work = is; same = and-first (is_same j.message m) _ e; here = h }
+out_for c bag jobs i mine q x j (Out m is_held) is e h = record { message = m; is_held = is_held; work = is; same = exactly_same j.message m (and-first (is_exactly j.message m) _ e); here = h }
 
 module _ (c : Cluster) (ws : List Participant) (jobs : List Job) (bag : List Message) (s : AreInStep c ws jobs bag) where
   pub job_out : (j : Job) → IsHeldJob c ws jobs j → (let w = of_instance ws j.instance in IsOutFor bag jobs j.instance w.session j.message.part (slot_of w j.message.part) j)

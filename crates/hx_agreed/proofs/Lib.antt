@@ -1,5 +1,6 @@
 pub mod Lists
 pub mod Slots
+pub mod Lent
 pub mod Agreeing
 pub mod Counted
 pub mod Worlds
@@ -17,3 +18,5 @@ pub mod DoingTurns
 pub mod Doing
 pub mod DoingLines
 pub mod Laws
+pub mod Fitting
+pub mod Operations

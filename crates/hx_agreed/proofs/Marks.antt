@@ -26,13 +26,14 @@ use Rattle.hx_replicas.specs.Layout.{AreDistinct}
 use Rattle.hx_replicas.proofs.Putting.{part-slot_in, slot_in-put, slots-hand_out}
 use Rattle.hx_worlds.specs.World.{Job}
 use Rattle.hx_worlds.specs.Jobs.{is_job}
-use Rattle.hx_worlds.specs.Agree.{is_known_at, is_lent_to, is_at_end}
+use Rattle.hx_worlds.specs.Agree.{is_known_at, is_exactly, is_lent_to, is_at_end}
 use Rattle.hx_safe.proofs.Counting.{and-first, and-second, and-both, any-append, count-append, count-none, find-passes, find-any, find-single, none-find}
 use Rattle.hx_safe.proofs.Ends.{same-self, session_same, part_eq-self}
 use Rattle.hx_safe.proofs.Kept.{IsKept}
 use Rattle.hx_runs.proofs.Calming.{same_self}
 use Rattle.hx_agreed.specs.InStep.{Each, of_instance, IsUntaken, is_lent_as, IsAcceptedHere, HasWork, HasSlot, IsPlaced, IsTakenBy, IsHeldJob, AreInStep}
 use Rattle.hx_agreed.proofs.Lists.{each-le, each-append, or-first, or-second}
+use Rattle.hx_agreed.proofs.Lent.{exactly_self}
 use Rattle.hx_agreed.proofs.Slots.{slot-found, slot_in-other, distinct-put}
 use Rattle.hx_agreed.proofs.Frames.{same_is, same_sym, same_both, found_pending, one_number, job_out}
 use Rattle.hx_agreed.proofs.Changes.{is_replica, WasPending, change_in_step}
@@ -371,7 +372,7 @@ module _ (c : Cluster) (ws : List Participant) (jobs : List Job) (bag : List Mes
         out = subst (λ (n : InstanceId). is_lent_to job (slot_of (of_instance (slice_set ws i.0 (hand_out (of_instance ws i) m failed)) n) job.message.part).work ≡ true) (sym its_instance)
             (subst (λ (n : Message). is_lent_to job (slot_of (of_instance (slice_set ws i.0 (hand_out (of_instance ws i) m failed)) i) n.part).work ≡ true) (sym its_message)
             (subst (λ (z : Slot). is_lent_to job z.work ≡ true) (sym now)
-            (and-both (is_same job.message m) _ (subst (λ (n : Message). is_same job.message n ≡ true) its_message (same_self job.message)) (handler_now (is_some (made_ready (slot_of (of_instance ws i) m.part) m failed).handler) held))));
+            (and-both (is_exactly job.message m) _ (subst (λ (n : Message). is_exactly job.message n ≡ true) its_message (exactly_self job.message)) (handler_now (is_some (made_ready (slot_of (of_instance ws i) m.part) m failed).handler) held))));
         taken = λ live. taken;
       }
         where

@@ -1,7 +1,7 @@
 -- How operations on a scene come further, step by step: laws of what is done, also where the history has no room or memory is wanted.
-use Rattle.std.proofs.Common.{◌≡◌, ℕ, ◌+◌, ◌≤◌, Bool, true, false, List, [], ◌∷◌, ◌++◌, suc, zero, map, take, Option, None, Some, refl, sym, ap, subst, ◌∙◌, append_assoc, arith}
+use Rattle.std.proofs.Common.{◌≡◌, ℕ, ◌+◌, ◌≤◌, ◌<◌, Bool, true, false, List, [], ◌∷◌, ◌++◌, suc, zero, map, take, drop, length, Option, None, Some, refl, sym, ap, subst, ◌∙◌, append_assoc, arith}
 use Rattle.std.specs.Prelude.{if◌then◌else◌, nat_lt, slice_index_or, Result, Ok, Err}
-use Rattle.std.proofs.lemmas.List.{append-nil}
+use Rattle.std.proofs.lemmas.List.{append-nil, drop_more, drop_all, get_or-map}
 use Rattle.std.proofs.lemmas.Bool.Decides.{nat_tests}
 use Rattle.hx_cluster.specs.declared.description.Spec.{Spec}
 use Rattle.hx_cluster.specs.declared.description.Failure.{Failure}
@@ -22,9 +22,13 @@ use Rattle.hx_worlds.specs.Items.{Item, Happens, Says, events_in, items_text}
 use Rattle.hx_worlds.specs.Runs.{Run, Deed, GoesOn, Stops, gives, done, items_of, state_of, after_items, go_on, and_then, happened, make, happen, charged, say, for_each}
 use Rattle.hx_worlds.specs.Brings.{Past, past_of, Brings}
 use Rattle.hx_worlds.proofs.Brought.{brings_nothing, brings_both, brings_event}
+use Rattle.hx_scripted.specs.OfHistory.{IsOfItsHistory}
+use Rattle.hx_scripted.proofs.Keeping.{Keeps as Leaves}
+use Rattle.hx_agreed.specs.InStep.{IsInStep}
+use Rattle.hx_agreed.proofs.Going.{IsGoing}
 use Rattle.hx_scene.specs.Scenes.{SceneState, at, world_of, lists_of}
 use Rattle.hx_scene.specs.Telling.{IsCharged}
-use Rattle.hx_scene.specs.Doing.{Asked, Gives, left, AreTold, IsCounted, Keeps, Reaches, Ends, StopsHere, IsCut, Fails, Does, DoesDeed}
+use Rattle.hx_scene.specs.Doing.{Asked, Gives, left, IsToldBy, AreTold, IsCounted, Keeps, Reaches, Ends, StopsHere, IsCut, Fails, Does, DoesDeed}
 
 -- answers to one list of questions and then to another
 pub gives_both : (xs ys : List Asked) (a : Answers) → Gives xs a → Gives ys (left xs a) → Gives (xs ++ ys) a
@@ -595,3 +599,112 @@ pub said_full : {R : Type 0} (f : State → Deed) (n : ℕ) (text : List ℕ) (s
 said_full f n text s u p fault is charge =
     let full = no_room_of s.board n rooms.HistoryFull fault charge.refused in
     subst (λ v. Fails f s p fault v p) (sym charge.err) (subst (λ x. Fails f s p x s p) (sym full.1) (says_none f n text s p is full.0, refl))
+
+-- an operation for each item of a list
+then_each : {B : Type 0} (r : Deed) (h : State → Deed) (k m : State → Run B) → ((y : State) → m y ≡ and_then (h y) k) → and_then r m ≡ and_then (and_then r h) k
+then_each (GoesOn is x answer) h k m same = ap (λ y. after_items is y) (same x) ∙ sym (on_after is (h x) (λ _ y. k y))
+then_each (Stops is x) h k m same = refl
+
+pub each_both : {X : Type 0} (f : X → State → Deed) (xs ys : List X) (x : State) → for_each f (xs ++ ys) x ≡ and_then (for_each f xs x) (λ y. for_each f ys y)
+each_both f [] ys x = sym (after_none (for_each f ys x))
+each_both f (i ∷ xs) ys x = then_each (f i x) (λ y. for_each f xs y) (λ y. for_each f ys y) (λ y. for_each f (xs ++ ys) y) (λ y. each_both f xs ys y)
+
+-- the first of them is done, or fails
+pub each_step : {X : Type 0} (f : X → State → Deed) (xs : List X) (x : X) (rest : List X) {s u : SceneState} {p q : List ℕ} → xs ≡ x ∷ rest → Ends (f x) s p tt u q
+    → Reaches (for_each f xs) s p (for_each f rest) u q
+each_step f xs x rest {s} is e = reaches_as (λ a. ap (λ l. for_each f l (at s a)) is) (then_do e (λ y. for_each f rest y))
+
+pub each_step_fails : {X : Type 0} (f : X → State → Deed) (xs : List X) (x : X) (rest : List X) (s : SceneState) (p : List ℕ) (fault : RoomFault) (u : SceneState) (q : List ℕ) → xs ≡ x ∷ rest
+    → Fails (f x) s p fault u q → Fails (for_each f xs) s p fault u q
+each_step_fails f xs x rest s p fault u q is e =
+    subst (λ l. Fails (for_each f l) s p fault u q) (sym is) (fails_inside_deed (f x) s p fault u q e (λ y. for_each f rest y))
+
+-- of a list from its i-th item on: that one is done, or fails, or there is none
+pub each_more : {X : Type 0} {g : State → Deed} (f : X → State → Deed) (xs : List X) (i : ℕ) (d : X) {s u v : SceneState} {p q r : List ℕ} → i < length xs
+    → Reaches g s p (for_each f (drop i xs)) u q → Ends (f (slice_index_or xs i d)) u q tt v r → Reaches g s p (for_each f (drop (i + 1) xs)) v r
+each_more f xs i d below a b = there a (each_step f (drop i xs) (slice_index_or xs i d) (drop (i + 1) xs) (drop_more xs i d below) b)
+
+pub each_fails : {X : Type 0} {g : State → Deed} (f : X → State → Deed) (xs : List X) (i : ℕ) (d : X) {s u : SceneState} {p q : List ℕ} (fault : RoomFault) (v : SceneState) (r : List ℕ) → i < length xs
+    → Reaches g s p (for_each f (drop i xs)) u q → Fails (f (slice_index_or xs i d)) u q fault v r → Fails g s p fault v r
+each_fails f xs i d {s} {u} {p} {q} fault v r below a b =
+    fails_after a fault v r (each_step_fails f (drop i xs) (slice_index_or xs i d) (drop (i + 1) xs) u q fault v r (drop_more xs i d below) b)
+
+pub each_end : {X : Type 0} {g : State → Deed} (f : X → State → Deed) (xs : List X) (i : ℕ) {s u : SceneState} {p q : List ℕ} → length xs ≤ i → Reaches g s p (for_each f (drop i xs)) u q → Ends g s p tt u q
+each_end f xs i {s} {u} past a = reaches_to a (λ o. ap (λ l. for_each f l (at u o)) (drop_all i xs past))
+
+-- answers that are told: instances are those that lists were told of
+abbrev pub AreAmong : ℕ → List Asked → Type 0
+AreAmong n [] = Unit {0}
+AreAmong n (x ∷ xs) = (x.instance.0 < n) × AreAmong n xs
+
+pub told_gives : (lists : List (List Failure)) (told : List (Option (List Failure))) → told ≡ map Some lists → (xs : List Asked) → AreAmong (length lists) xs → AreTold told xs → Gives xs (Told lists)
+told_gives lists told is [] here t = tt
+told_gives lists told is (x ∷ xs) here t =
+    let known : slice_index_or told x.instance.0 None ≡ Some (slice_index_or lists x.instance.0 []) =
+    ap (λ l. slice_index_or l x.instance.0 None) is ∙ get_or-map Some lists x.instance.0 [] None here.0 in
+    (sym (subst (λ o. IsToldBy o x) known t.0), told_gives lists told is xs here.1 t.1)
+
+pub told_left : (lists : List (List Failure)) (xs : List Asked) → left xs (Told lists) ≡ Told lists
+told_left lists [] = refl
+told_left lists (x ∷ xs) = told_left lists xs
+
+-- answers in order
+pub answered_gives : (xs : List Asked) (rest : List Outcome) → Gives xs (Answered (map (λ x. x.outcome) xs ++ rest))
+answered_gives [] rest = tt
+answered_gives (x ∷ xs) rest = (refl, answered_gives xs rest)
+
+pub answered_left : (xs : List Asked) (rest : List Outcome) → left xs (Answered (map (λ x. x.outcome) xs ++ rest)) ≡ Answered rest
+answered_left [] rest = refl
+answered_left (x ∷ xs) rest = answered_left xs rest
+
+-- what an operation keeps of the plain world holds of the scene that it comes to, whether it goes on or stops
+left_on : {A : Type 0} (I : State → Type 0) (is : List Item) (x : State) (answer : A) (r : Run A) → r ≡ after_items is (GoesOn [] x answer) → Leaves I r → I x
+left_on I is x answer r e k = subst I (ap state_of e) k.left
+
+left_stopped : {A : Type 0} (I : State → Type 0) (is : List Item) (x : State) (r : Run A) → r ≡ after_items is (Stops [] x) → Leaves I r → I x
+left_stopped I is x r e k = subst I (ap state_of e) k.left
+
+pub kept : {A : Type 0} {f : State → Run A} {s u : SceneState} {p q : List ℕ} {answer : A} → Ends f s p answer u q → (I : State → Type 0) → ((a : Answers) → Leaves I (f (at s a)))
+    → (rest : List Outcome) → I (at u (Answered rest))
+kept {A} {f} {s} {u} {p} {q} {answer} e I keep rest =
+    let a : Answers = Answered (map (λ x. x.outcome) e.asked ++ rest) in
+    subst (λ o. I (at u o)) (answered_left e.asked rest)
+    (left_on I e.items (at u (left e.asked a)) answer (f (at s a)) (e.goes a (answered_gives e.asked rest)) (keep a))
+
+pub kept_stopped : {A : Type 0} {f : State → Run A} {s u : SceneState} {p q : List ℕ} → StopsHere f s p u q → (I : State → Type 0) → ((a : Answers) → Leaves I (f (at s a)))
+    → (rest : List Outcome) → I (at u (Answered rest))
+kept_stopped {A} {f} {s} {u} e I keep rest =
+    let a : Answers = Answered (map (λ x. x.outcome) e.asked ++ rest) in
+    subst (λ o. I (at u o)) (answered_left e.asked rest)
+    (left_stopped I e.items (at u (left e.asked a)) (f (at s a)) (e.goes a (answered_gives e.asked rest)) (keep a))
+
+-- also by its result, but for want of memory
+pub does_keep : {A R : Type 0} (f : State → Run A) (answer : R → A) (s : SceneState) (p : List ℕ) (u : SceneState) (q : List ℕ) (result : Result R RoomFault) → Does f answer s p u q result
+    → (I : State → Type 0) → ((a : Answers) → Leaves I (f (at s a))) → (rest : List Outcome) → (result ≡ Err rooms.OutOfMemory → I (at u (Answered rest))) → I (at u (Answered rest))
+does_keep f answer s p u q (Ok x) e I keep rest memory = kept e I keep rest
+does_keep f answer s p u q (Err (rooms.HistoryFull weight)) e I keep rest memory = kept_stopped e.0 I keep rest
+does_keep f answer s p u q (Err rooms.OutOfMemory) e I keep rest memory = memory refl
+
+-- so a world stays of its history, and in step
+pub going_at : {spec : Spec} (s : SceneState) → IsOfItsHistory spec (world_of s) → IsInStep (world_of s) → (a : Answers) → IsGoing spec s.board.cluster.line (at s a)
+going_at s of in_step a = record { scripted = record { of = of; line = refl }; in_step = in_step }
+
+pub kept_going : {A : Type 0} {f : State → Run A} {s u : SceneState} {p q : List ℕ} {answer : A} {spec : Spec} → Ends f s p answer u q → IsOfItsHistory spec (world_of s) → IsInStep (world_of s)
+    → ((a : Answers) → IsGoing spec s.board.cluster.line (at s a) → Leaves (IsGoing spec s.board.cluster.line) (f (at s a))) → IsOfItsHistory spec (world_of u) × IsInStep (world_of u)
+kept_going {A} {f} {s} {u} {p} {q} {answer} {spec} e of in_step keep =
+    let going : IsGoing spec s.board.cluster.line (at u (Answered [])) = kept e (IsGoing spec s.board.cluster.line) (λ a. keep a (going_at s of in_step a)) [] in
+    (going.scripted.of, going.in_step)
+
+pub kept_going_stopped : {A : Type 0} {f : State → Run A} {s u : SceneState} {p q : List ℕ} {spec : Spec} → StopsHere f s p u q → IsOfItsHistory spec (world_of s) → IsInStep (world_of s)
+    → ((a : Answers) → IsGoing spec s.board.cluster.line (at s a) → Leaves (IsGoing spec s.board.cluster.line) (f (at s a))) → IsOfItsHistory spec (world_of u) × IsInStep (world_of u)
+kept_going_stopped {A} {f} {s} {u} {p} {q} {spec} e of in_step keep =
+    let going : IsGoing spec s.board.cluster.line (at u (Answered [])) = kept_stopped e (IsGoing spec s.board.cluster.line) (λ a. keep a (going_at s of in_step a)) [] in
+    (going.scripted.of, going.in_step)
+
+pub does_keep_going : {A R : Type 0} {spec : Spec} (f : State → Run A) (answer : R → A) (s : SceneState) (p : List ℕ) (u : SceneState) (q : List ℕ) (result : Result R RoomFault)
+    → Does f answer s p u q result → IsOfItsHistory spec (world_of s) → IsInStep (world_of s)
+    → ((a : Answers) → IsGoing spec s.board.cluster.line (at s a) → Leaves (IsGoing spec s.board.cluster.line) (f (at s a)))
+    → (result ≡ Err rooms.OutOfMemory → IsOfItsHistory spec (world_of u) × IsInStep (world_of u)) → IsOfItsHistory spec (world_of u) × IsInStep (world_of u)
+does_keep_going f answer s p u q (Ok x) e of in_step keep memory = kept_going e of in_step keep
+does_keep_going f answer s p u q (Err (rooms.HistoryFull weight)) e of in_step keep memory = kept_going_stopped e.0 of in_step keep
+does_keep_going f answer s p u q (Err rooms.OutOfMemory) e of in_step keep memory = memory refl

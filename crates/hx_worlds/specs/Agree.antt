@@ -154,8 +154,16 @@ pub record IsTakenAs (c : Cluster) (j : Job) (m : Message) : Type 0 where
   pub written : m.written ≡ j.is_written
   pub ended : j.is_written ≡ true → is_at_end (state_after m j.outcome) (state_of c.rows m.session m.part) ≡ true
 
+-- a message is exactly another one, with its marks as well
+abbrev pub same_mark : Bool → Bool → Bool
+same_mark true b = b
+same_mark false b = not b
+
+abbrev pub is_exactly : Message → Message → Bool
+is_exactly a b = is_same a b && same_mark a.taken b.taken && same_mark a.written b.written
+
 abbrev pub is_lent_to : Job → Work → Bool
-is_lent_to j (works.Out m is_held) = is_same j.message m && (if is_held then is_some j.handler else is_none j.handler)
+is_lent_to j (works.Out m is_held) = is_exactly j.message m && (if is_held then is_some j.handler else is_none j.handler)
 is_lent_to j _ = false
 
 pub record IsOpenJob (c : Cluster) (ps : List Stationed) (jobs : List Job) (j : Job) : Type 0 where
