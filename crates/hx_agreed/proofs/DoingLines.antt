@@ -74,16 +74,16 @@ use Rattle.hx_agreed.proofs.DoingTurns.{Stands, keeps_line, keeps_note, keeps_lo
 use Rattle.hx_agreed.proofs.Doing.{keeps_taken, keeps_write, keeps_ack, keeps_carried, keeps_message}
 
 -- a fetch leaves the history, and the cluster, as they are
-fetched_history : (is_same : Bool) (i : InstanceId) (mail : Mail) (x : State)
+pub fetched_history : (is_same : Bool) (i : InstanceId) (mail : Mail) (x : State)
     → (Jobs.bagged mail.messages (if is_same then x else Jobs.adopt_in i mail.session x)).world.history ≡ x.world.history
 fetched_history true i mail x = refl
 fetched_history false i mail x = history_kept (Jobs.jobs_of i x) x
 
 -- messages that are pending, as they are, and that the bag has
-abbrev AreFound : Cluster → List Message → Type 0
+abbrev pub AreFound : Cluster → List Message → Type 0
 AreFound c ms = Each (λ m. message_of c.mail m.session m.part ≡ Some m) ms
 
-record AreReady (x : State) (ms : List Message) : Type 0 where
+pub record AreReady (x : State) (ms : List Message) : Type 0 where
   pub found : AreFound x.world.cluster ms
   pub bagged : Each (λ m. list_any (is_same m) x.world.bag ≡ true) ms
 
@@ -153,7 +153,7 @@ module _ (spec : Spec) (valid : IsValid spec) (last : Option ℕ) where
       → Stands spec last (Jobs.adopt_in i (session_of x.world.cluster i) x)
   adopted_own i x there s other = adopted_now i (session_of x.world.cluster i) x there s (left_dead i x s other) (λ u e. e)
 
-  record IsTaken (x : State) (ms : List Message) : Type 0 where
+  pub record IsTaken (x : State) (ms : List Message) : Type 0 where
     pub stands : Stands spec last x
     pub ready : AreReady x ms
 
@@ -181,7 +181,7 @@ module _ (spec : Spec) (valid : IsValid spec) (last : Option ℕ) where
         in_step = board_happens spec valid last e x s (instance_there spec c i (fixed_there spec last x.world s.scripted) there, refl, refl) refl room;
       }
 
-  mail_fetched : (i : InstanceId) (x : State) → Stands spec last x
+  pub mail_fetched : (i : InstanceId) (x : State) → Stands spec last x
       → list_all (is_fetched spec (x.world.history ++ events.Fetch i (session_of x.world.cluster i) (length (messages_for x.world.cluster (session_of x.world.cluster i))) ∷ []))
       (messages_for x.world.cluster (session_of x.world.cluster i)) ≡ true
   mail_fetched i x s =
@@ -189,7 +189,7 @@ module _ (spec : Spec) (valid : IsValid spec) (last : Option ℕ) where
       (sym s.scripted.of.cluster)
       (let c = replay (opening spec) x.world.history in fetch_fetched spec x.world.history i (session_of c i) (length (messages_for c (session_of c i))))
 
-  fetched_now : (i : InstanceId) (x : State) → Ranges.has_instance spec i ≡ true → Stands spec last x
+  pub fetched_now : (i : InstanceId) (x : State) → Ranges.has_instance spec i ≡ true → Stands spec last x
       → x.world.weight + weight_of (events.Fetch i (session_of x.world.cluster i) (length (messages_for x.world.cluster (session_of x.world.cluster i)))) ≤ x.world.limit
       → IsTaken (Jobs.fetched_as i (fetched x.world.cluster i) (happened (events.Fetch i (session_of x.world.cluster i) (length (messages_for x.world.cluster (session_of x.world.cluster i)))) x)) (messages_for x.world.cluster (session_of x.world.cluster i))
   fetched_now i x there s room =
@@ -221,7 +221,7 @@ module _ (spec : Spec) (valid : IsValid spec) (last : Option ℕ) where
       happens_then (Stands spec last) e x (λ y. done (Jobs.fetched_as i mail y)) s (λ room. record { left = (fetched_now i x there s room).stands })
 
   -- deliveries
-  accepted_now : (i : InstanceId) (m : Message) (x : State) → Stands spec last x → is_fetched spec x.world.history m ≡ true → deliver_fault (participant_of x.world i) m ≡ None
+  pub accepted_now : (i : InstanceId) (m : Message) (x : State) → Stands spec last x → is_fetched spec x.world.history m ≡ true → deliver_fault (participant_of x.world i) m ≡ None
       → IsInBag x.world.cluster x.world.participants m → list_any (is_same m) x.world.bag ≡ true → Stands spec last (with_participant i (accept (participant_of x.world i) m) x)
   accepted_now i m x s is none its there = record {
     scripted = accepted_there spec last i m x s.scripted is;
@@ -277,7 +277,7 @@ module _ (spec : Spec) (valid : IsValid spec) (last : Option ℕ) where
       (λ z now. keeps_each (Stands spec last) (Jobs.run_message i) (λ m u so. keeps_message spec valid last i m u so) _ z now))
 
   -- settles
-  live_instances : (x : State) → Stands spec last x → list_all (Ranges.has_instance spec) (map (λ e. e.1) (live_shown x.world.cluster)) ≡ true
+  pub live_instances : (x : State) → Stands spec last x → list_all (Ranges.has_instance spec) (map (λ e. e.1) (live_shown x.world.cluster)) ≡ true
   live_instances x s =
       let c = x.world.cluster in
       let instances : length c.instances ≡ length spec.instances = (fixed_there spec last x.world s.scripted).instances ∙ length-replicate (length spec.instances) false in

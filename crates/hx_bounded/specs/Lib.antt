@@ -1,0 +1,4 @@
+pub mod Ending
+pub mod Measure
+pub mod Falling
+pub mod Rounds
