@@ -1,6 +1,6 @@
 -- How operations on a scene come further, step by step: laws of what is done, also where the history has no room or memory is wanted.
-use Rattle.std.proofs.Common.{◌≡◌, ℕ, ◌+◌, ◌≤◌, ◌<◌, Bool, true, false, List, [], ◌∷◌, ◌++◌, suc, zero, map, take, drop, length, Option, None, Some, refl, sym, ap, subst, ◌∙◌, append_assoc, arith}
-use Rattle.std.specs.Prelude.{if◌then◌else◌, nat_lt, slice_index_or, Result, Ok, Err}
+use Rattle.std.proofs.Common.{◌≡◌, ℕ, ◌+◌, ◌≤◌, ◌<◌, Bool, true, false, List, [], ◌∷◌, ◌++◌, suc, zero, inl, inr, map, take, drop, length, Option, None, Some, refl, sym, ap, subst, ◌∙◌, append_assoc, arith}
+use Rattle.std.specs.Prelude.{if◌then◌else◌, nat_lt, slice_index_or, Result, Ok, Err, ◌⊎◌}
 use Rattle.std.proofs.lemmas.List.{append-nil, drop_more, drop_all, get_or-map}
 use Rattle.std.proofs.lemmas.Bool.Decides.{nat_tests}
 use Rattle.hx_cluster.specs.declared.description.Spec.{Spec}
@@ -362,6 +362,10 @@ pub does_as : {A R : Type 0} (f g : State → Run A) (s : SceneState) → ((a : 
 does_as f g s same answer p u q (Ok x) e = reaches_as same e
 does_as f g s same answer p u q (Err fault) e = fails_as f g s same p fault u q e
 
+-- nothing is done
+pub nothing_done : {A : Type 0} (f : State → Run A) (answer : A) (s : SceneState) (p : List ℕ) → ((a : Answers) → f (at s a) ≡ gives (at s a) answer) → Ends f s p answer s p
+nothing_done f answer s p same = reaches_as same (here (λ x. GoesOn [] x answer) s p)
+
 -- memory is wanted before anything is done
 pub cut_here : {A : Type 0} (f : State → Run A) (s : SceneState) (p : List ℕ) → IsCut f s p s p
 cut_here f s p = record {
@@ -488,13 +492,38 @@ happens_cut e s u p q room is front = cut_as (λ a. happen_made e s a room) (mak
 stops_at : {A : Type 0} (f : State → Run A) (s : SceneState) (p : List ℕ) → ((a : Answers) → f (at s a) ≡ Stops [] (at s a)) → StopsHere f s p s p
 stops_at f s p same = reaches_as same (here (λ x. Stops [] x) s p)
 
+happen_stops : (e : Event) (s : SceneState) → nat_lt s.board.limit (weight_at s.board + weight_of e) ≡ true → (a : Answers) → happen e (at s a) ≡ Stops [] (at s a)
+happen_stops e s full a = ap (λ (t : Bool). if t then Stops [] (at s a) else make e (at s a)) full
+
 pub happens_none : (e : Event) (s : SceneState) (p : List ℕ) → nat_lt s.board.limit (weight_at s.board + weight_of e) ≡ true → StopsHere (happen e) s p s p
-happens_none e s p full = stops_at (happen e) s p (λ a. ap (λ (t : Bool). if t then Stops [] (at s a) else make e (at s a)) full)
+happens_none e s p full = stops_at (happen e) s p (happen_stops e s full)
 
 pub happens_full : (e : Event) (s u : SceneState) (p q : List ℕ) (weight : ℕ) → nat_lt s.board.limit (weight_at s.board + weight_of e) ≡ true → weight ≡ weight_at s.board → u ≡ s → q ≡ p
     → Fails (happen e) s p (rooms.HistoryFull weight) u q
 happens_full e s u p q weight full same su pq =
     subst (λ v. Fails (happen e) s p (rooms.HistoryFull weight) v q) (sym su) (subst (λ r. Fails (happen e) s p (rooms.HistoryFull weight) s r) (sym pq) (happens_none e s p full, same))
+
+-- the board refused it: for want of memory, or of room
+refused_at : {A : Type 0} (f : State → Run A) (n : ℕ) (s u : SceneState) (p : List ℕ) (fault : RoomFault)
+    → (nat_lt s.board.limit (weight_at s.board + n) ≡ true → (a : Answers) → f (at s a) ≡ Stops [] (at s a)) → u ≡ s
+    → (fault ≡ rooms.OutOfMemory) ⊎ (full s.board n rooms.HistoryFull ≡ Some fault) → Fails f s p fault u p
+refused_at f n s u p fault stops same why =
+    subst (λ v. Fails f s p fault v p) (sym same)
+    (elim why [
+      | inl memory ↦ subst (λ x. Fails f s p x s p) (sym memory) (cut_here f s p)
+      | inr room ↦
+          let full = no_room_of s.board n rooms.HistoryFull fault room in
+          subst (λ x. Fails f s p x s p) (sym full.1) (stops_at f s p (stops full.0), refl)
+    ])
+
+pub happens_refused : (e : Event) (s u : SceneState) (p : List ℕ) (fault : RoomFault) → u ≡ s → (fault ≡ rooms.OutOfMemory) ⊎ (full s.board (weight_of e) rooms.HistoryFull ≡ Some fault)
+    → Fails (happen e) s p fault u p
+happens_refused e s u p fault same why = refused_at (happen e) (weight_of e) s u p fault (happen_stops e s) same why
+
+pub happens_and_refused : {B : Type 0} (e : Event) (g : State → Run B) (s u : SceneState) (p : List ℕ) (fault : RoomFault) → u ≡ s
+    → (fault ≡ rooms.OutOfMemory) ⊎ (full s.board (weight_of e) rooms.HistoryFull ≡ Some fault) → Fails (λ x. and_then (happen e x) g) s p fault u p
+happens_and_refused e g s u p fault same why =
+    refused_at (λ x. and_then (happen e x) g) (weight_of e) s u p fault (λ full a. ap (λ r. and_then r g) (happen_stops e s full a)) same why
 
 -- an event, and a pure change after it
 keeps_from : (s u : SceneState) (b : Held) (asked : List Asked) → b.lines ≡ s.board.lines → Keeps s u asked → Keeps (record s { board = b }) u asked
@@ -708,3 +737,20 @@ pub does_keep_going : {A R : Type 0} {spec : Spec} (f : State → Run A) (answer
 does_keep_going f answer s p u q (Ok x) e of in_step keep memory = kept_going e of in_step keep
 does_keep_going f answer s p u q (Err (rooms.HistoryFull weight)) e of in_step keep memory = kept_going_stopped e.0 of in_step keep
 does_keep_going f answer s p u q (Err rooms.OutOfMemory) e of in_step keep memory = memory refl
+
+-- what stays, whatever an operation comes to
+pub does_keeps : {A R : Type 0} (f : State → Run A) (answer : R → A) (s : SceneState) (p : List ℕ) (u : SceneState) (q : List ℕ) (result : Result R RoomFault) → Does f answer s p u q result
+    → (asked : List Asked) × Keeps s u asked
+does_keeps f answer s p u q (Ok x) e = (e.asked, e.keeps)
+does_keeps f answer s p u q (Err (rooms.HistoryFull weight)) e = (e.0.asked, e.0.keeps)
+does_keeps f answer s p u q (Err rooms.OutOfMemory) e = (e.asked, e.keeps)
+
+pub does_bring : {A R : Type 0} (f : State → Run A) (answer : R → A) (s : SceneState) (p : List ℕ) (u : SceneState) (q : List ℕ) (result : Result R RoomFault) → Does f answer s p u q result
+    → (items : List Item) × Brings (past_of (at s Missing)) items (past_of (at u Missing))
+does_bring f answer s p u q (Ok x) e = (e.items, e.brings Missing)
+does_bring f answer s p u q (Err (rooms.HistoryFull weight)) e = (e.0.items, e.0.brings Missing)
+does_bring f answer s p u q (Err rooms.OutOfMemory) e = (e.items, e.brings Missing)
+
+pub does_spec : {A R : Type 0} (f : State → Run A) (answer : R → A) (s : SceneState) (p : List ℕ) (u : SceneState) (q : List ℕ) (result : Result R RoomFault) → Does f answer s p u q result
+    → u.spec ≡ s.spec
+does_spec f answer s p u q result e = (does_bring f answer s p u q result e).1.spec
