@@ -1,6 +1,6 @@
 -- How operations on a scene come further, step by step: laws of what is done, also where the history has no room or memory is wanted.
 use Rattle.std.proofs.Common.{◌≡◌, ℕ, ◌+◌, ◌≤◌, ◌<◌, Bool, true, false, List, [], ◌∷◌, ◌++◌, suc, zero, inl, inr, map, take, drop, length, Option, None, Some, refl, sym, ap, subst, ◌∙◌, append_assoc, arith}
-use Rattle.std.specs.Prelude.{if◌then◌else◌, nat_lt, slice_index_or, Result, Ok, Err, ◌⊎◌}
+use Rattle.std.specs.Prelude.{if◌then◌else◌, nat_lt, slice_index_or, Result, Ok, Err, IsErrAnd, ◌⊎◌}
 use Rattle.std.proofs.lemmas.List.{append-nil, drop_more, drop_all, get_or-map}
 use Rattle.std.proofs.lemmas.Bool.Decides.{nat_tests}
 use Rattle.hx_cluster.specs.declared.description.Spec.{Spec}
@@ -307,6 +307,12 @@ does_then_deed a k answer v r result b = does_after (then_do a k) answer v r res
 pub does_fails : {A R : Type 0} (f : State → Run A) (s : SceneState) (p : List ℕ) (answer : R → A) (fault : RoomFault) (u : SceneState) (q : List ℕ) → Fails f s p fault u q
     → Does f answer s p u q (Err fault)
 does_fails f s p answer fault u q e = e
+
+-- by a result that is this fault
+pub does_err : {A R : Type 0} (f : State → Run A) (answer : R → A) (s : SceneState) (p : List ℕ) (u : SceneState) (q : List ℕ) (result : Result R RoomFault) (fault : RoomFault)
+    → IsErrAnd result (λ e. e ≡ fault) → Fails f s p fault u q → Does f answer s p u q result
+does_err f answer s p u q (Ok x) fault is e = absurd is
+does_err f answer s p u q (Err other) fault is e = subst (λ x. Fails f s p x u q) (sym is) e
 
 pub does_fails_inside : {A B R : Type 0} (f : State → Run A) (s : SceneState) (p : List ℕ) (k : A → State → Run B) (answer : R → B) (fault : RoomFault) (u : SceneState) (q : List ℕ)
     → Fails f s p fault u q → Does (λ x. go_on (f x) k) answer s p u q (Err fault)
