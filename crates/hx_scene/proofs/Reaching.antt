@@ -10,14 +10,14 @@ use Rattle.hx_cluster.specs.declared.happenings.Event.{Event}
 use Rattle.hx_cluster.specs.declared.happenings.Outcome.{Outcome}
 use Rattle.hx_cluster.specs.Events.{next, replay}
 use Rattle.hx_cluster.specs.Weight.{weight_of, weight_of_all}
-use Rattle.hx_text.specs.Texts.{PutsFront, Prints}
+use Rattle.hx_text.specs.Texts.{PutsFront}
 use Rattle.hx_print.specs.Texts.{entry_text}
 use Rattle.hx_board.specs.Board.{Held, weight_at}
 use Rattle.hx_board.specs.Board.{happened as on_board, charged as charged_board}
 use Rattle.hx_board.specs.Refusals.{full}
 use Rattle.hx_board.specs.declared.faults.RoomFault.{RoomFault}
 use Rattle.hx_board.specs.declared.faults.RoomFault.TheVariants as rooms
-use Rattle.hx_worlds.specs.World.{Answers, Told, Answered, Missing, State, answer_of, rest_of}
+use Rattle.hx_worlds.specs.World.{Answers, Told, Answered, Missing, State, rest_of}
 use Rattle.hx_worlds.specs.Items.{Item, Happens, Says, events_in, items_text}
 use Rattle.hx_worlds.specs.Runs.{Run, Deed, GoesOn, Stops, gives, done, items_of, state_of, after_items, go_on, and_then, happened, make, happen, charged, say, for_each}
 use Rattle.hx_worlds.specs.Brings.{Past, past_of, Brings}
@@ -28,7 +28,7 @@ use Rattle.hx_agreed.specs.InStep.{IsInStep}
 use Rattle.hx_agreed.proofs.Going.{IsGoing}
 use Rattle.hx_scene.specs.Scenes.{SceneState, at, world_of, lists_of}
 use Rattle.hx_scene.specs.Telling.{IsCharged}
-use Rattle.hx_scene.specs.Doing.{Asked, Gives, left, IsToldBy, AreTold, IsCounted, Keeps, Reaches, Ends, StopsHere, IsCut, Fails, Does, DoesDeed}
+use Rattle.hx_scene.specs.Doing.{Asked, Gives, left, IsToldBy, AreTold, IsCounted, Keeps, Reaches, Ends, StopsHere, IsCut, Fails, Does}
 
 -- answers to one list of questions and then to another
 pub gives_both : (xs ys : List Asked) (a : Answers) → Gives xs a → Gives ys (left xs a) → Gives (xs ++ ys) a
