@@ -1,13 +1,13 @@
 -- A step of a controller's turn by itself keeps a world of its history, and in step.
 use Rattle.std.proofs.Common.{◌∙◌, ℕ}
-use Rattle.std.specs.Prelude.{Option, None, Result, Ok, Err}
+use Rattle.std.specs.Prelude.{Option, None, Ok}
 use Rattle.hx_ids.specs.declared.ControllerId.{ControllerId}
 use Rattle.hx_cluster.specs.declared.description.Spec.{Spec}
 use Rattle.hx_cluster.specs.Valid.{IsValid}
 use Rattle.hx_control.specs.Controllers.{Controller}
 use Rattle.hx_control.specs.Steps.{Step, Calls, Plans, Refuses, step_of, after_step}
 use Rattle.hx_worlds.specs.World.{State, controller_of, with_controller}
-use Rattle.hx_worlds.specs.Runs.{gives, happened}
+use Rattle.hx_worlds.specs.Runs.{gives}
 use Rattle.hx_safe.proofs.Ends.{same-self}
 use Rattle.hx_scripted.proofs.Keeping.{Keeps}
 use Rattle.hx_scripted.proofs.Stepping.{IsNext, next_there, call_there, plan_there, fault_there}

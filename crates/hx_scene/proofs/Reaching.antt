@@ -1,6 +1,6 @@
 -- How operations on a scene come further, step by step: laws of what is done, also where the history has no room or memory is wanted.
-use Rattle.std.proofs.Common.{◌≡◌, ℕ, ◌+◌, ◌≤◌, ◌<◌, Bool, true, false, List, [], ◌∷◌, ◌++◌, suc, zero, map, take, drop, length, Option, None, Some, refl, sym, ap, subst, ◌∙◌, append_assoc, arith}
-use Rattle.std.specs.Prelude.{if◌then◌else◌, nat_lt, slice_index_or, Result, Ok, Err}
+use Rattle.std.proofs.Common.{◌≡◌, ℕ, ◌+◌, ◌≤◌, ◌<◌, Bool, true, false, List, [], ◌∷◌, ◌++◌, suc, zero, inl, inr, map, take, drop, length, Option, None, Some, refl, sym, ap, subst, ◌∙◌, append_assoc, arith}
+use Rattle.std.specs.Prelude.{if◌then◌else◌, nat_lt, slice_index_or, Result, Ok, Err, IsErrAnd, ◌⊎◌}
 use Rattle.std.proofs.lemmas.List.{append-nil, drop_more, drop_all, get_or-map}
 use Rattle.std.proofs.lemmas.Bool.Decides.{nat_tests}
 use Rattle.hx_cluster.specs.declared.description.Spec.{Spec}
@@ -10,14 +10,14 @@ use Rattle.hx_cluster.specs.declared.happenings.Event.{Event}
 use Rattle.hx_cluster.specs.declared.happenings.Outcome.{Outcome}
 use Rattle.hx_cluster.specs.Events.{next, replay}
 use Rattle.hx_cluster.specs.Weight.{weight_of, weight_of_all}
-use Rattle.hx_text.specs.Texts.{PutsFront, Prints}
+use Rattle.hx_text.specs.Texts.{PutsFront}
 use Rattle.hx_print.specs.Texts.{entry_text}
 use Rattle.hx_board.specs.Board.{Held, weight_at}
 use Rattle.hx_board.specs.Board.{happened as on_board, charged as charged_board}
 use Rattle.hx_board.specs.Refusals.{full}
 use Rattle.hx_board.specs.declared.faults.RoomFault.{RoomFault}
 use Rattle.hx_board.specs.declared.faults.RoomFault.TheVariants as rooms
-use Rattle.hx_worlds.specs.World.{Answers, Told, Answered, Missing, State, answer_of, rest_of}
+use Rattle.hx_worlds.specs.World.{Answers, Told, Answered, Missing, State, rest_of}
 use Rattle.hx_worlds.specs.Items.{Item, Happens, Says, events_in, items_text}
 use Rattle.hx_worlds.specs.Runs.{Run, Deed, GoesOn, Stops, gives, done, items_of, state_of, after_items, go_on, and_then, happened, make, happen, charged, say, for_each}
 use Rattle.hx_worlds.specs.Brings.{Past, past_of, Brings}
@@ -28,7 +28,7 @@ use Rattle.hx_agreed.specs.InStep.{IsInStep}
 use Rattle.hx_agreed.proofs.Going.{IsGoing}
 use Rattle.hx_scene.specs.Scenes.{SceneState, at, world_of, lists_of}
 use Rattle.hx_scene.specs.Telling.{IsCharged}
-use Rattle.hx_scene.specs.Doing.{Asked, Gives, left, IsToldBy, AreTold, IsCounted, Keeps, Reaches, Ends, StopsHere, IsCut, Fails, Does, DoesDeed}
+use Rattle.hx_scene.specs.Doing.{Asked, Gives, left, IsToldBy, AreTold, IsCounted, Keeps, Reaches, Ends, StopsHere, IsCut, Fails, Does}
 
 -- answers to one list of questions and then to another
 pub gives_both : (xs ys : List Asked) (a : Answers) → Gives xs a → Gives ys (left xs a) → Gives (xs ++ ys) a
@@ -308,6 +308,12 @@ pub does_fails : {A R : Type 0} (f : State → Run A) (s : SceneState) (p : List
     → Does f answer s p u q (Err fault)
 does_fails f s p answer fault u q e = e
 
+-- by a result that is this fault
+pub does_err : {A R : Type 0} (f : State → Run A) (answer : R → A) (s : SceneState) (p : List ℕ) (u : SceneState) (q : List ℕ) (result : Result R RoomFault) (fault : RoomFault)
+    → IsErrAnd result (λ e. e ≡ fault) → Fails f s p fault u q → Does f answer s p u q result
+does_err f answer s p u q (Ok x) fault is e = absurd is
+does_err f answer s p u q (Err other) fault is e = subst (λ x. Fails f s p x u q) (sym is) e
+
 pub does_fails_inside : {A B R : Type 0} (f : State → Run A) (s : SceneState) (p : List ℕ) (k : A → State → Run B) (answer : R → B) (fault : RoomFault) (u : SceneState) (q : List ℕ)
     → Fails f s p fault u q → Does (λ x. go_on (f x) k) answer s p u q (Err fault)
 does_fails_inside f s p k answer fault u q e = fails_inside f s p fault u q e k
@@ -361,6 +367,10 @@ pub does_as : {A R : Type 0} (f g : State → Run A) (s : SceneState) → ((a : 
     → Does g answer s p u q result → Does f answer s p u q result
 does_as f g s same answer p u q (Ok x) e = reaches_as same e
 does_as f g s same answer p u q (Err fault) e = fails_as f g s same p fault u q e
+
+-- nothing is done
+pub nothing_done : {A : Type 0} (f : State → Run A) (answer : A) (s : SceneState) (p : List ℕ) → ((a : Answers) → f (at s a) ≡ gives (at s a) answer) → Ends f s p answer s p
+nothing_done f answer s p same = reaches_as same (here (λ x. GoesOn [] x answer) s p)
 
 -- memory is wanted before anything is done
 pub cut_here : {A : Type 0} (f : State → Run A) (s : SceneState) (p : List ℕ) → IsCut f s p s p
@@ -488,13 +498,38 @@ happens_cut e s u p q room is front = cut_as (λ a. happen_made e s a room) (mak
 stops_at : {A : Type 0} (f : State → Run A) (s : SceneState) (p : List ℕ) → ((a : Answers) → f (at s a) ≡ Stops [] (at s a)) → StopsHere f s p s p
 stops_at f s p same = reaches_as same (here (λ x. Stops [] x) s p)
 
+happen_stops : (e : Event) (s : SceneState) → nat_lt s.board.limit (weight_at s.board + weight_of e) ≡ true → (a : Answers) → happen e (at s a) ≡ Stops [] (at s a)
+happen_stops e s full a = ap (λ (t : Bool). if t then Stops [] (at s a) else make e (at s a)) full
+
 pub happens_none : (e : Event) (s : SceneState) (p : List ℕ) → nat_lt s.board.limit (weight_at s.board + weight_of e) ≡ true → StopsHere (happen e) s p s p
-happens_none e s p full = stops_at (happen e) s p (λ a. ap (λ (t : Bool). if t then Stops [] (at s a) else make e (at s a)) full)
+happens_none e s p full = stops_at (happen e) s p (happen_stops e s full)
 
 pub happens_full : (e : Event) (s u : SceneState) (p q : List ℕ) (weight : ℕ) → nat_lt s.board.limit (weight_at s.board + weight_of e) ≡ true → weight ≡ weight_at s.board → u ≡ s → q ≡ p
     → Fails (happen e) s p (rooms.HistoryFull weight) u q
 happens_full e s u p q weight full same su pq =
     subst (λ v. Fails (happen e) s p (rooms.HistoryFull weight) v q) (sym su) (subst (λ r. Fails (happen e) s p (rooms.HistoryFull weight) s r) (sym pq) (happens_none e s p full, same))
+
+-- the board refused it: for want of memory, or of room
+refused_at : {A : Type 0} (f : State → Run A) (n : ℕ) (s u : SceneState) (p : List ℕ) (fault : RoomFault)
+    → (nat_lt s.board.limit (weight_at s.board + n) ≡ true → (a : Answers) → f (at s a) ≡ Stops [] (at s a)) → u ≡ s
+    → (fault ≡ rooms.OutOfMemory) ⊎ (full s.board n rooms.HistoryFull ≡ Some fault) → Fails f s p fault u p
+refused_at f n s u p fault stops same why =
+    subst (λ v. Fails f s p fault v p) (sym same)
+    (elim why [
+      | inl memory ↦ subst (λ x. Fails f s p x s p) (sym memory) (cut_here f s p)
+      | inr room ↦
+          let full = no_room_of s.board n rooms.HistoryFull fault room in
+          subst (λ x. Fails f s p x s p) (sym full.1) (stops_at f s p (stops full.0), refl)
+    ])
+
+pub happens_refused : (e : Event) (s u : SceneState) (p : List ℕ) (fault : RoomFault) → u ≡ s → (fault ≡ rooms.OutOfMemory) ⊎ (full s.board (weight_of e) rooms.HistoryFull ≡ Some fault)
+    → Fails (happen e) s p fault u p
+happens_refused e s u p fault same why = refused_at (happen e) (weight_of e) s u p fault (happen_stops e s) same why
+
+pub happens_and_refused : {B : Type 0} (e : Event) (g : State → Run B) (s u : SceneState) (p : List ℕ) (fault : RoomFault) → u ≡ s
+    → (fault ≡ rooms.OutOfMemory) ⊎ (full s.board (weight_of e) rooms.HistoryFull ≡ Some fault) → Fails (λ x. and_then (happen e x) g) s p fault u p
+happens_and_refused e g s u p fault same why =
+    refused_at (λ x. and_then (happen e x) g) (weight_of e) s u p fault (λ full a. ap (λ r. and_then r g) (happen_stops e s full a)) same why
 
 -- an event, and a pure change after it
 keeps_from : (s u : SceneState) (b : Held) (asked : List Asked) → b.lines ≡ s.board.lines → Keeps s u asked → Keeps (record s { board = b }) u asked
@@ -708,3 +743,20 @@ pub does_keep_going : {A R : Type 0} {spec : Spec} (f : State → Run A) (answer
 does_keep_going f answer s p u q (Ok x) e of in_step keep memory = kept_going e of in_step keep
 does_keep_going f answer s p u q (Err (rooms.HistoryFull weight)) e of in_step keep memory = kept_going_stopped e.0 of in_step keep
 does_keep_going f answer s p u q (Err rooms.OutOfMemory) e of in_step keep memory = memory refl
+
+-- what stays, whatever an operation comes to
+pub does_keeps : {A R : Type 0} (f : State → Run A) (answer : R → A) (s : SceneState) (p : List ℕ) (u : SceneState) (q : List ℕ) (result : Result R RoomFault) → Does f answer s p u q result
+    → (asked : List Asked) × Keeps s u asked
+does_keeps f answer s p u q (Ok x) e = (e.asked, e.keeps)
+does_keeps f answer s p u q (Err (rooms.HistoryFull weight)) e = (e.0.asked, e.0.keeps)
+does_keeps f answer s p u q (Err rooms.OutOfMemory) e = (e.asked, e.keeps)
+
+pub does_bring : {A R : Type 0} (f : State → Run A) (answer : R → A) (s : SceneState) (p : List ℕ) (u : SceneState) (q : List ℕ) (result : Result R RoomFault) → Does f answer s p u q result
+    → (items : List Item) × Brings (past_of (at s Missing)) items (past_of (at u Missing))
+does_bring f answer s p u q (Ok x) e = (e.items, e.brings Missing)
+does_bring f answer s p u q (Err (rooms.HistoryFull weight)) e = (e.0.items, e.0.brings Missing)
+does_bring f answer s p u q (Err rooms.OutOfMemory) e = (e.items, e.brings Missing)
+
+pub does_spec : {A R : Type 0} (f : State → Run A) (answer : R → A) (s : SceneState) (p : List ℕ) (u : SceneState) (q : List ℕ) (result : Result R RoomFault) → Does f answer s p u q result
+    → u.spec ≡ s.spec
+does_spec f answer s p u q result e = (does_bring f answer s p u q result e).1.spec
