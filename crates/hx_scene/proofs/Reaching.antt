@@ -1,7 +1,7 @@
 -- How operations on a scene come further, step by step: laws of what is done, also where the history has no room or memory is wanted.
 use Rattle.std.proofs.Common.{◌≡◌, ℕ, ◌+◌, ◌≤◌, ◌<◌, Bool, true, false, List, [], ◌∷◌, ◌++◌, suc, zero, inl, inr, map, take, drop, length, Option, None, Some, refl, sym, ap, subst, ◌∙◌, append_assoc, arith}
 use Rattle.std.specs.Prelude.{if◌then◌else◌, nat_lt, slice_index_or, Result, Ok, Err, IsErrAnd, ◌⊎◌}
-use Rattle.std.proofs.lemmas.List.{append-nil, drop_more, drop_all, get_or-map}
+use Rattle.std.proofs.lemmas.List.{append-nil, drop_more, drop_all}
 use Rattle.std.proofs.lemmas.Bool.Decides.{nat_tests}
 use Rattle.hx_cluster.specs.declared.description.Spec.{Spec}
 use Rattle.hx_cluster.specs.declared.description.Failure.{Failure}
@@ -667,17 +667,26 @@ each_fails f xs i d {s} {u} {p} {q} fault v r below a b =
 pub each_end : {X : Type 0} {g : State → Deed} (f : X → State → Deed) (xs : List X) (i : ℕ) {s u : SceneState} {p q : List ℕ} → length xs ≤ i → Reaches g s p (for_each f (drop i xs)) u q → Ends g s p tt u q
 each_end f xs i {s} {u} past a = reaches_to a (λ o. ap (λ l. for_each f l (at u o)) (drop_all i xs past))
 
--- answers that are told: instances are those that lists were told of
-abbrev pub AreAmong : ℕ → List Asked → Type 0
-AreAmong n [] = Unit {0}
-AreAmong n (x ∷ xs) = (x.instance.0 < n) × AreAmong n xs
+some_there : (lists : List (List Failure)) (i : ℕ) → slice_index_or (map Some lists) i (Some []) ≡ Some (slice_index_or lists i [])
+some_there [] i = refl
+some_there (x ∷ xs) zero = refl
+some_there (x ∷ xs) (suc i) = some_there xs i
 
-pub told_gives : (lists : List (List Failure)) (told : List (Option (List Failure))) → told ≡ map Some lists → (xs : List Asked) → AreAmong (length lists) xs → AreTold told xs → Gives xs (Told lists)
-told_gives lists told is [] here t = tt
-told_gives lists told is (x ∷ xs) here t =
-    let known : slice_index_or told x.instance.0 None ≡ Some (slice_index_or lists x.instance.0 []) =
-    ap (λ l. slice_index_or l x.instance.0 None) is ∙ get_or-map Some lists x.instance.0 [] None here.0 in
-    (sym (subst (λ o. IsToldBy o x) known t.0), told_gives lists told is xs here.1 t.1)
+get_or_any : {A : Type 0} (xs : List A) (i : ℕ) (d e : A) → i < length xs → slice_index_or xs i d ≡ slice_index_or xs i e
+get_or_any [] i d e here = absurd (omega arith)
+get_or_any (x ∷ xs) zero d e here = refl
+get_or_any (x ∷ xs) (suc i) d e here = get_or_any xs i d e (omega arith)
+
+-- answers that are told. A list of an instance that there is
+pub listed_there : (lists : List (Option (List Failure))) (i : ℕ) (d : Option (List Failure)) → i < length lists → slice_index_or lists i d ≡ slice_index_or lists i None
+listed_there lists i d here = get_or_any lists i d None here
+
+pub told_gives : (lists : List (List Failure)) (told : List (Option (List Failure))) → told ≡ map Some lists → (xs : List Asked) → AreTold told xs → Gives xs (Told lists)
+told_gives lists told is [] t = tt
+told_gives lists told is (x ∷ xs) t =
+    let known : slice_index_or told x.instance.0 (Some []) ≡ Some (slice_index_or lists x.instance.0 []) =
+    ap (λ l. slice_index_or l x.instance.0 (Some [])) is ∙ some_there lists x.instance.0 in
+    (sym (subst (λ o. IsToldBy o x) known t.0), told_gives lists told is xs t.1)
 
 pub told_left : (lists : List (List Failure)) (xs : List Asked) → left xs (Told lists) ≡ Told lists
 told_left lists [] = refl

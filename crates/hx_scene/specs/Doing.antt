@@ -37,14 +37,14 @@ abbrev pub left : List Asked → Answers → Answers
 left [] a = a
 left (x ∷ xs) a = left xs (rest_of a)
 
--- they are as the lists of failures tell, where lists are told
+-- they are as the lists of failures tell, where lists are told. On an instance that there isn't nothing fails
 abbrev pub IsToldBy : Option (List Failure) → Asked → Type 0
 IsToldBy None x = Unit {0}
 IsToldBy (Some failures) x = x.outcome ≡ told_outcome (has_failure failures x.part x.is_making x.number)
 
 abbrev pub AreTold : List (Option (List Failure)) → List Asked → Type 0
 AreTold lists [] = Unit {0}
-AreTold lists (x ∷ xs) = IsToldBy (slice_index_or lists x.instance.0 None) x × AreTold lists xs
+AreTold lists (x ∷ xs) = IsToldBy (slice_index_or lists x.instance.0 (Some [])) x × AreTold lists xs
 
 -- no count of makings or runs is above the messages that were handed out
 abbrev pub IsRunsBelow : ℕ → Option ℕ → Type 0
