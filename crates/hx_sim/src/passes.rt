@@ -18,6 +18,7 @@ use hx_control::{PassOutcome, Stage};
 use hx_handler::Factory;
 use hx_ids::ControllerId;
 use hx_print::{Note, Word};
+use hx_script::ReadKind;
 use hx_text::Page;
 use hx_worlds::Voice;
 
