@@ -36,7 +36,7 @@ use Rattle.hx_safe.proofs.Kept.{IsKept}
 use Rattle.hx_covers.proofs.Sorting.{all-sort, each_there}
 use Rattle.hx_agreed.specs.InStep.{Each}
 use Rattle.hx_agreed.proofs.Lists.{each-le}
-use Rattle.hx_agreed.proofs.Fetching.{any-sort}
+use Rattle.hx_settled.proofs.Moments.{any-sort}
 use Rattle.hx_agreed.proofs.Changes.{instance_same}
 use Rattle.hx_agreed.proofs.Going.{whole_there}
 use Rattle.hx_agreed.proofs.DoingTurns.{Stands}

@@ -31,7 +31,7 @@ use Rattle.hx_agreed.specs.InStep.{of_instance, IsAcceptedHere, HasWork}
 use Rattle.hx_agreed.proofs.Frames.{same_is}
 use Rattle.hx_agreed.proofs.Replicas.{here_put, one_bagged}
 use Rattle.hx_agreed.proofs.Marks.{accepted_slot}
-use Rattle.hx_agreed.proofs.Fetching.{any-sort}
+use Rattle.hx_settled.proofs.Moments.{any-sort}
 use Rattle.hx_bounded.specs.Ending.{IfGoesOn}
 use Rattle.hx_bounded.proofs.Going.{goes_then, goes_so, goes_each}
 use Rattle.hx_bounded.proofs.Ends
