@@ -4,3 +4,4 @@ pub mod Kept
 pub mod Telling
 pub mod Advances
 pub mod Taking
+pub mod Ending

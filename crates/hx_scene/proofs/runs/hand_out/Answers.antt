@@ -1,12 +1,7 @@
-use Rattle.std.proofs.Common.{rules, ◌≡◌, true, IfOk, OnErr, IfSome, IfNone, ℕ, ◌+◌, ◌-◌, ◌*◌, ◌<◌, ◌≤◌, length, ◌/◌, ◌%◌, Bool, false, nat_eq, nat_lt, List, [], ◌∷◌, ◌++◌, slice_index_or, slice_set, bit_and, bit_or, Fits, w8, w32, w64, Bor, MutBor}
-use Rattle.std.specs.Option.{option_map}
-use Rattle.hx_cluster.specs.Steps.{has_instance}
-use Rattle.hx_replicas.specs.Participants.{accepted_by}
-use Rattle.hx_worlds.specs.Jobs.{do_take, do_write, do_ack}
-use Rattle.hx_scene.specs.Doing.{DoesDeed}
-use Rattle.hx_scene.specs.Taking.{HandsOut, IsStill}
+use Rattle.hx_scene.proofs.Handing.{all_handing}
 use Rattle.hx_scene.proofs.runs.hand_out.Goals as goal
 
--- src/runs.rt:26:1
 pub returns-clause-some : goal.returns-clause-some
-returns-clause-some g c = ?
+returns-clause-some g c =
+    all_handing c.args.participant.now c.reserve.new.self c.job_of.new.self c.job_of.result c.reserve.ensures.rest c.reserve.ensures.ledger c.job_of.ensures.ledger c.job_of.ensures.rest
+    c.job_of.ensures.plain c.job_of.ensures.handed
