@@ -34,7 +34,7 @@ held_put (x ∷ xs) y = one (part_eq x.part y.part) refl (held_put xs y)
         let found = ap (λ z. held_in z) (find-step x xs y.part false e) in
         omega (arith, put, found, later, sum_by-cons held_in x (put_slot xs y), sum_by-cons held_in x xs)
 
-held_one : (b : Bool) → (if b then 1 else 0) ≤ 1
+held_one : (b : Bool) → 0 + (if b then 1 else 0) ≤ 1
 held_one true = omega arith
 held_one false = omega arith
 

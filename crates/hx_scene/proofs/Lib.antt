@@ -1,3 +1,4 @@
 pub mod Reaching
 pub mod Advancing
 pub mod Handing
+pub mod Taking
