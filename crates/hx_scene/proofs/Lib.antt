@@ -2,3 +2,4 @@ pub mod Reaching
 pub mod Advancing
 pub mod Handing
 pub mod Taking
+pub mod Taken

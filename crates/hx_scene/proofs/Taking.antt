@@ -69,19 +69,19 @@ take_as v i id m f h x is answer runs =
     ∙ ap (λ (z : Option ℕ). take_job v i m z (handed_out i m f x)) (sym runs)
 
 -- what is asked: the making, where one is made, and the run, where a handler runs
-abbrev asked_if : Bool → Asked → List Asked
+abbrev pub asked_if : Bool → Asked → List Asked
 asked_if b x = if b then x ∷ [] else []
 
-abbrev making : InstanceId → Message → ℕ → Bool → Asked
+abbrev pub making : InstanceId → Message → ℕ → Bool → Asked
 making i m tried f = record { instance = i; part = m.part; is_making = true; number = tried + 1; outcome = told_outcome f }
 
-abbrev running : InstanceId → Message → ℕ → Outcome → Asked
+abbrev pub running : InstanceId → Message → ℕ → Outcome → Asked
 running i m runs o = record { instance = i; part = m.part; is_making = false; number = runs + 1; outcome = o }
 
-abbrev making_for : InstanceId → Participant → Message → Bool → List Asked
+abbrev pub making_for : InstanceId → Participant → Message → Bool → List Asked
 making_for i w m f = asked_if (makes (slot_of w m.part) m) (making i m (tried_of w.tried m.part) f)
 
-abbrev running_for : InstanceId → Message → Option Held → Outcome → List Asked
+abbrev pub running_for : InstanceId → Message → Option Held → Outcome → List Asked
 running_for i m None o = []
 running_for i m (Some h) o = asked_if (not (leaves_error m)) (running i m h.runs o)
 
@@ -98,10 +98,10 @@ failed_told true = refl
 failed_told false = refl
 
 -- the scene with a participant that handed out
-abbrev with_staff : SceneState → InstanceId → ParticipantState → SceneState
+abbrev pub with_staff : SceneState → InstanceId → ParticipantState → SceneState
 with_staff s i b = record s { staff = slice_set s.staff i.0 b }
 
-world_with : (s : SceneState) (i : InstanceId) (b : ParticipantState) (p : Participant) → p ≡ b.plain
+pub world_with : (s : SceneState) (i : InstanceId) (b : ParticipantState) (p : Participant) → p ≡ b.plain
     → record (world_of s) { participants = slice_set (world_of s).participants i.0 p } ≡ world_of (with_staff s i b)
 world_with s i b p is =
     ap (λ ps. record (world_of s) { participants = ps })
@@ -137,7 +137,7 @@ take_at v s i id b job a lt is h given =
     ∙ ap (λ z. take_job v i m (runs_of job.handler) z) (handed_at s i b job a lt h)
 
 -- the run
-abbrev opened : InstanceId → Ran → OpenState
+abbrev pub opened : InstanceId → Ran → OpenState
 opened i r = record { instance = i; ran = r; is_written = false }
 
 ok_is : (o : Outcome) → is_failed o ≡ false → o ≡ outcomes.Ok
@@ -187,7 +187,7 @@ run_is i m (Some h) r x runs given = some r.handler refl runs
       answers = λ w. left_if (not (leaves_error m)) (running i m h.runs r.outcome) w x.answers;
     }
 
-abbrev with_open : SceneState → InstanceId → Ran → SceneState
+abbrev pub with_open : SceneState → InstanceId → Ran → SceneState
 with_open s i r = record s { jobs = s.jobs ++ opened i r ∷ [] }
 
 pub ran_at : (s : SceneState) (i : InstanceId) (job : Job) (r : Ran) (a : Answers) → r.message ≡ job.message → RunsWith job.message job.handler r.handler (is_failed r.outcome)
