@@ -1,6 +1,6 @@
 -- What a taking of a message comes to in a scene, and that it keeps it.
 use Rattle.std.proofs.Common.{◌≡◌, ℕ, ◌+◌, ◌-◌, ◌≤◌, ◌<◌, ◌^◌, not, Bool, true, false, List, [], ◌∷◌, ◌++◌, map, length, Option, None, Some, refl, sym, ap, subst, ◌∙◌, arith}
-use Rattle.std.specs.Prelude.{if◌then◌else◌, ◌==◌, is_none, is_some, slice_set, slice_index_or, Result, Ok, Err, IsErrAnd, IfSome}
+use Rattle.std.specs.Prelude.{if◌then◌else◌, ◌==◌, is_none, is_some, slice_set, slice_index_or, Result, Ok, Err, IsErrAnd, IfSome, OnOk, OnErr}
 use Rattle.std.specs.List.{All}
 use Rattle.std.specs.Option.{option_map, ForSome}
 use Rattle.std.proofs.lemmas.List.{length-map, map-set, get_or_read, length-set, get_or-set_same}
@@ -27,13 +27,14 @@ use Rattle.hx_handler.specs.Failures.{has_failure}
 use Rattle.hx_handler.specs.Told.{IsTold}
 use Rattle.hx_print.specs.Texts.{entry_text}
 use Rattle.hx_print.specs.declared.Note.TheVariants as notes
-use Rattle.hx_text.specs.Texts.{PutsFront}
+use Rattle.hx_text.specs.Texts.{PutsFront, Prints}
 use Rattle.hx_board.specs.Board.{Held as Board, HasHistory, happened as on_board}
 use Rattle.hx_board.specs.declared.faults.RoomFault.{RoomFault}
 use Rattle.hx_board.specs.declared.faults.RoomFault.TheVariants as rooms
 use Rattle.hx_replicas.specs.Participants.{Participant, Slot, slot_of, accepted_by, makes, made_ready, finish, brought, end_of, leaves_error}
-use Rattle.hx_replicas.specs.Jobs.{ParticipantState, Held, Job, Ran, RunsWith, runs_of, is_failed}
-use Rattle.hx_replicas.proofs.Outs.{run-listed}
+use Rattle.hx_replicas.specs.declared.slots.Work.TheVariants.{Out}
+use Rattle.hx_replicas.specs.Jobs.{ParticipantState, Held, Job, Ran, Done, RunsWith, runs_of, is_failed}
+use Rattle.hx_replicas.proofs.Outs.{run-listed, out-job}
 use Rattle.hx_scripted.specs.OfHistory.{IsOfItsHistory}
 use Rattle.hx_agreed.specs.InStep.{IsInStep}
 use Rattle.hx_agreed.proofs.Operations.{take_keeps, stands_there, instance_there}
@@ -365,3 +366,75 @@ module _ {s : SceneState} {i : InstanceId} {b : ParticipantState} (scene : IsSce
       (λ a _. ap (λ (w : Participant). take_accepted v i (accepted_by w id) (at s a)) (participant_at s i lt) ∙ ap (λ o. take_accepted v i o (at s a)) none
       ∙ ap (λ w. note v notes.NoJob (record { world = w; answers = a })) (sym still_world))
       refl refl keeps_still
+
+-- by what the calls told
+pub handed_of : (s : SceneState) (i : InstanceId) (id : MsgId) (a b : ParticipantState) (found : Option Job) (job : Job) → IsScene s → i.0 < length s.staff → a ≡ slice_index_or s.staff i.0 a
+    → option_map (λ j. j.message) found ≡ accepted_by a.plain id → IfSome found (HandsOut a b) → found ≡ Some job → s.handed < 2 ^ 62 → IsHandedOut s i id b job
+handed_of s i id a b found job scene lt at_i asked some is few =
+    let here : a ≡ staff_of s i = get_or_read s.staff i.0 a lt at_i new_staff in
+    record {
+      scene = scene;
+      instance = lt;
+      accepted = ap (λ (p : ParticipantState). accepted_by p.plain id) (sym here) ∙ sym asked ∙ ap (λ o. option_map (λ j. j.message) o) is;
+      hands = subst (λ (p : ParticipantState). HandsOut p b job) here (subst (λ o. IfSome o (HandsOut a b)) is some);
+      few = few;
+    }
+
+pub still_of : (s : SceneState) (i : InstanceId) (a b : ParticipantState) → i.0 < length s.staff → a ≡ slice_index_or s.staff i.0 a → IsStill a b → IsStill (staff_of s i) b
+still_of s i a b lt at_i still = subst (λ (p : ParticipantState). IsStill p b) (get_or_read s.staff i.0 a lt at_i new_staff) still
+
+pub none_of : (s : SceneState) (i : InstanceId) (id : MsgId) (a : ParticipantState) (found : Option Job) → i.0 < length s.staff → a ≡ slice_index_or s.staff i.0 a
+    → option_map (λ j. j.message) found ≡ accepted_by a.plain id → found ≡ None → accepted_by (staff_of s i).plain id ≡ None
+none_of s i id a found lt at_i asked is =
+    ap (λ (p : ParticipantState). accepted_by p.plain id) (sym (get_or_read s.staff i.0 a lt at_i new_staff)) ∙ sym asked ∙ ap (λ o. option_map (λ j. j.message) o) is
+
+pub scene_is : (s : SceneState) (i : InstanceId) (b : ParticipantState) (board : Board) (jobs : List OpenState) (e : Event) (r : Ran) → board ≡ on_board s.board e → jobs ≡ s.jobs ++ opened i r ∷ []
+    → record s { board = board; staff = slice_set s.staff i.0 b; jobs = jobs; handed = s.handed + 1 } ≡ taken_scene s i b e r
+scene_is s i b board jobs e r is are =
+    ap (λ (z : Board). record s { board = z; staff = slice_set s.staff i.0 b; jobs = jobs; handed = s.handed + 1 }) is
+    ∙ ap (λ js. record s { board = on_board s.board e; staff = slice_set s.staff i.0 b; jobs = js; handed = s.handed + 1 }) are
+
+abbrev pub opened_job : InstanceId → Ran → OpenState
+opened_job i r = opened i r
+
+-- a job that was handed out goes back
+was_put : (staff : List ParticipantState) (i : InstanceId) (b x : ParticipantState) → i.0 < length staff → x ≡ slice_index_or (slice_set staff i.0 b) i.0 x → x ≡ b
+was_put staff i b x lt at_i = at_i ∙ get_or-set_same staff i.0 b x lt
+
+abbrev put_of : Job → Done
+put_of job = record { message = job.message; handler = job.handler; outcome = None }
+
+pub back_of : (staff : List ParticipantState) (i : InstanceId) (b x c : ParticipantState) (job : Job) (d : Done) → i.0 < length staff → x ≡ slice_index_or (slice_set staff i.0 b) i.0 x
+    → d ≡ put_of job → c.plain ≡ finish x.plain d.message d.outcome (runs_of d.handler) → c.made ≡ x.made → c.listed ≡ x.listed → IsPutBack b c job
+back_of staff i b x c job d lt at_i is plain made listed =
+    let same = was_put staff i b x lt at_i in
+    record {
+      plain = plain ∙ ap (λ (z : ParticipantState). finish z.plain d.message d.outcome (runs_of d.handler)) same ∙ ap (λ (z : Done). finish b.plain z.message z.outcome (runs_of z.handler)) is;
+      made = made ∙ ap (λ (z : ParticipantState). z.made) same;
+      listed = listed ∙ ap (λ (z : ParticipantState). z.listed) same;
+    }
+
+pub back_out : {a : ParticipantState} (staff : List ParticipantState) (i : InstanceId) (b x : ParticipantState) (job : Job) (d : Done) → i.0 < length staff
+    → x ≡ slice_index_or (slice_set staff i.0 b) i.0 x → d ≡ put_of job → HandsOut a b job → (slot_of x.plain d.message.part).work ≡ Out d.message (is_some d.handler)
+back_out {a} staff i b x job d lt at_i is h =
+    let same = was_put staff i b x lt at_i in
+    subst (λ (z : Done). (slot_of x.plain z.message.part).work ≡ Out z.message (is_some z.handler)) (sym is)
+    (subst (λ (z : ParticipantState). (slot_of z.plain job.message.part).work ≡ Out job.message (is_some job.handler)) (sym same) (out-job a b job h.plain h.handed))
+
+pub back_listed : {a : ParticipantState} (staff : List ParticipantState) (i : InstanceId) (b x : ParticipantState) (job : Job) (d : Done) → i.0 < length staff
+    → x ≡ slice_index_or (slice_set staff i.0 b) i.0 x → d ≡ put_of job → HandsOut a b job → ForSome d.handler (λ y. y.listed ≡ x.listed)
+back_listed {a} staff i b x job d lt at_i is h =
+    let same = was_put staff i b x lt at_i in
+    subst (λ (z : Done). ForSome z.handler (λ y. y.listed ≡ x.listed)) (sym is)
+    (subst (λ (z : ParticipantState). ForSome job.handler (λ y. y.listed ≡ z.listed)) (sym same) (λ y e. h.handed.listed y e ∙ sym h.listed))
+
+pub with_parts_is : (P : SceneState → Type 0) (s : SceneState) (board : Board) (jobs : List OpenState) → board ≡ s.board → jobs ≡ s.jobs → P s → P (record s { board = board; jobs = jobs })
+with_parts_is P s board jobs is are here =
+    subst (λ (z : Board). P (record s { board = z; jobs = jobs })) (sym is) (subst (λ (z : List OpenState). P (record s { jobs = z })) (sym are) here)
+
+-- what was printed
+pub printed_front : {T E : Type 0} {text old new : List ℕ} {result : Result T E} {fault : E} → Prints text old result new → result ≡ Err fault → PutsFront text old new
+printed_front {T} {E} {text} {old} {new} p is = subst (λ (r : Result T E). OnErr r (PutsFront text old new)) is p.err
+
+pub printed_whole : {T E : Type 0} {text old new : List ℕ} {result : Result T E} {x : T} → Prints text old result new → result ≡ Ok x → new ≡ old ++ text
+printed_whole {T} {E} {text} {old} {new} p is = subst (λ (r : Result T E). OnOk r (new ≡ old ++ text)) is p.ok
