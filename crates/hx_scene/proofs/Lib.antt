@@ -3,3 +3,4 @@ pub mod Advancing
 pub mod Handing
 pub mod Taking
 pub mod Taken
+pub mod Written

@@ -53,7 +53,7 @@ use Rattle.hx_scene.proofs.Handing.{runs_more, below_more, below_handed, below_s
 use Rattle.hx_scene.proofs.Taking.{participant_at, list_at, asked_if, making, running, making_for, running_for, with_staff, with_open, opened, world_with, take_at, ran_at}
 
 -- what a scene has between operations
-valid_scene : (s : SceneState) → IsScene s → IsValid s.spec
+pub valid_scene : (s : SceneState) → IsScene s → IsValid s.spec
 valid_scene s is = subst IsValid is.own is.history.valid
 
 pub staff_there : (s : SceneState) → IsScene s → (i : InstanceId) → has_instance s.board.cluster i ≡ true → i.0 < length s.staff

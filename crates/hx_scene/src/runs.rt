@@ -96,13 +96,15 @@ impl<F: Factory> Scene<F> {
         let Some(place) = place_of(&self.jobs, instance, id) else {
             return self.note(voice, &Note::NoJob, out);
         };
-        let job = &mut self.jobs[place];
+        let job = &self.jobs[place];
         if job.is_written {
             return self.note(voice, &Note::NoJob, out);
         }
-        match self.board.write(job.session(), id, job.outcome()) {
+        let written = self.board.write(job.session(), job.id(), job.outcome());
+        self.board.history();
+        match written {
             Ok(()) => {
-                job.is_written = true;
+                self.jobs[place].is_written = true;
                 self.print_last(&self.no_roll(), out)?;
                 Ok(())
             }
@@ -132,7 +134,8 @@ impl<F: Factory> Scene<F> {
         if !job.is_written {
             return self.note(voice, &Note::NoJob, out);
         }
-        let acked = self.board.ack(job.session(), id);
+        let acked = self.board.ack(job.session(), job.id());
+        self.board.history();
         end_at(&mut self.jobs, &mut self.participants, place);
         match acked {
             Ok(()) => {
