@@ -1,2 +1,6 @@
 pub mod Reaching
 pub mod Advancing
+pub mod Standing
+pub mod Ending
+pub mod Bags
+pub mod Numbers
