@@ -4,3 +4,5 @@ pub mod Standing
 pub mod Ending
 pub mod Bags
 pub mod Numbers
+pub mod Outs
+pub mod Adopting

@@ -133,9 +133,10 @@ pub(crate) fn adopt<F: Factory>(
         participants.old.items participants.new.items }
 {
     for id in numbers {
-        if let Some(place) = place_of(jobs, instance, *id) {
-            end_at(jobs, participants, place);
-        }
+        let Some(place) = place_of(jobs, instance, *id) else {
+            unreachable!()
+        };
+        end_at(jobs, participants, place);
     }
     participants[instance.0 as usize].adopt(session);
 }
