@@ -1,3 +1,4 @@
 pub mod Reaching
 pub mod Advancing
 pub mod Charging
+pub mod Saying
