@@ -2,3 +2,4 @@ pub mod Reaching
 pub mod Advancing
 pub mod Charging
 pub mod Saying
+pub mod Happening
