@@ -197,11 +197,29 @@ step_full b step weight refused = one (refusal_of b.cluster step) refl refused
         record { none = is; full = no.0; weight = weighs weight (weight_at b) no.1 }
     one (Some f) is e = cc
 
-pub step_made : (s : SceneState) (v : Voice) (step : Admin) (a : Answers) → step_refusal s.board step ≡ None
+step_made : (s : SceneState) (v : Voice) (step : Admin) (a : Answers) → step_refusal s.board step ≡ None
     → do_step v step (at s a) ≡ make (events.Admin step (did_of s.board.cluster step)) (at s a)
 step_made s v step a free =
     let f = step_free s.board step free in
     ap (λ (o : Option StepFault). stepped v step o (at s a)) f.none ∙ made_here (events.Admin step (did_of s.board.cluster step)) (at s a) f.room
+
+same_roll : {roll : Roll} (s : SceneState) (e : Event) → roll ≡ roll_of s.board.cluster → event_text s.spec roll e ≡ entry_text s.spec s.board.cluster e
+same_roll s e is = ap (λ r. event_text s.spec r e) is
+
+pub step_printed : {T E : Type 0} {roll : Roll} (v : Voice) (step : Admin) (s : SceneState) (b : Held) (p q : List ℕ) (t : T) → step_refusal s.board step ≡ None
+    → b ≡ on_board s.board (events.Admin step (did_of s.board.cluster step)) → roll ≡ roll_of s.board.cluster
+    → ((h : List Event) (d : Event) → b.history ≡ h ++ d ∷ [] → Prints {E = E} (event_text s.spec roll d) p (Ok t) q) → Ends (λ x. do_step v step x) s p tt (record s { board = b }) q
+step_printed {T} {E} {roll} v step s b p q t free made is printed =
+    let e = events.Admin step (did_of s.board.cluster step) in
+    printed_event (λ x. do_step v step x) e s b roll p q t (λ a. step_made s v step a free) made (same_roll s e is) printed
+
+pub step_front : {R T E : Type 0} {roll : Roll} (v : Voice) (step : Admin) (s : SceneState) (b : Held) (p q : List ℕ) (fault : E) (result : Result R RoomFault) → step_refusal s.board step ≡ None
+    → b ≡ on_board s.board (events.Admin step (did_of s.board.cluster step)) → roll ≡ roll_of s.board.cluster
+    → ((h : List Event) (d : Event) → b.history ≡ h ++ d ∷ [] → Prints {T = T} (event_text s.spec roll d) p (Err fault) q) → IsErrAnd result (λ x. x ≡ rooms.OutOfMemory)
+    → DoesDeed (λ x. do_step v step x) s p (record s { board = b }) q result
+step_front {R} {T} {E} {roll} v step s b p q fault result free made is printed failed =
+    let e = events.Admin step (did_of s.board.cluster step) in
+    printed_front (λ x. do_step v step x) e s b roll p q fault result (λ a. step_made s v step a free) made (same_roll s e is) printed failed
 
 pub scene_of_step : {s : SceneState} (b : Held) (v : Voice) (step : Admin) → IsScene s → HasHistory b → is_in_range s.board.cluster step ≡ true → step_refusal s.board step ≡ None
     → b ≡ on_board s.board (events.Admin step (did_of s.board.cluster step)) → IsScene (record s { board = b })
