@@ -3,3 +3,4 @@ pub mod Doing
 pub mod Kept
 pub mod Telling
 pub mod Advances
+pub mod Ending

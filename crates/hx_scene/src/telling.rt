@@ -139,11 +139,7 @@ impl<F: Factory> Scene<F> {
     }
 
     /// Says that a pass settled.
-    pub fn say_settled(
-        &mut self,
-        controller: ControllerId,
-        out: &mut Page,
-    ) -> Result<(), RoomFault>
+    pub fn say_settled(&mut self, controller: ControllerId, out: &mut Page) -> Result<(), RoomFault>
         ensures { DoesDeed (λ x. say 1 (settled_text controller) x)
             self.old out.old self.new out.new result }
     {
@@ -240,11 +236,7 @@ impl<F: Factory> Scene<F> {
     }
 
     /// Says what happened so far, in numbers.
-    pub fn say_summary(
-        &mut self,
-        summary: &Summary,
-        out: &mut Page,
-    ) -> Result<(), RoomFault>
+    pub fn say_summary(&mut self, summary: &Summary, out: &mut Page) -> Result<(), RoomFault>
         ensures { DoesDeed (λ x. say 1 (text_of summary.now) x)
             self.old out.old self.new out.new result }
     {
