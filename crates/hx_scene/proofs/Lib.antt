@@ -1,5 +1,8 @@
 pub mod Reaching
 pub mod Advancing
+pub mod Charging
+pub mod Saying
+pub mod Happening
 pub mod Standing
 pub mod Ending
 pub mod Bags
