@@ -64,12 +64,12 @@ stands_there spec x of in_step = record { scripted = record { of = of; line = re
 abbrev pub IsOutOf : List Participant → Job → Type 0
 IsOutOf ws j = (slot_of (of_instance ws j.instance) j.message.part).work ≡ Out j.message (is_some j.handler)
 
-each_get : {X : Type 0} (P : X → Type 0) (xs : List X) (n : ℕ) (x : X) → Each P xs → slice_get xs n ≡ Some x → P x
+pub each_get : {X : Type 0} (P : X → Type 0) (xs : List X) (n : ℕ) (x : X) → Each P xs → slice_get xs n ≡ Some x → P x
 each_get P [] n x e is = cc
 each_get P (y ∷ xs) zero x e is = let same : y ≡ x = grind (arith, is) in subst P same e.0
 each_get P (y ∷ xs) (suc n) x e is = each_get P xs n x e.1 is
 
-each_mid : {X : Type 0} (P : X → Type 0) (before after : List X) (x : X) → Each P (before ++ x ∷ after) → P x
+pub each_mid : {X : Type 0} (P : X → Type 0) (before after : List X) (x : X) → Each P (before ++ x ∷ after) → P x
 each_mid P [] after x e = e.0
 each_mid P (y ∷ before) after x e = each_mid P before after x e.1
 
@@ -94,11 +94,11 @@ one_out {X} p (y ∷ before) after x here only = one (p y) refl (one_out p befor
     one false is more = rw is (ap (λ (ys : List X). y ∷ ys) (more (grind (arith, is, only))))
 
 -- a slot that is out once a job ended is another one, and was out before
-record WasOut (w : Participant) (p q : PartId) : Type 0 where
+pub record WasOut (w : Participant) (p q : PartId) : Type 0 where
   pub other : part_eq p q ≡ false
   pub out : is_out (slot_of w q).work ≡ true
 
-was_out : (w : Participant) (m : Message) (o : Option Outcome) (h : Option ℕ) (q : PartId) → is_out (slot_of (finish w m o h) q).work ≡ true → WasOut w m.part q
+pub was_out : (w : Participant) (m : Message) (o : Option Outcome) (h : Option ℕ) (q : PartId) → is_out (slot_of (finish w m o h) q).work ≡ true → WasOut w m.part q
 was_out w m o h q out = one (part_eq m.part q) refl
   where
     y : Slot
@@ -115,7 +115,7 @@ was_out w m o h q out = one (part_eq m.part q) refl
         let there : slot_of (finish w m o h) q ≡ slot_of w q = slot_in-other w.slots y q (subst (λ (r : PartId). part_eq r q ≡ false) (sym part) e) in
         record { other = e; out = sym (ap (λ (x : Slot). is_out x.work) there) ∙ out }
 
-finished_here : (x : State) (j : Job) (i : InstanceId) → (j.instance.0 == i.0) ≡ true → i.0 < length x.world.participants
+pub finished_here : (x : State) (j : Job) (i : InstanceId) → (j.instance.0 == i.0) ≡ true → i.0 < length x.world.participants
     → participant_of (Jobs.end_job j x).world i ≡ finish (participant_of x.world i) j.message (Some j.outcome) j.handler
 finished_here x j i e lt =
     subst (λ (n : InstanceId). of_instance (slice_set x.world.participants n.0 (finish (of_instance x.world.participants n) j.message (Some j.outcome) j.handler)) i ≡ finish (of_instance x.world.participants i) j.message (Some j.outcome) j.handler)
@@ -283,7 +283,7 @@ module _ (spec : Spec) (valid : IsValid spec) (last : Option ℕ) where
       ∙ one_out (Jobs.is_job j.instance j.message.id) before after j (and-both (j.instance.0 == j.instance.0) (j.message.id.0 == j.message.id.0) (same-self j.instance.0) (same-self j.message.id.0)) only
 
   -- a part that is out has a job
-  job_of_part : (i : InstanceId) (q : PartId) (x : State) → Stands spec last x → is_out (slot_of (participant_of x.world i) q).work ≡ true
+  pub job_of_part : (i : InstanceId) (q : PartId) (x : State) → Stands spec last x → is_out (slot_of (participant_of x.world i) q).work ≡ true
       → list_any (λ j. part_eq j.message.part q) (filter (Jobs.is_job_of i) x.world.jobs) ≡ true
   job_of_part i q x s out = one (slot_of (participant_of x.world i) q).work out ((s.in_step.parts.each i).slots q).work
     where

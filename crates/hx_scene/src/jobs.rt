@@ -13,8 +13,9 @@ use crate::Scene;
 use hx_cluster::Outcome;
 use hx_handler::{Factory, Handler};
 use hx_ids::{InstanceId, MsgId, SessionId};
+use hx_lists::insert_reserved;
 use hx_replicas::{Participant, Ran};
-use std::alloc::AllocError;
+use std::alloc::{AllocError, Global};
 use std::marker::Model;
 
 /// A job that was run on an instance, and whether its outcome was written.
@@ -132,11 +133,32 @@ pub(crate) fn adopt<F: Factory>(
         participants.old.items participants.new.items }
 {
     for id in numbers {
-        if let Some(place) = place_of(jobs, instance, *id) {
-            end_at(jobs, participants, place);
-        }
+        let Some(place) = place_of(jobs, instance, *id) else {
+            unreachable!()
+        };
+        end_at(jobs, participants, place);
     }
     participants[instance.0 as usize].adopt(session);
+}
+
+/// The numbers of an instance's jobs, rising.
+fn numbers_of<H: Handler>(
+    alloc: Global,
+    jobs: &[OpenJob<H>],
+    instance: InstanceId,
+) -> Result<Vec<MsgId>, AllocError>
+    ensures { IfOk result (λ numbers. numbers.items ≡ map (λ j. j.message.id)
+        (sort_by job_before (filter (is_job_of instance) (map plain_job jobs.now)))) }
+{
+    let mut numbers = Vec::with_capacity(alloc, jobs.len())?;
+    for i in (0..jobs.len()).rev() {
+        let job = &jobs[i];
+        if job.instance == instance {
+            let id = job.id();
+            insert_reserved(&mut numbers, id, |other| other.0 < id.0);
+        }
+    }
+    Ok(numbers)
 }
 
 impl<F: Factory> Scene<F> {
@@ -146,13 +168,6 @@ impl<F: Factory> Scene<F> {
             ≡ map (λ j. j.message.id)
             (sort_by job_before (filter (is_job_of instance) (world_of self.now).jobs))) }
     {
-        let mut numbers: Vec<MsgId> = self
-            .jobs
-            .iter()
-            .filter(|job| job.instance == instance)
-            .map(|job| job.id())
-            .collect(self.alloc())?;
-        numbers.sort()?;
-        Ok(numbers)
+        numbers_of(self.alloc(), self.jobs.as_slice(), instance)
     }
 }

@@ -27,6 +27,7 @@ impl<F: Factory> Scene<F> {
             self.old out.old self.new out.new result }
     {
         self.board.next_line()?;
+        self.board.history();
         self.print_last(&self.no_roll(), out)?;
         Ok(())
     }
@@ -39,6 +40,7 @@ impl<F: Factory> Scene<F> {
         let roll = self.roll()?;
         match self.board.admin(step) {
             Ok(_) => {
+                self.board.history();
                 self.print_last(&roll, out)?;
                 Ok(())
             }

@@ -192,7 +192,8 @@ impl<F: Factory> Scene<F> {
             (full_text x.world.spec x.world.cluster.resources (live_shown x.world.cluster) full.now) x)
             self.old out.old self.new out.new result }
     {
-        self.charge(1 + full.holders.len() as u64)?;
+        let holders = full.holders.as_slice();
+        self.charge(1 + holders.len() as u64)?;
         let part = full.candidate.part;
         let name = resource_name(&self.spec, self.board.resources(), part.resource);
         print_full(full, name, shown, &self.spec, out)?;
