@@ -13,3 +13,4 @@ pub mod Handing
 pub mod Taking
 pub mod Taken
 pub mod Written
+pub mod Acked

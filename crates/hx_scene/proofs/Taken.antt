@@ -3,7 +3,7 @@ use Rattle.std.proofs.Common.{◌≡◌, ℕ, ◌+◌, ◌-◌, ◌≤◌, ◌<�
 use Rattle.std.specs.Prelude.{if◌then◌else◌, ◌==◌, is_none, is_some, slice_set, slice_index_or, Result, Ok, Err, IsErrAnd, IfSome, OnOk, OnErr}
 use Rattle.std.specs.List.{All}
 use Rattle.std.specs.Option.{option_map, ForSome}
-use Rattle.std.proofs.lemmas.List.{length-map, map-set, get_or_read, length-set, get_or-set_same}
+use Rattle.std.proofs.lemmas.List.{map-set, get_or_read, length-set, get_or-set_same}
 use Rattle.std.proofs.lemmas.List.Elements.{All-set, All-push, All-weaker, All-get_or}
 use Rattle.std.proofs.Math.Seq.{map-set_same}
 use Rattle.hx_ids.specs.declared.InstanceId.{InstanceId}
@@ -18,8 +18,6 @@ use Rattle.hx_cluster.specs.declared.happenings.Event.{Event}
 use Rattle.hx_cluster.specs.declared.happenings.Event.TheVariants as events
 use Rattle.hx_cluster.specs.declared.happenings.TakeFault.{TakeFault}
 use Rattle.hx_cluster.specs.Events.{can_take}
-use Rattle.hx_cluster.specs.Steps.{has_instance}
-use Rattle.hx_cluster.specs.Valid.{IsValid}
 use Rattle.hx_cluster.specs.Marks.{take_refusal}
 use Rattle.hx_lists.specs.Counts.{count_up, CountsOn}
 use Rattle.hx_handler.specs.Makings.{tried_of}
@@ -37,8 +35,8 @@ use Rattle.hx_replicas.specs.Jobs.{ParticipantState, Held, Job, Ran, Done, RunsW
 use Rattle.hx_replicas.proofs.Outs.{run-listed, out-job}
 use Rattle.hx_scripted.specs.OfHistory.{IsOfItsHistory}
 use Rattle.hx_agreed.specs.InStep.{IsInStep}
-use Rattle.hx_agreed.proofs.Operations.{take_keeps, stands_there, instance_there}
-use Rattle.hx_worlds.specs.World.{Answers, Missing, State, World, told_outcome, participant_of, with_participant}
+use Rattle.hx_agreed.proofs.Operations.{take_keeps}
+use Rattle.hx_worlds.specs.World.{Answers, State, World, told_outcome, participant_of, with_participant}
 use Rattle.hx_worlds.specs.declared.Voice.{Voice}
 use Rattle.hx_worlds.specs.declared.Voice.TheVariants.{Quiet}
 use Rattle.hx_worlds.specs.Runs.{Run, Deed, GoesOn, done, and_then, make, note, happened, items_of}
@@ -49,18 +47,9 @@ use Rattle.hx_scene.specs.Doing.{Asked, Gives, left, IsToldBy, AreTold, IsRunsBe
 use Rattle.hx_scene.specs.Kept.{IsScene, IsListed}
 use Rattle.hx_scene.specs.Taking.{HandsOut, IsStill}
 use Rattle.hx_scene.proofs.Reaching.{told_both, gives_first, gives_rest, left_both, at_happened, event_cut, event_ends, nothing_yet, one_step, does_after, cut_here, kept_going}
+use Rattle.hx_scene.proofs.Standing.{valid_in}
 use Rattle.hx_scene.proofs.Handing.{runs_more, below_more, below_handed, below_still, runs_ready, all_put}
 use Rattle.hx_scene.proofs.Taking.{participant_at, list_at, asked_if, making, running, making_for, running_for, with_staff, with_open, opened, world_with, take_at, ran_at}
-
--- what a scene has between operations
-pub valid_scene : (s : SceneState) → IsScene s → IsValid s.spec
-valid_scene s is = subst IsValid is.own is.history.valid
-
-pub staff_there : (s : SceneState) → IsScene s → (i : InstanceId) → has_instance s.board.cluster i ≡ true → i.0 < length s.staff
-staff_there s is i here =
-    let there : i.0 < length (map (λ (p : ParticipantState). p.plain) s.staff) =
-    instance_there s.spec (valid_scene s is) s.board.cluster.line i (at s Missing) (stands_there s.spec (at s Missing) is.of_history is.in_step) here in
-    subst (λ (n : ℕ). i.0 < n) (length-map s.staff (λ (p : ParticipantState). p.plain)) there
 
 -- for want of memory
 pub wants_memory : {A R : Type 0} (f : State → Run A) (answer : R → A) (s : SceneState) (p : List ℕ) (u : SceneState) (q : List ℕ) (result : Result R RoomFault)
@@ -252,7 +241,7 @@ module _ {s : SceneState} {i : InstanceId} {id : MsgId} {b : ParticipantState} {
   take_scene r k free history =
       let e : Event = events.Take job.message.session job.message.id in
       let text = entry_text s.spec s.board.cluster e in
-      let kept = kept_going {spec = s.spec} (take_ends Quiet r k free [] text refl) h.scene.of_history h.scene.in_step (λ a st. take_keeps s.spec (valid_scene s h.scene) s.board.cluster.line Quiet i id (at s a) st) in
+      let kept = kept_going {spec = s.spec} (take_ends Quiet r k free [] text refl) h.scene.of_history h.scene.in_step (λ a st. take_keeps s.spec (valid_in s h.scene) s.board.cluster.line Quiet i id (at s a) st) in
       record {
         own = h.scene.own;
         history = history;
@@ -317,7 +306,7 @@ module _ {s : SceneState} {i : InstanceId} {id : MsgId} {b : ParticipantState} {
 
   pub back_is : (c : ParticipantState) (fault : TakeFault) → IsPutBack b c job → take_refusal s.board.cluster job.message.session job.message.id ≡ Some fault → IsScene (back_scene s i b c)
   back_is c fault k full =
-      let kept = kept_going {spec = s.spec} (back_reaches Quiet c fault k full []) h.scene.of_history h.scene.in_step (λ a st. take_keeps s.spec (valid_scene s h.scene) s.board.cluster.line Quiet i id (at s a) st) in
+      let kept = kept_going {spec = s.spec} (back_reaches Quiet c fault k full []) h.scene.of_history h.scene.in_step (λ a st. take_keeps s.spec (valid_in s h.scene) s.board.cluster.line Quiet i id (at s a) st) in
       record {
         own = h.scene.own;
         history = h.scene.history;

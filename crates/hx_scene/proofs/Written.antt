@@ -35,7 +35,7 @@ use Rattle.hx_scene.specs.Scenes.{SceneState, OpenState, plain_job, world_of, at
 use Rattle.hx_scene.specs.Doing.{Asked, Gives, left, IsRunsBelow, IsCounted, Keeps, Reaches, Ends, IsCut}
 use Rattle.hx_scene.specs.Kept.{IsScene, IsListed}
 use Rattle.hx_scene.proofs.Reaching.{at_happened, event_cut, event_ends, one_step, kept_going, keeps_nothing}
-use Rattle.hx_scene.proofs.Taken.{valid_scene}
+use Rattle.hx_scene.proofs.Standing.{valid_in}
 
 -- the only one of a list that passes a test is mapped
 module _ {X : Type 0} (p : X → Bool) (f : X → X) where
@@ -166,7 +166,7 @@ module _ {s : SceneState} {i : InstanceId} {id : MsgId} {n : ℕ} {j : OpenState
   pub write_scene : j.is_written ≡ false → write_refusal s.board.cluster j.ran.message.session j.ran.message.id ≡ None → HasHistory (on_board s.board event) → IsScene (written_scene s n j event)
   write_scene unwritten free history =
       let kept = kept_going {spec = s.spec} (write_ends Quiet unwritten free [] (entry_text s.spec s.board.cluster event) refl) h.scene.of_history h.scene.in_step
-      (λ a st. write_keeps s.spec (valid_scene s h.scene) s.board.cluster.line Quiet i id (at s a) st) in
+      (λ a st. write_keeps s.spec (valid_in s h.scene) s.board.cluster.line Quiet i id (at s a) st) in
       record {
         own = h.scene.own;
         history = history;

@@ -1,5 +1,4 @@
 use Rattle.hx_scene.proofs.Handing.{all_handing}
-use Rattle.hx_scene.proofs.Written.{write_none}
 use Rattle.hx_scene.proofs.runs.hand_out.Goals as goal
 
 pub returns-clause-some : goal.returns-clause-some

@@ -14,6 +14,7 @@ use Rattle.hx_scene.specs.Kept.{IsScene}
 use Rattle.hx_scene.specs.Taking.{IsStill}
 use Rattle.hx_scene.specs.Doing.{DoesDeed, Does, Reaches, Ends, IsCut}
 use Rattle.hx_scene.proofs.Reaching.{cut_here, does_after}
+use Rattle.hx_scene.proofs.Standing.{has_staff}
 use Rattle.hx_scene.proofs.Taken
 use Rattle.hx_scene.proofs.scene.Scene.take.Goals as goal
 
@@ -32,13 +33,13 @@ returns-in_err-reserve g c =
 pub index_mut-requires : goal.index_mut-requires
 index_mut-requires g c =
     let s : SceneState = record { spec = c.self.inside.spec; board = c.self.inside.board; controllers = c.self.inside.controllers.items; staff = c.self.inside.participants.items; jobs = c.self.inside.jobs.items; bag = c.self.inside.bag.items; handed = c.self.inside.handed } in
-    let lt = Taken.staff_there s c.self.invariant.0 c.args.instance (subst (λ (z : SceneState). has_instance z.board.cluster c.args.instance ≡ true) (sym c.self.view_is) c.requires) in
+    let lt = has_staff s c.self.invariant.0 c.args.instance (subst (λ (z : SceneState). has_instance z.board.cluster c.args.instance ≡ true) (sym c.self.view_is) c.requires) in
     omega (arith, lt, c.self.inside.participants.ok.0)
 
 pub invariant_of-self-in_err-job : goal.invariant_of-self-in_err-job
 invariant_of-self-in_err-job g c =
     let s : SceneState = record { spec = c.self.inside.spec; board = c.self.inside.board; controllers = c.self.inside.controllers.items; staff = c.self.inside.participants.items; jobs = c.self.inside.jobs.items; bag = c.self.inside.bag.items; handed = c.self.inside.handed } in
-    let lt = Taken.staff_there s c.self.invariant.0 c.args.instance (subst (λ (z : SceneState). has_instance z.board.cluster c.args.instance ≡ true) (sym c.self.view_is) c.requires) in
+    let lt = has_staff s c.self.invariant.0 c.args.instance (subst (λ (z : SceneState). has_instance z.board.cluster c.args.instance ≡ true) (sym c.self.view_is) c.requires) in
     let still = Taken.still_of s c.args.instance c.index_mut.result.now c.hand_out.new.participant lt c.index_mut.ensures.value c.in_err-job.ensures.err in
     (subst (λ (js : List OpenState). IsScene (record s { staff = slice_set s.staff c.args.instance.0 c.hand_out.new.participant; jobs = js })) (sym c.reserve.ensures.items)
     (Taken.still_scene c.self.invariant.0 lt still), c.self.invariant.1)
@@ -46,7 +47,7 @@ invariant_of-self-in_err-job g c =
 pub returns-in_err-job : goal.returns-in_err-job
 returns-in_err-job g c =
     let s : SceneState = record { spec = c.self.inside.spec; board = c.self.inside.board; controllers = c.self.inside.controllers.items; staff = c.self.inside.participants.items; jobs = c.self.inside.jobs.items; bag = c.self.inside.bag.items; handed = c.self.inside.handed } in
-    let lt = Taken.staff_there s c.self.invariant.0 c.args.instance (subst (λ (z : SceneState). has_instance z.board.cluster c.args.instance ≡ true) (sym c.self.view_is) c.requires) in
+    let lt = has_staff s c.self.invariant.0 c.args.instance (subst (λ (z : SceneState). has_instance z.board.cluster c.args.instance ≡ true) (sym c.self.view_is) c.requires) in
     let still = Taken.still_of s c.args.instance c.index_mut.result.now c.hand_out.new.participant lt c.index_mut.ensures.value c.in_err-job.ensures.err in
     rw (← c.self.view_is)
     (Taken.wants_memory (λ x. do_take c.args.voice c.args.instance c.args.id x) _ s c.args.out.now (record s { staff = slice_set s.staff c.args.instance.0 c.hand_out.new.participant; jobs = c.reserve.new.self.items })
@@ -57,7 +58,7 @@ returns-in_err-job g c =
 pub invariant_of-self-in_default : goal.invariant_of-self-in_default
 invariant_of-self-in_default g c =
     let s : SceneState = record { spec = c.self.inside.spec; board = c.self.inside.board; controllers = c.self.inside.controllers.items; staff = c.self.inside.participants.items; jobs = c.self.inside.jobs.items; bag = c.self.inside.bag.items; handed = c.self.inside.handed } in
-    let lt = Taken.staff_there s c.self.invariant.0 c.args.instance (subst (λ (z : SceneState). has_instance z.board.cluster c.args.instance ≡ true) (sym c.self.view_is) c.requires) in
+    let lt = has_staff s c.self.invariant.0 c.args.instance (subst (λ (z : SceneState). has_instance z.board.cluster c.args.instance ≡ true) (sym c.self.view_is) c.requires) in
     let still = Taken.still_of s c.args.instance c.index_mut.result.now c.hand_out.new.participant lt c.index_mut.ensures.value (subst (λ o. IfNone o (IsStill c.index_mut.result.now c.hand_out.new.participant)) c.in_default.is c.in_ok-job.ensures.none) in
     (subst (λ (js : List OpenState). IsScene (record s { staff = slice_set s.staff c.args.instance.0 c.hand_out.new.participant; jobs = js })) (sym c.reserve.ensures.items)
     (Taken.still_scene c.self.invariant.0 lt still), c.self.invariant.1)
@@ -65,7 +66,7 @@ invariant_of-self-in_default g c =
 pub returns-in_default : goal.returns-in_default
 returns-in_default g c =
     let s : SceneState = record { spec = c.self.inside.spec; board = c.self.inside.board; controllers = c.self.inside.controllers.items; staff = c.self.inside.participants.items; jobs = c.self.inside.jobs.items; bag = c.self.inside.bag.items; handed = c.self.inside.handed } in
-    let lt = Taken.staff_there s c.self.invariant.0 c.args.instance (subst (λ (z : SceneState). has_instance z.board.cluster c.args.instance ≡ true) (sym c.self.view_is) c.requires) in
+    let lt = has_staff s c.self.invariant.0 c.args.instance (subst (λ (z : SceneState). has_instance z.board.cluster c.args.instance ≡ true) (sym c.self.view_is) c.requires) in
     let still = Taken.still_of s c.args.instance c.index_mut.result.now c.hand_out.new.participant lt c.index_mut.ensures.value (subst (λ o. IfNone o (IsStill c.index_mut.result.now c.hand_out.new.participant)) c.in_default.is c.in_ok-job.ensures.none) in
     let none = Taken.none_of s c.args.instance c.args.id c.index_mut.result.now c.in_ok-job.field-0 lt c.index_mut.ensures.value c.in_ok-job.ensures.asked c.in_default.is in
     rw (← c.self.view_is)
@@ -75,7 +76,7 @@ returns-in_default g c =
 pub invariant_of-self-in-Ok : goal.invariant_of-self-in-Ok
 invariant_of-self-in-Ok g c =
     let s : SceneState = record { spec = c.self.inside.spec; board = c.self.inside.board; controllers = c.self.inside.controllers.items; staff = c.self.inside.participants.items; jobs = c.self.inside.jobs.items; bag = c.self.inside.bag.items; handed = c.self.inside.handed } in
-    let lt = Taken.staff_there s c.self.invariant.0 c.args.instance (subst (λ (z : SceneState). has_instance z.board.cluster c.args.instance ≡ true) (sym c.self.view_is) c.requires) in
+    let lt = has_staff s c.self.invariant.0 c.args.instance (subst (λ (z : SceneState). has_instance z.board.cluster c.args.instance ≡ true) (sym c.self.view_is) c.requires) in
     let h = Taken.handed_of s c.args.instance c.args.id c.index_mut.result.now c.hand_out.new.participant c.in_ok-job.field-0 c.in-Some.job c.self.invariant.0 lt c.index_mut.ensures.value c.in_ok-job.ensures.asked c.in_ok-job.ensures.some c.in-Some.is c.if-self-ge-MOST_HANDED.false in
     let m : c.message-message.result.now ≡ c.in-Some.job.message = c.message-message.ensures in
     let free = subst (λ (z : Message). take_refusal s.board.cluster z.session z.id ≡ None) m c.in-Ok.ensures.refused in
@@ -87,7 +88,7 @@ invariant_of-self-in-Ok g c =
 pub returns-in_err-print_last-in-Ok : goal.returns-in_err-print_last-in-Ok
 returns-in_err-print_last-in-Ok g c =
     let s : SceneState = record { spec = c.self.inside.spec; board = c.self.inside.board; controllers = c.self.inside.controllers.items; staff = c.self.inside.participants.items; jobs = c.self.inside.jobs.items; bag = c.self.inside.bag.items; handed = c.self.inside.handed } in
-    let lt = Taken.staff_there s c.self.invariant.0 c.args.instance (subst (λ (z : SceneState). has_instance z.board.cluster c.args.instance ≡ true) (sym c.self.view_is) c.requires) in
+    let lt = has_staff s c.self.invariant.0 c.args.instance (subst (λ (z : SceneState). has_instance z.board.cluster c.args.instance ≡ true) (sym c.self.view_is) c.requires) in
     let h = Taken.handed_of s c.args.instance c.args.id c.index_mut.result.now c.hand_out.new.participant c.in_ok-job.field-0 c.in-Some.job c.self.invariant.0 lt c.index_mut.ensures.value c.in_ok-job.ensures.asked c.in_ok-job.ensures.some c.in-Some.is c.if-self-ge-MOST_HANDED.false in
     let m : c.message-message.result.now ≡ c.in-Some.job.message = c.message-message.ensures in
     let free = subst (λ (z : Message). take_refusal s.board.cluster z.session z.id ≡ None) m c.in-Ok.ensures.refused in
@@ -105,27 +106,27 @@ returns-in_err-print_last-in-Ok g c =
 pub index_mut-requires-in-Err : goal.index_mut-requires-in-Err
 index_mut-requires-in-Err g c =
     let s : SceneState = record { spec = c.self.inside.spec; board = c.self.inside.board; controllers = c.self.inside.controllers.items; staff = c.self.inside.participants.items; jobs = c.self.inside.jobs.items; bag = c.self.inside.bag.items; handed = c.self.inside.handed } in
-    let lt = Taken.staff_there s c.self.invariant.0 c.args.instance (subst (λ (z : SceneState). has_instance z.board.cluster c.args.instance ≡ true) (sym c.self.view_is) c.requires) in
+    let lt = has_staff s c.self.invariant.0 c.args.instance (subst (λ (z : SceneState). has_instance z.board.cluster c.args.instance ≡ true) (sym c.self.view_is) c.requires) in
     omega (arith, lt, c.self.inside.participants.ok.0)
 
 pub finish-requires-clause-out : goal.finish-requires-clause-out
 finish-requires-clause-out g c κs within =
     let s : SceneState = record { spec = c.self.inside.spec; board = c.self.inside.board; controllers = c.self.inside.controllers.items; staff = c.self.inside.participants.items; jobs = c.self.inside.jobs.items; bag = c.self.inside.bag.items; handed = c.self.inside.handed } in
-    let lt = Taken.staff_there s c.self.invariant.0 c.args.instance (subst (λ (z : SceneState). has_instance z.board.cluster c.args.instance ≡ true) (sym c.self.view_is) c.requires) in
+    let lt = has_staff s c.self.invariant.0 c.args.instance (subst (λ (z : SceneState). has_instance z.board.cluster c.args.instance ≡ true) (sym c.self.view_is) c.requires) in
     let h = Taken.handed_of s c.args.instance c.args.id c.index_mut.result.now c.hand_out.new.participant c.in_ok-job.field-0 c.in-Some.job c.self.invariant.0 lt c.index_mut.ensures.value c.in_ok-job.ensures.asked c.in_ok-job.ensures.some c.in-Some.is c.if-self-ge-MOST_HANDED.false in
     Taken.back_out s.staff c.args.instance c.hand_out.new.participant c.index_mut-in-Err.result.now c.in-Some.job c.put_back.result lt c.index_mut-in-Err.ensures.value c.put_back.ensures h.hands
 
 pub finish-requires-clause-listed : goal.finish-requires-clause-listed
 finish-requires-clause-listed g c κs within =
     let s : SceneState = record { spec = c.self.inside.spec; board = c.self.inside.board; controllers = c.self.inside.controllers.items; staff = c.self.inside.participants.items; jobs = c.self.inside.jobs.items; bag = c.self.inside.bag.items; handed = c.self.inside.handed } in
-    let lt = Taken.staff_there s c.self.invariant.0 c.args.instance (subst (λ (z : SceneState). has_instance z.board.cluster c.args.instance ≡ true) (sym c.self.view_is) c.requires) in
+    let lt = has_staff s c.self.invariant.0 c.args.instance (subst (λ (z : SceneState). has_instance z.board.cluster c.args.instance ≡ true) (sym c.self.view_is) c.requires) in
     let h = Taken.handed_of s c.args.instance c.args.id c.index_mut.result.now c.hand_out.new.participant c.in_ok-job.field-0 c.in-Some.job c.self.invariant.0 lt c.index_mut.ensures.value c.in_ok-job.ensures.asked c.in_ok-job.ensures.some c.in-Some.is c.if-self-ge-MOST_HANDED.false in
     Taken.back_listed s.staff c.args.instance c.hand_out.new.participant c.index_mut-in-Err.result.now c.in-Some.job c.put_back.result lt c.index_mut-in-Err.ensures.value c.put_back.ensures h.hands
 
 pub invariant_of-self-in-Err : goal.invariant_of-self-in-Err
 invariant_of-self-in-Err g c =
     let s : SceneState = record { spec = c.self.inside.spec; board = c.self.inside.board; controllers = c.self.inside.controllers.items; staff = c.self.inside.participants.items; jobs = c.self.inside.jobs.items; bag = c.self.inside.bag.items; handed = c.self.inside.handed } in
-    let lt = Taken.staff_there s c.self.invariant.0 c.args.instance (subst (λ (z : SceneState). has_instance z.board.cluster c.args.instance ≡ true) (sym c.self.view_is) c.requires) in
+    let lt = has_staff s c.self.invariant.0 c.args.instance (subst (λ (z : SceneState). has_instance z.board.cluster c.args.instance ≡ true) (sym c.self.view_is) c.requires) in
     let h = Taken.handed_of s c.args.instance c.args.id c.index_mut.result.now c.hand_out.new.participant c.in_ok-job.field-0 c.in-Some.job c.self.invariant.0 lt c.index_mut.ensures.value c.in_ok-job.ensures.asked c.in_ok-job.ensures.some c.in-Some.is c.if-self-ge-MOST_HANDED.false in
     let m : c.message-message.result.now ≡ c.in-Some.job.message = c.message-message.ensures in
     let full = subst (λ (z : Message). take_refusal s.board.cluster z.session z.id ≡ Some c.in-Err.field-0) m c.in-Err.ensures.refused in
@@ -136,7 +137,7 @@ invariant_of-self-in-Err g c =
 pub returns-in_ok-print_last-in-Ok : goal.returns-in_ok-print_last-in-Ok
 returns-in_ok-print_last-in-Ok g c =
     let s : SceneState = record { spec = c.self.inside.spec; board = c.self.inside.board; controllers = c.self.inside.controllers.items; staff = c.self.inside.participants.items; jobs = c.self.inside.jobs.items; bag = c.self.inside.bag.items; handed = c.self.inside.handed } in
-    let lt = Taken.staff_there s c.self.invariant.0 c.args.instance (subst (λ (z : SceneState). has_instance z.board.cluster c.args.instance ≡ true) (sym c.self.view_is) c.requires) in
+    let lt = has_staff s c.self.invariant.0 c.args.instance (subst (λ (z : SceneState). has_instance z.board.cluster c.args.instance ≡ true) (sym c.self.view_is) c.requires) in
     let h = Taken.handed_of s c.args.instance c.args.id c.index_mut.result.now c.hand_out.new.participant c.in_ok-job.field-0 c.in-Some.job c.self.invariant.0 lt c.index_mut.ensures.value c.in_ok-job.ensures.asked c.in_ok-job.ensures.some c.in-Some.is c.if-self-ge-MOST_HANDED.false in
     let m : c.message-message.result.now ≡ c.in-Some.job.message = c.message-message.ensures in
     let free = subst (λ (z : Message). take_refusal s.board.cluster z.session z.id ≡ None) m c.in-Ok.ensures.refused in
@@ -151,7 +152,7 @@ returns-in_ok-print_last-in-Ok g c =
 pub returns-in-Err : goal.returns-in-Err
 returns-in-Err g c =
     let s : SceneState = record { spec = c.self.inside.spec; board = c.self.inside.board; controllers = c.self.inside.controllers.items; staff = c.self.inside.participants.items; jobs = c.self.inside.jobs.items; bag = c.self.inside.bag.items; handed = c.self.inside.handed } in
-    let lt = Taken.staff_there s c.self.invariant.0 c.args.instance (subst (λ (z : SceneState). has_instance z.board.cluster c.args.instance ≡ true) (sym c.self.view_is) c.requires) in
+    let lt = has_staff s c.self.invariant.0 c.args.instance (subst (λ (z : SceneState). has_instance z.board.cluster c.args.instance ≡ true) (sym c.self.view_is) c.requires) in
     let h = Taken.handed_of s c.args.instance c.args.id c.index_mut.result.now c.hand_out.new.participant c.in_ok-job.field-0 c.in-Some.job c.self.invariant.0 lt c.index_mut.ensures.value c.in_ok-job.ensures.asked c.in_ok-job.ensures.some c.in-Some.is c.if-self-ge-MOST_HANDED.false in
     let m : c.message-message.result.now ≡ c.in-Some.job.message = c.message-message.ensures in
     let full = subst (λ (z : Message). take_refusal s.board.cluster z.session z.id ≡ Some c.in-Err.field-0) m c.in-Err.ensures.refused in
