@@ -4,6 +4,7 @@ use Rattle.std.specs.Prelude.{if◌then◌else◌, is_none, position, slice_get}
 use Rattle.std.specs.List.{All}
 use Rattle.hx_ids.specs.declared.InstanceId.{InstanceId}
 use Rattle.hx_ids.specs.declared.MsgId.{MsgId}
+use Rattle.hx_ids.specs.declared.SessionId.{SessionId}
 use Rattle.hx_cluster.specs.declared.description.Failure.{Failure}
 use Rattle.hx_cluster.specs.declared.happenings.Event.{Event}
 use Rattle.hx_cluster.specs.declared.happenings.Event.TheVariants as events
@@ -148,3 +149,6 @@ pub ack_none : (s : SceneState) (i : InstanceId) (id : MsgId) (v : Voice) (p : L
     → Reaches (λ x. do_ack v i id x) s p (λ x. note v notes.NoJob x) s p
 ack_none s i id v p none =
     one_step (λ x. do_ack v i id x) (λ x. note v notes.NoJob x) s p s [] (λ a _. ap (λ o. ack_job v o (at s a)) (not_found s i id none)) refl refl (keeps_nothing s)
+
+pub event_is : (j : OpenState) (s : SessionId) (id : MsgId) → s ≡ j.ran.message.session → id ≡ j.ran.message.id → events.Ack s id ≡ events.Ack j.ran.message.session j.ran.message.id
+event_is j s id session number = ap (λ (z : SessionId). events.Ack z id) session ∙ ap (λ (z : MsgId). events.Ack j.ran.message.session z) number

@@ -9,7 +9,9 @@ use Rattle.std.proofs.lemmas.Option.{slice_get_read, slice_get-map}
 use Rattle.hx_lists.specs.Lists.{count}
 use Rattle.hx_ids.specs.declared.InstanceId.{InstanceId}
 use Rattle.hx_ids.specs.declared.MsgId.{MsgId}
+use Rattle.hx_ids.specs.declared.SessionId.{SessionId}
 use Rattle.hx_cluster.specs.declared.description.Failure.{Failure}
+use Rattle.hx_cluster.specs.declared.happenings.Outcome.{Outcome}
 use Rattle.hx_cluster.specs.declared.happenings.Event.{Event}
 use Rattle.hx_cluster.specs.declared.happenings.Event.TheVariants as events
 use Rattle.hx_cluster.specs.declared.happenings.WriteRefusal.{WriteRefusal}
@@ -18,7 +20,7 @@ use Rattle.hx_cluster.specs.Marks.{write_refusal}
 use Rattle.hx_print.specs.Texts.{entry_text}
 use Rattle.hx_print.specs.declared.Note.TheVariants as notes
 use Rattle.hx_text.specs.Texts.{PutsFront}
-use Rattle.hx_board.specs.Board.{HasHistory, happened as on_board}
+use Rattle.hx_board.specs.Board.{Held, HasHistory, happened as on_board}
 use Rattle.hx_replicas.proofs.Searching.{find-map, found-in, found-first, found-passes, found-none}
 use Rattle.hx_safe.proofs.Ends.{same-self}
 use Rattle.hx_safe.proofs.Counting.{and-both}
@@ -187,3 +189,24 @@ pub write_none : (s : SceneState) (i : InstanceId) (id : MsgId) (v : Voice) (p :
     → Reaches (λ x. do_write v i id x) s p (λ x. note v notes.NoJob x) s p
 write_none s i id v p none =
     one_step (λ x. do_write v i id x) (λ x. note v notes.NoJob x) s p s [] (λ a _. ap (λ o. write_job v o (at s a)) (not_found s i id none)) refl refl (keeps_nothing s)
+
+-- by what the calls told
+pub place_is : (jobs : List OpenState) (i : InstanceId) (id : MsgId) (js : List OpenState) (o r : Option ℕ) → js ≡ jobs → r ≡ position (λ k. is_job i id (plain_job k)) js → r ≡ o
+    → position (λ k. is_job i id (plain_job k)) jobs ≡ o
+place_is jobs i id js o r same at_r is = ap (λ ks. position (λ k. is_job i id (plain_job k)) ks) (sym same) ∙ sym at_r ∙ is
+
+pub event_is : (j : OpenState) (s : SessionId) (id : MsgId) (o : Outcome) → s ≡ j.ran.message.session → id ≡ j.ran.message.id → o ≡ j.ran.outcome
+    → events.Write s id o ≡ events.Write j.ran.message.session j.ran.message.id j.ran.outcome
+event_is j s id o session number outcome =
+    ap (λ (z : SessionId). events.Write z id o) session ∙ ap (λ (z : MsgId). events.Write j.ran.message.session z o) number
+    ∙ ap (λ (z : Outcome). events.Write j.ran.message.session j.ran.message.id z) outcome
+
+pub refusal_is : {R : Type 0} (refusal : SessionId → MsgId → R) (j : OpenState) (s : SessionId) (id : MsgId) (r : R) → s ≡ j.ran.message.session → id ≡ j.ran.message.id → refusal s id ≡ r
+    → refusal j.ran.message.session j.ran.message.id ≡ r
+refusal_is refusal j s id r session number is = ap (λ (z : MsgId). refusal j.ran.message.session z) (sym number) ∙ ap (λ (z : SessionId). refusal z id) (sym session) ∙ is
+
+pub written_is : (s : SceneState) (n : ℕ) (j k l : OpenState) (board : Held) (e : Event) → n < length s.jobs → j ≡ slice_index_or s.jobs n j → l ≡ slice_index_or s.jobs n l → k ≡ l → board ≡ on_board s.board e
+    → record s { board = board; jobs = slice_set s.jobs n (record k { is_written = true }) } ≡ written_scene s n j e
+written_is s n j k l board e lt here there same is =
+    ap (λ (z : Held). record s { board = z; jobs = slice_set s.jobs n (record k { is_written = true }) }) is
+    ∙ ap (λ (z : OpenState). record s { board = on_board s.board e; jobs = slice_set s.jobs n (record z { is_written = true }) }) (same ∙ get_or_read s.jobs n l lt there j ∙ sym here)
