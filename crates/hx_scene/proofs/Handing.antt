@@ -1,20 +1,19 @@
 -- What a participant does that hands out a message stays within bounds.
-use Rattle.std.proofs.Common.{◌≡◌, ℕ, ◌+◌, ◌≤◌, ◌<◌, Bool, true, false, List, [], ◌∷◌, Option, None, Some, refl, sym, ap, subst, ◌∙◌, arith}
-use Rattle.std.specs.Prelude.{if◌then◌else◌, is_none, is_some, ⊤, Result, Ok, Err, IfOk, IfSome, OnErr, min}
+use Rattle.std.proofs.Common.{◌≡◌, ℕ, ◌+◌, ◌≤◌, Bool, true, false, List, [], ◌∷◌, Option, None, Some, refl, sym, ap, subst, ◌∙◌, arith}
+use Rattle.std.specs.Prelude.{if◌then◌else◌, is_none, is_some, Result, Ok, Err, IfOk, IfSome}
 use Rattle.std.specs.List.{All, sum_by}
 use Rattle.std.proofs.lemmas.List.Sums.{sum_by-cons}
-use Rattle.std.proofs.lemmas.List.Elements.{All-nil, All-cons, All-head, All-tail, All-weaker}
+use Rattle.std.proofs.lemmas.List.Elements.{All-cons, All-head, All-tail, All-weaker}
 use Rattle.hx_ids.specs.declared.PartId.{PartId}
 use Rattle.hx_cluster.specs.declared.state.Message.{Message}
 use Rattle.hx_cluster.specs.Ends.{part_eq}
 use Rattle.hx_lists.specs.Counts.{count_up}
 use Rattle.hx_handler.specs.Makings.{tried_of, tried_up}
-use Rattle.hx_replicas.specs.declared.slots.Work.TheVariants.{Out}
-use Rattle.hx_replicas.specs.Participants.{Participant, Slot, slot_in, slot_of, put_slot, makes, made_ready, emptied_for, hand_out, finish, brought, end_of}
-use Rattle.hx_replicas.specs.Ledger.{in_place, held_in, held_by, IsBalanced}
+use Rattle.hx_replicas.specs.Participants.{Participant, Slot, slot_in, slot_of, put_slot, makes, made_ready, emptied_for, hand_out}
+use Rattle.hx_replicas.specs.Ledger.{held_in, held_by, IsBalanced}
 use Rattle.hx_replicas.specs.Jobs.{ParticipantState, Job, KeepsRest, IsHanded}
 use Rattle.hx_replicas.proofs.Parts.{part_same}
-use Rattle.hx_replicas.proofs.Putting.{part-slot_in, put-step, find-step, slots-hand_out}
+use Rattle.hx_replicas.proofs.Putting.{put-step, find-step, slots-hand_out}
 use Rattle.hx_scene.specs.Doing.{IsRunsBelow, IsBelow}
 use Rattle.hx_scene.specs.Taking.{HandsOut, IsStill}
 

@@ -1,14 +1,13 @@
 -- What a taking of a message comes to in a scene, and that it keeps it.
-use Rattle.std.proofs.Common.{◌≡◌, ℕ, ◌+◌, ◌-◌, ◌≤◌, ◌<◌, ◌^◌, not, Bool, true, false, List, [], ◌∷◌, ◌++◌, map, length, Option, None, Some, refl, sym, ap, subst, ◌∙◌, arith}
+use Rattle.std.proofs.Common.{◌≡◌, ℕ, ◌+◌, ◌≤◌, ◌<◌, ◌^◌, not, Bool, true, false, List, [], ◌∷◌, ◌++◌, map, length, Option, None, Some, refl, sym, ap, subst, ◌∙◌, arith}
 use Rattle.std.specs.Prelude.{if◌then◌else◌, ◌==◌, is_none, is_some, slice_set, slice_index_or, Result, Ok, Err, IsErrAnd, IfSome, OnOk, OnErr}
 use Rattle.std.specs.List.{All}
 use Rattle.std.specs.Option.{option_map, ForSome}
-use Rattle.std.proofs.lemmas.List.{map-set, get_or_read, length-set, get_or-set_same}
+use Rattle.std.proofs.lemmas.List.{get_or_read, length-set, get_or-set_same}
 use Rattle.std.proofs.lemmas.List.Elements.{All-set, All-push, All-weaker, All-get_or}
 use Rattle.std.proofs.Math.Seq.{map-set_same}
 use Rattle.hx_ids.specs.declared.InstanceId.{InstanceId}
 use Rattle.hx_ids.specs.declared.MsgId.{MsgId}
-use Rattle.hx_ids.specs.declared.StateId.{StateId}
 use Rattle.hx_model.specs.Model.{dropped}
 use Rattle.hx_cluster.specs.declared.description.Failure.{Failure}
 use Rattle.hx_cluster.specs.declared.state.Message.{Message}
@@ -21,7 +20,6 @@ use Rattle.hx_cluster.specs.Events.{can_take}
 use Rattle.hx_cluster.specs.Marks.{take_refusal}
 use Rattle.hx_lists.specs.Counts.{count_up, CountsOn}
 use Rattle.hx_handler.specs.Makings.{tried_of}
-use Rattle.hx_handler.specs.Failures.{has_failure}
 use Rattle.hx_handler.specs.Told.{IsTold}
 use Rattle.hx_print.specs.Texts.{entry_text}
 use Rattle.hx_print.specs.declared.Note.TheVariants as notes
@@ -29,24 +27,24 @@ use Rattle.hx_text.specs.Texts.{PutsFront, Prints}
 use Rattle.hx_board.specs.Board.{Held as Board, HasHistory, happened as on_board}
 use Rattle.hx_board.specs.declared.faults.RoomFault.{RoomFault}
 use Rattle.hx_board.specs.declared.faults.RoomFault.TheVariants as rooms
-use Rattle.hx_replicas.specs.Participants.{Participant, Slot, slot_of, accepted_by, makes, made_ready, finish, brought, end_of, leaves_error}
+use Rattle.hx_replicas.specs.Participants.{Participant, Slot, slot_of, accepted_by, makes, finish, brought, end_of, leaves_error}
 use Rattle.hx_replicas.specs.declared.slots.Work.TheVariants.{Out}
 use Rattle.hx_replicas.specs.Jobs.{ParticipantState, Held, Job, Ran, Done, RunsWith, runs_of, is_failed}
 use Rattle.hx_replicas.proofs.Outs.{run-listed, out-job}
 use Rattle.hx_scripted.specs.OfHistory.{IsOfItsHistory}
 use Rattle.hx_agreed.specs.InStep.{IsInStep}
 use Rattle.hx_agreed.proofs.Operations.{take_keeps}
-use Rattle.hx_worlds.specs.World.{Answers, State, World, told_outcome, participant_of, with_participant}
+use Rattle.hx_worlds.specs.World.{Answers, State, told_outcome, participant_of, with_participant}
 use Rattle.hx_worlds.specs.declared.Voice.{Voice}
 use Rattle.hx_worlds.specs.declared.Voice.TheVariants.{Quiet}
 use Rattle.hx_worlds.specs.Runs.{Run, Deed, GoesOn, done, and_then, make, note, happened, items_of}
-use Rattle.hx_worlds.specs.Items.{Item, Happens}
-use Rattle.hx_worlds.specs.Jobs.{do_take, take_accepted, take_job, put_back, ran}
+use Rattle.hx_worlds.specs.Items.{Happens}
+use Rattle.hx_worlds.specs.Jobs.{do_take, take_accepted, put_back, ran}
 use Rattle.hx_scene.specs.Scenes.{SceneState, OpenState, plain_job, world_of, at, staff_of, new_staff, lists_of}
-use Rattle.hx_scene.specs.Doing.{Asked, Gives, left, IsToldBy, AreTold, IsRunsBelow, IsBelow, IsCounted, Keeps, Reaches, Ends, IsCut, Does, DoesDeed}
+use Rattle.hx_scene.specs.Doing.{Asked, Gives, left, IsToldBy, AreTold, IsRunsBelow, IsBelow, IsCounted, Keeps, Reaches, Ends, IsCut, Does}
 use Rattle.hx_scene.specs.Kept.{IsScene, IsListed}
 use Rattle.hx_scene.specs.Taking.{HandsOut, IsStill}
-use Rattle.hx_scene.proofs.Reaching.{told_both, gives_first, gives_rest, left_both, at_happened, event_cut, event_ends, nothing_yet, one_step, does_after, cut_here, kept_going}
+use Rattle.hx_scene.proofs.Reaching.{told_both, gives_first, gives_rest, left_both, at_happened, event_cut, event_ends, nothing_yet, one_step, kept_going}
 use Rattle.hx_scene.proofs.Standing.{valid_in}
 use Rattle.hx_scene.proofs.Handing.{runs_more, below_more, below_handed, below_still, runs_ready, all_put}
 use Rattle.hx_scene.proofs.Taking.{participant_at, list_at, asked_if, making, running, making_for, running_for, with_staff, with_open, opened, world_with, take_at, ran_at}

@@ -1,42 +1,25 @@
 -- How a message is handed out, taken and run in a scene, or put back.
-use Rattle.std.proofs.Common.{◌≡◌, ℕ, ◌+◌, ◌≤◌, ◌<◌, ◌^◌, ◌&&◌, not, Bool, true, false, List, [], ◌∷◌, ◌++◌, map, length, Option, None, Some, refl, sym, ap, subst, ◌∙◌, arith}
-use Rattle.std.specs.Prelude.{if◌then◌else◌, is_none, is_some, slice_set, slice_index_or, Result, Ok, Err}
-use Rattle.std.specs.List.{All}
-use Rattle.std.specs.Option.{option_map, ForSome}
+use Rattle.std.proofs.Common.{◌≡◌, ℕ, ◌+◌, ◌<◌, not, Bool, true, false, List, [], ◌∷◌, ◌++◌, map, length, Option, None, Some, refl, sym, ap, ◌∙◌}
+use Rattle.std.specs.Prelude.{if◌then◌else◌, is_none, slice_set, slice_index_or}
 use Rattle.std.proofs.lemmas.List.{get_or-map, map-set, map-append}
-use Rattle.std.proofs.lemmas.List.Elements.{All-set, All-push, All-weaker, All-get_or}
 use Rattle.hx_ids.specs.declared.InstanceId.{InstanceId}
 use Rattle.hx_ids.specs.declared.MsgId.{MsgId}
-use Rattle.hx_ids.specs.declared.PartId.{PartId}
-use Rattle.hx_cluster.specs.declared.description.Failure.{Failure}
 use Rattle.hx_cluster.specs.declared.state.Message.{Message}
 use Rattle.hx_cluster.specs.declared.happenings.Outcome.{Outcome}
 use Rattle.hx_cluster.specs.declared.happenings.Outcome.TheVariants as outcomes
-use Rattle.hx_cluster.specs.declared.happenings.Event.{Event}
-use Rattle.hx_cluster.specs.declared.happenings.Event.TheVariants as events
-use Rattle.hx_cluster.specs.Events.{can_take}
-use Rattle.hx_cluster.specs.Marks.{take_refusal}
 use Rattle.hx_lists.specs.Counts.{count_up}
 use Rattle.hx_handler.specs.Makings.{tried_of}
-use Rattle.hx_handler.specs.Failures.{has_failure}
-use Rattle.hx_handler.specs.Told.{IsTold}
-use Rattle.hx_print.specs.declared.Note.TheVariants as notes
-use Rattle.hx_replicas.specs.Participants.{Participant, Slot, slot_of, put_slot, accepted_by, makes, made_ready, given, hand_out, finish, leaves_error, new_participant}
+use Rattle.hx_replicas.specs.Participants.{Participant, Slot, slot_of, put_slot, accepted_by, makes, made_ready, given, hand_out, leaves_error, new_participant}
 use Rattle.hx_replicas.specs.Jobs.{ParticipantState, Held, Job, Ran, RunsWith, runs_of, is_failed}
 use Rattle.hx_handler.specs.Makings.{tried_up}
-use Rattle.hx_worlds.specs.World.{Answers, State, World, answer_of, rest_of, told_outcome, answered, participant_of, with_participant}
+use Rattle.hx_worlds.specs.World.{Answers, State, World, answer_of, told_outcome, participant_of, with_participant}
 use Rattle.hx_worlds.specs.World.{Job as PlainJob}
 use Rattle.hx_worlds.specs.declared.Voice.{Voice}
-use Rattle.hx_worlds.specs.Runs.{Run, Deed, GoesOn, done, and_then, make, note, happened}
-use Rattle.hx_worlds.specs.Items.{Item, Happens}
-use Rattle.hx_worlds.specs.Jobs.{do_take, take_accepted, take_handed, take_job, fails_to_make, handed_out, handler_of, if_answered, ran, put_back, handler_after, outcome_of_run, runs_handler, job_run}
+use Rattle.hx_worlds.specs.Jobs.{do_take, take_accepted, take_job, fails_to_make, handed_out, if_answered, ran, handler_after, outcome_of_run, runs_handler, job_run}
 use Rattle.hx_worlds.specs.Jobs.{is_failed as is_failed_outcome}
-use Rattle.hx_board.specs.Board.{Held as Board, happened as on_board}
 use Rattle.hx_scene.specs.Scenes.{SceneState, OpenState, plain_job, world_of, at, staff_of, new_staff, lists_of}
-use Rattle.hx_scene.specs.Doing.{Asked, Gives, left, IsToldBy, AreTold, IsRunsBelow, IsBelow, IsCounted, Keeps}
-use Rattle.hx_scene.specs.Taking.{HandsOut, IsStill}
-use Rattle.hx_scene.proofs.Reaching.{told_both, gives_first, gives_rest, left_both, at_happened}
-use Rattle.hx_scene.proofs.Handing.{runs_more, below_more, below_handed, below_still, runs_ready}
+use Rattle.hx_scene.specs.Doing.{Asked, Gives, left}
+use Rattle.hx_scene.specs.Taking.{HandsOut}
 
 -- the participant of an instance, in a scene and in its world
 pub participant_at : (s : SceneState) (i : InstanceId) → i.0 < length s.staff → participant_of (world_of s) i ≡ (staff_of s i).plain

@@ -1,9 +1,8 @@
-use Rattle.std.proofs.Common.{◌≡◌, ℕ, ◌+◌, ◌<◌, ◌≤◌, ◌^◌, ◌++◌, [], ◌∷◌, List, length, Option, Some, None, refl, sym, ap, subst, ◌∙◌, arith, true}
-use Rattle.std.specs.Prelude.{slice_set, slice_index_or, IfSome, IfNone}
+use Rattle.std.proofs.Common.{◌≡◌, ◌+◌, ◌++◌, [], ◌∷◌, List, Some, None, sym, ap, subst, ◌∙◌, arith, true}
+use Rattle.std.specs.Prelude.{slice_set, IfNone}
 use Rattle.hx_cluster.specs.Steps.{has_instance}
 use Rattle.hx_cluster.specs.Marks.{take_refusal}
 use Rattle.hx_cluster.specs.declared.state.Message.{Message}
-use Rattle.hx_cluster.specs.declared.happenings.Event.{Event}
 use Rattle.hx_cluster.specs.declared.happenings.Event.TheVariants as events
 use Rattle.hx_board.specs.Board.{Held, HasHistory, happened}
 use Rattle.hx_worlds.specs.Jobs.{do_take}
@@ -12,7 +11,7 @@ use Rattle.hx_print.specs.declared.Note.TheVariants as notes
 use Rattle.hx_scene.specs.Scenes.{SceneState, OpenState}
 use Rattle.hx_scene.specs.Kept.{IsScene}
 use Rattle.hx_scene.specs.Taking.{IsStill}
-use Rattle.hx_scene.specs.Doing.{DoesDeed, Does, Reaches, Ends, IsCut}
+use Rattle.hx_scene.specs.Doing.{Reaches, Ends, IsCut}
 use Rattle.hx_scene.proofs.Reaching.{cut_here, does_after}
 use Rattle.hx_scene.proofs.Standing.{has_staff}
 use Rattle.hx_scene.proofs.Taken
