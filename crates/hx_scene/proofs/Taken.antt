@@ -11,6 +11,7 @@ use Rattle.hx_ids.specs.declared.MsgId.{MsgId}
 use Rattle.hx_model.specs.Model.{dropped}
 use Rattle.hx_cluster.specs.declared.description.Failure.{Failure}
 use Rattle.hx_cluster.specs.declared.state.Message.{Message}
+use Rattle.hx_cluster.specs.declared.state.Cluster.{Cluster}
 use Rattle.hx_cluster.specs.declared.happenings.Outcome.{Outcome}
 use Rattle.hx_cluster.specs.declared.happenings.Outcome.TheVariants as outcomes
 use Rattle.hx_cluster.specs.declared.happenings.Event.{Event}
@@ -375,14 +376,18 @@ pub none_of : (s : SceneState) (i : InstanceId) (id : MsgId) (a : ParticipantSta
 none_of s i id a found lt at_i asked is =
     ap (λ (p : ParticipantState). accepted_by p.plain id) (sym (get_or_read s.staff i.0 a lt at_i new_staff)) ∙ sym asked ∙ ap (λ o. option_map (λ j. j.message) o) is
 
-pub scene_is : (s : SceneState) (i : InstanceId) (b : ParticipantState) (board : Board) (jobs : List OpenState) (e : Event) (r : Ran) → board ≡ on_board s.board e → jobs ≡ s.jobs ++ opened i r ∷ []
-    → record s { board = board; staff = slice_set s.staff i.0 b; jobs = jobs; handed = s.handed + 1 } ≡ taken_scene s i b e r
-scene_is s i b board jobs e r is are =
+pub refused_as : (c : Cluster) (m k : Message) (o : Option TakeFault) → m ≡ k → take_refusal c m.session m.id ≡ o → take_refusal c k.session k.id ≡ o
+refused_as c m k o same is = subst (λ (z : Message). take_refusal c z.session z.id ≡ o) same is
+
+pub board_is : (b board : Board) (m k : Message) → m ≡ k → board ≡ on_board b (events.Take m.session m.id) → board ≡ on_board b (events.Take k.session k.id)
+board_is b board m k same is = is ∙ ap (λ (z : Message). on_board b (events.Take z.session z.id)) same
+
+pub scene_is : (s : SceneState) (i : InstanceId) (b : ParticipantState) (board : Board) (jobs reserved : List OpenState) (e : Event) (r : Ran) → board ≡ on_board s.board e → jobs ≡ reserved ++ opened i r ∷ []
+    → reserved ≡ s.jobs → record s { board = board; staff = slice_set s.staff i.0 b; jobs = jobs; handed = s.handed + 1 } ≡ taken_scene s i b e r
+scene_is s i b board jobs reserved e r is pushed same =
+    let are : jobs ≡ s.jobs ++ opened i r ∷ [] = pushed ∙ ap (λ (js : List OpenState). js ++ opened i r ∷ []) same in
     ap (λ (z : Board). record s { board = z; staff = slice_set s.staff i.0 b; jobs = jobs; handed = s.handed + 1 }) is
     ∙ ap (λ js. record s { board = on_board s.board e; staff = slice_set s.staff i.0 b; jobs = js; handed = s.handed + 1 }) are
-
-abbrev pub opened_job : InstanceId → Ran → OpenState
-opened_job i r = opened i r
 
 -- a job that was handed out goes back
 was_put : (staff : List ParticipantState) (i : InstanceId) (b x : ParticipantState) → i.0 < length staff → x ≡ slice_index_or (slice_set staff i.0 b) i.0 x → x ≡ b
