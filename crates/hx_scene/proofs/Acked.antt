@@ -1,5 +1,5 @@
 -- How an open job ends in a scene: acknowledged, or because its session ended.
-use Rattle.std.proofs.Common.{◌≡◌, ℕ, ◌+◌, not, Bool, true, false, List, [], ◌∷◌, ◌++◌, map, take, drop, find, Option, None, Some, refl, sym, ap, subst, ◌∙◌}
+use Rattle.std.proofs.Common.{◌≡◌, ℕ, ◌+◌, not, Bool, true, false, List, [], ◌∷◌, ◌++◌, map, take, drop, Option, None, Some, refl, sym, ap, subst, ◌∙◌}
 use Rattle.std.specs.Prelude.{if◌then◌else◌, is_none, position, slice_get}
 use Rattle.std.specs.List.{All}
 use Rattle.hx_ids.specs.declared.InstanceId.{InstanceId}
@@ -18,16 +18,16 @@ use Rattle.hx_text.specs.Texts.{PutsFront}
 use Rattle.hx_board.specs.Board.{Held, HasHistory, happened as on_board}
 use Rattle.hx_replicas.specs.Jobs.{ParticipantState}
 use Rattle.hx_agreed.proofs.Operations.{write_keeps, ack_keeps}
-use Rattle.hx_worlds.specs.World.{Answers, State, Job}
+use Rattle.hx_worlds.specs.World.{Answers}
 use Rattle.hx_worlds.specs.declared.Voice.{Voice}
 use Rattle.hx_worlds.specs.declared.Voice.TheVariants.{Quiet}
-use Rattle.hx_worlds.specs.Runs.{Run, Deed, GoesOn, done, and_then, make, note, happened, items_of}
-use Rattle.hx_worlds.specs.Items.{Item, Happens}
+use Rattle.hx_worlds.specs.Runs.{GoesOn, done, and_then, make, note, items_of}
+use Rattle.hx_worlds.specs.Items.{Happens}
 use Rattle.hx_worlds.specs.Jobs.{do_write, write_job, do_ack, ack_job, is_job, with_written, end_job}
 use Rattle.hx_scene.specs.Scenes.{SceneState, OpenState, plain_job, at, lists_of}
 use Rattle.hx_scene.specs.Doing.{Keeps, Reaches, Ends, IsCut}
 use Rattle.hx_scene.specs.Kept.{IsScene, IsListed}
-use Rattle.hx_scene.specs.Ending.{CanEnd, AreOfScene, KeepsParts, ended_staff, plain_staff, staff_in}
+use Rattle.hx_scene.specs.Ending.{CanEnd, KeepsParts, ended_staff, plain_staff, staff_in}
 use Rattle.hx_scene.proofs.Reaching.{at_happened, event_cut, event_ends, one_step, kept_going, keeps_nothing}
 use Rattle.hx_scene.proofs.Standing.{valid_in}
 use Rattle.hx_scene.proofs.Adopting.{AreEnding, ending_first, can_end, ends_as}

@@ -202,7 +202,7 @@ module _ {s : SceneState} {i : InstanceId} {id : MsgId} {b : ParticipantState} {
       → Gives (asked_by s i job ++ running_for i job.message job.handler r.outcome) a
       → do_take v i id (at s a)
       ≡ GoesOn (Happens (events.Take job.message.session job.message.id) ∷ [])
-          (at (taken_scene s i b (events.Take job.message.session job.message.id) r) (left (asked_by s i job ++ running_for i job.message job.handler r.outcome) a)) tt
+      (at (taken_scene s i b (events.Take job.message.session job.message.id) r) (left (asked_by s i job ++ running_for i job.message job.handler r.outcome) a)) tt
   taken_goes v r k free a given =
       let m = job.message in
       let e : Event = events.Take m.session m.id in

@@ -1,7 +1,6 @@
 -- What a write of an open job comes to in a scene, and that it keeps it.
-use Rattle.std.proofs.Common.{◌≡◌, ℕ, zero, suc, ◌+◌, ◌≤◌, ◌<◌, not, Bool, true, false, List, [], ◌∷◌, ◌++◌, map, find, length, Option, None, Some, refl, sym, ap, subst, ◌∙◌, arith}
+use Rattle.std.proofs.Common.{◌≡◌, ℕ, zero, suc, ◌≤◌, ◌<◌, Bool, true, false, List, [], ◌∷◌, ◌++◌, map, find, length, Option, None, Some, refl, sym, ap, subst, ◌∙◌, arith}
 use Rattle.std.specs.Prelude.{if◌then◌else◌, ◌==◌, is_none, position, slice_get, slice_set, slice_index_or}
-use Rattle.std.specs.List.{All}
 use Rattle.std.specs.Option.{option_map}
 use Rattle.std.proofs.lemmas.List.{map-set, get_or_read}
 use Rattle.std.proofs.lemmas.List.Elements.{All-set, All-get_or}
@@ -10,7 +9,6 @@ use Rattle.hx_lists.specs.Lists.{count}
 use Rattle.hx_ids.specs.declared.InstanceId.{InstanceId}
 use Rattle.hx_ids.specs.declared.MsgId.{MsgId}
 use Rattle.hx_ids.specs.declared.SessionId.{SessionId}
-use Rattle.hx_cluster.specs.declared.description.Failure.{Failure}
 use Rattle.hx_cluster.specs.declared.happenings.Outcome.{Outcome}
 use Rattle.hx_cluster.specs.declared.happenings.Event.{Event}
 use Rattle.hx_cluster.specs.declared.happenings.Event.TheVariants as events
@@ -21,20 +19,20 @@ use Rattle.hx_print.specs.Texts.{entry_text}
 use Rattle.hx_print.specs.declared.Note.TheVariants as notes
 use Rattle.hx_text.specs.Texts.{PutsFront}
 use Rattle.hx_board.specs.Board.{Held, HasHistory, happened as on_board}
-use Rattle.hx_replicas.proofs.Searching.{find-map, found-in, found-first, found-passes, found-none}
+use Rattle.hx_replicas.proofs.Searching.{find-map, found-in, found-first, found-none}
 use Rattle.hx_safe.proofs.Ends.{same-self}
 use Rattle.hx_safe.proofs.Counting.{and-both}
-use Rattle.hx_agreed.specs.InStep.{Each, IsHeldJob}
+use Rattle.hx_agreed.specs.InStep.{IsHeldJob}
 use Rattle.hx_agreed.proofs.Going.{each-find}
 use Rattle.hx_agreed.proofs.Operations.{write_keeps}
-use Rattle.hx_worlds.specs.World.{Answers, State, World, Job}
+use Rattle.hx_worlds.specs.World.{Answers, Job}
 use Rattle.hx_worlds.specs.declared.Voice.{Voice}
 use Rattle.hx_worlds.specs.declared.Voice.TheVariants.{Quiet}
-use Rattle.hx_worlds.specs.Runs.{Run, Deed, GoesOn, done, and_then, make, note, happened, items_of}
-use Rattle.hx_worlds.specs.Items.{Item, Happens}
+use Rattle.hx_worlds.specs.Runs.{GoesOn, done, and_then, make, note, items_of}
+use Rattle.hx_worlds.specs.Items.{Happens}
 use Rattle.hx_worlds.specs.Jobs.{do_write, write_job, is_job, as_written_job, with_written, end_job}
 use Rattle.hx_scene.specs.Scenes.{SceneState, OpenState, plain_job, world_of, at, lists_of}
-use Rattle.hx_scene.specs.Doing.{Asked, Gives, left, IsRunsBelow, IsCounted, Keeps, Reaches, Ends, IsCut}
+use Rattle.hx_scene.specs.Doing.{IsRunsBelow, Keeps, Reaches, Ends, IsCut}
 use Rattle.hx_scene.specs.Kept.{IsScene, IsListed}
 use Rattle.hx_scene.proofs.Reaching.{at_happened, event_cut, event_ends, one_step, kept_going, keeps_nothing}
 use Rattle.hx_scene.proofs.Standing.{valid_in}

@@ -37,9 +37,11 @@ pub invariant_of-self-in_err-job : goal.invariant_of-self-in_err-job
 invariant_of-self-in_err-job g c =
     let s : SceneState = record { spec = c.self.inside.spec; board = c.self.inside.board; controllers = c.self.inside.controllers.items; staff = c.self.inside.participants.items; jobs = c.self.inside.jobs.items; bag = c.self.inside.bag.items; handed = c.self.inside.handed } in
     let lt = has_staff s c.self.invariant.0 c.args.instance (subst (λ (z : SceneState). has_instance z.board.cluster c.args.instance ≡ true) (sym {A = SceneState} c.self.view_is) c.requires) in
-    let still = Taken.still_of s c.args.instance c.index_mut.result.now c.hand_out.new.participant lt c.index_mut.ensures.value c.in_err-job.ensures.err in
-    (subst (λ (js : List OpenState). IsScene (record s { staff = slice_set s.staff c.args.instance.0 c.hand_out.new.participant; jobs = js })) (sym {A = List OpenState} c.reserve.ensures.items)
-    (Taken.still_scene c.self.invariant.0 lt still), c.self.invariant.1)
+    let still = Taken.still_of s c.args.instance c.index_mut.result.now c.hand_out.new.participant lt c.index_mut.ensures.value c.in_err-job.ensures.err in (
+      subst (λ (js : List OpenState). IsScene (record s { staff = slice_set s.staff c.args.instance.0 c.hand_out.new.participant; jobs = js })) (sym {A = List OpenState} c.reserve.ensures.items)
+          (Taken.still_scene c.self.invariant.0 lt still),
+      c.self.invariant.1,
+    )
 
 pub returns-in_err-job : goal.returns-in_err-job
 returns-in_err-job g c =
@@ -56,9 +58,11 @@ pub invariant_of-self-in_default : goal.invariant_of-self-in_default
 invariant_of-self-in_default g c =
     let s : SceneState = record { spec = c.self.inside.spec; board = c.self.inside.board; controllers = c.self.inside.controllers.items; staff = c.self.inside.participants.items; jobs = c.self.inside.jobs.items; bag = c.self.inside.bag.items; handed = c.self.inside.handed } in
     let lt = has_staff s c.self.invariant.0 c.args.instance (subst (λ (z : SceneState). has_instance z.board.cluster c.args.instance ≡ true) (sym {A = SceneState} c.self.view_is) c.requires) in
-    let still = Taken.still_of s c.args.instance c.index_mut.result.now c.hand_out.new.participant lt c.index_mut.ensures.value (subst (λ o. IfNone o (IsStill c.index_mut.result.now c.hand_out.new.participant)) c.in_default.is c.in_ok-job.ensures.none) in
-    (subst (λ (js : List OpenState). IsScene (record s { staff = slice_set s.staff c.args.instance.0 c.hand_out.new.participant; jobs = js })) (sym {A = List OpenState} c.reserve.ensures.items)
-    (Taken.still_scene c.self.invariant.0 lt still), c.self.invariant.1)
+    let still = Taken.still_of s c.args.instance c.index_mut.result.now c.hand_out.new.participant lt c.index_mut.ensures.value (subst (λ o. IfNone o (IsStill c.index_mut.result.now c.hand_out.new.participant)) c.in_default.is c.in_ok-job.ensures.none) in (
+      subst (λ (js : List OpenState). IsScene (record s { staff = slice_set s.staff c.args.instance.0 c.hand_out.new.participant; jobs = js })) (sym {A = List OpenState} c.reserve.ensures.items)
+          (Taken.still_scene c.self.invariant.0 lt still),
+      c.self.invariant.1,
+    )
 
 pub returns-in_default : goal.returns-in_default
 returns-in_default g c =
@@ -127,9 +131,11 @@ invariant_of-self-in-Err g c =
     let h = Taken.handed_of s c.args.instance c.args.id c.index_mut.result.now c.hand_out.new.participant c.in_ok-job.field-0 c.in-Some.job c.self.invariant.0 lt c.index_mut.ensures.value c.in_ok-job.ensures.asked c.in_ok-job.ensures.some c.in-Some.is c.if-self-ge-MOST_HANDED.false in
     let m : c.message-message.result.now ≡ c.in-Some.job.message = c.message-message.ensures in
     let full = Taken.refused_as s.board.cluster c.message-message.result.now c.in-Some.job.message (Some c.in-Err.field-0) m c.in-Err.ensures.refused in
-    let back = Taken.back_of s.staff c.args.instance c.hand_out.new.participant c.index_mut-in-Err.result.now c.finish.new.self c.in-Some.job c.put_back.result lt c.index_mut-in-Err.ensures.value c.put_back.ensures c.finish.ensures.plain c.finish.ensures.made c.finish.ensures.listed in
-    (Taken.with_parts_is IsScene (Taken.back_scene s c.args.instance c.hand_out.new.participant c.finish.new.self) c.take-taken.new.self c.reserve.new.self.items c.in-Err.ensures.err c.reserve.ensures.items
-    (Taken.back_is h c.finish.new.self c.in-Err.field-0 back full), c.self.invariant.1)
+    let back = Taken.back_of s.staff c.args.instance c.hand_out.new.participant c.index_mut-in-Err.result.now c.finish.new.self c.in-Some.job c.put_back.result lt c.index_mut-in-Err.ensures.value c.put_back.ensures c.finish.ensures.plain c.finish.ensures.made c.finish.ensures.listed in (
+      Taken.with_parts_is IsScene (Taken.back_scene s c.args.instance c.hand_out.new.participant c.finish.new.self) c.take-taken.new.self c.reserve.new.self.items c.in-Err.ensures.err c.reserve.ensures.items
+          (Taken.back_is h c.finish.new.self c.in-Err.field-0 back full),
+      c.self.invariant.1,
+    )
 
 pub returns-in_ok-print_last-in-Ok : goal.returns-in_ok-print_last-in-Ok
 returns-in_ok-print_last-in-Ok g c =
@@ -158,4 +164,3 @@ returns-in-Err g c =
     (does_after (Taken.with_parts_is (λ u. Reaches (λ x. do_take c.args.voice c.args.instance c.args.id x) s c.args.out.now (λ x. note c.args.voice notes.SessionEnded x) u c.args.out.now)
     (Taken.back_scene s c.args.instance c.hand_out.new.participant c.finish.new.self) c.take-taken.new.self c.reserve.new.self.items c.in-Err.ensures.err c.reserve.ensures.items
     (Taken.back_reaches h c.args.voice c.finish.new.self c.in-Err.field-0 back full c.args.out.now)) _ c.note-in-Err.new.self c.note-in-Err.new.out c.note-in-Err.result c.note-in-Err.ensures)
-
