@@ -147,7 +147,7 @@ any-insert : {X : Type 0} (p : X → Bool) (before : X → X → Bool) (x : X) (
 any-insert p before x [] = refl
 any-insert p before x (y ∷ xs) = grind (arith, any-insert p before x xs)
 
-any-sort : {X : Type 0} (p : X → Bool) (before : X → X → Bool) (xs : List X) → list_any p (sort_by before xs) ≡ list_any p xs
+pub any-sort : {X : Type 0} (p : X → Bool) (before : X → X → Bool) (xs : List X) → list_any p (sort_by before xs) ≡ list_any p xs
 any-sort p before [] = refl
 any-sort p before (x ∷ xs) = grind (arith, any-insert p before x (sort_by before xs), any-sort p before xs)
 
@@ -197,7 +197,7 @@ others_left i n other (j ∷ js) x all =
     others_left i n other js (Jobs.end_job j x) (and-second (Jobs.is_job_of i j) (list_all (Jobs.is_job_of i) js) all)
     ∙ others_put x.world.participants j.instance (finish (participant_of x.world j.instance) j.message (Some j.outcome) j.handler) n (grind (arith, nat_tests, of_i, other))
 
-distinct_left : (i : InstanceId) (js : List Job) (x : State) → i.0 < length x.world.participants → AreDistinct (map (λ z. z.part) (of_instance x.world.participants i).slots)
+pub distinct_left : (i : InstanceId) (js : List Job) (x : State) → i.0 < length x.world.participants → AreDistinct (map (λ z. z.part) (of_instance x.world.participants i).slots)
     → AreDistinct (map (λ z. z.part) (of_instance (Jobs.end_jobs js x).world.participants i).slots)
 distinct_left i [] x lt d = d
 distinct_left i (j ∷ js) x lt d =
@@ -213,7 +213,7 @@ distinct_left i (j ∷ js) x lt d =
         (distinct-put (of_instance x.world.participants i).slots (brought (slot_of (of_instance x.world.participants i) j.message.part) (end_of j.message (Some j.outcome)) j.handler) d))
 
 -- the open jobs of an instance are all of it, and each of it is among them
-of_instance_all : (i : InstanceId) (x : State) → list_all (Jobs.is_job_of i) (Jobs.jobs_of i x) ≡ true
+pub of_instance_all : (i : InstanceId) (x : State) → list_all (Jobs.is_job_of i) (Jobs.jobs_of i x) ≡ true
 of_instance_all i x =
     all-sort (Jobs.is_job_of i) Jobs.job_before (filter (Jobs.is_job_of i) x.world.jobs)
     ∙ all-filter_more (λ (j : Job). true) (Jobs.is_job_of i) (Jobs.is_job_of i) (λ j e f. f) x.world.jobs (every x.world.jobs)

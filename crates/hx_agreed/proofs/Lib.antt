@@ -19,6 +19,4 @@ pub mod Doing
 pub mod DoingLines
 pub mod Laws
 pub mod Fitting
-pub mod Lending
-pub mod Leaving
 pub mod Operations

@@ -1,57 +1,188 @@
 -- What each operation on a world keeps, and what the calls of an operation need of a world that stands.
-use Rattle.std.proofs.Common.{◌≡◌, ℕ, zero, suc, ◌+◌, ◌≤◌, ◌<◌, ◌==◌, not, Bool, true, false, List, [], ◌∷◌, ◌++◌, filter, find, length, Option, Some, None, refl, sym, ap, ◌∙◌, subst, arith}
-use Rattle.std.specs.Prelude.{is_some, nat_lt, slice_get}
-use Rattle.std.specs.List.{list_any}
+use Rattle.std.proofs.Common.{◌≡◌, ℕ, zero, suc, ◌+◌, ◌≤◌, ◌<◌, ◌||◌, ◌==◌, not, Bool, true, false, List, [], ◌∷◌, ◌++◌, filter, find, length, Option, Some, refl, sym, ap, ◌∙◌, subst, arith}
+use Rattle.std.specs.Prelude.{is_some, nat_lt, slice_get, slice_set}
+use Rattle.std.specs.List.{list_any, list_all}
 use Rattle.std.proofs.lemmas.Bool.Decides.{nat_tests}
+use Rattle.hx_lists.specs.Lists.{count}
 use Rattle.hx_ids.specs.declared.InstanceId.{InstanceId}
 use Rattle.hx_ids.specs.declared.ControllerId.{ControllerId}
 use Rattle.hx_ids.specs.declared.MsgId.{MsgId}
+use Rattle.hx_ids.specs.declared.PartId.{PartId}
 use Rattle.hx_cluster.specs.declared.description.Spec.{Spec}
 use Rattle.hx_cluster.specs.declared.state.Message.{Message}
 use Rattle.hx_cluster.specs.declared.happenings.Admin.{Admin}
-use Rattle.hx_cluster.specs.declared.happenings.Admin.TheVariants as steps
-use Rattle.hx_cluster.specs.declared.happenings.Did.TheVariants as dids
 use Rattle.hx_cluster.specs.declared.happenings.Event.TheVariants as events
-use Rattle.hx_cluster.specs.Ends.{model_of}
-use Rattle.hx_cluster.specs.Steps.{has_instance, has_controller, is_in_range, refusal_of, did_of, session_of}
+use Rattle.hx_cluster.specs.declared.happenings.Outcome.{Outcome}
+use Rattle.hx_cluster.specs.Ends.{part_eq, model_of}
+use Rattle.hx_cluster.specs.Steps.{has_instance, has_controller, is_in_range, refusal_of}
 use Rattle.hx_cluster.specs.Reads.{fetched}
-use Rattle.hx_cluster.specs.Events.{is_later, can_take, can_write, can_ack}
+use Rattle.hx_cluster.specs.Events.{is_later}
+use Rattle.hx_cluster.specs.Messages.{is_same}
 use Rattle.hx_cluster.specs.Weight.{weight_of}
 use Rattle.hx_cluster.specs.Valid.{IsValid}
 use Rattle.hx_print.specs.declared.Note.{Note}
-use Rattle.hx_replicas.specs.declared.slots.Work.TheVariants.{Out}
-use Rattle.hx_replicas.specs.Participants.{Fits, slot_of, any_out, deliver_fault, accept, accepted_by, made_ready, hand_out}
+use Rattle.hx_replicas.specs.declared.slots.Work.{Work}
+use Rattle.hx_replicas.specs.declared.slots.Work.TheVariants.{Idle, Accepted, Out}
+use Rattle.hx_replicas.specs.Participants.{Participant, Slot, Fits, slot_of, is_out, any_out, brought, end_of, finish}
+use Rattle.hx_replicas.proofs.Parts.{part_same, part_eq-self}
+use Rattle.hx_replicas.proofs.Putting.{part-slot_in, slot_in-put}
 use Rattle.hx_script.specs.Ranges as Ranges
 use Rattle.hx_control.specs.OfBoard.{IsPlanOf}
-use Rattle.hx_worlds.specs.World.{State, Job, Answers, participant_of, with_participant, controller_of}
+use Rattle.hx_worlds.specs.World.{State, Job, participant_of, controller_of}
 use Rattle.hx_worlds.specs.declared.Voice.{Voice}
 use Rattle.hx_worlds.specs.Runs.{happened, happen, say, note, say_if_loud}
 use Rattle.hx_worlds.specs.Jobs
 use Rattle.hx_worlds.specs.Turns
 use Rattle.hx_worlds.specs.Scripts
+use Rattle.hx_safe.proofs.Counting.{and-first, and-second, and-both, any-filter_kept, none-from-all, count-append}
+use Rattle.hx_safe.proofs.Ends.{same-self}
+use Rattle.hx_safe.proofs.Ideals.{length-put}
 use Rattle.hx_safe.proofs.Whole.{length-replicate}
+use Rattle.hx_runs.proofs.Waiting.{any-le}
 use Rattle.hx_scripted.specs.OfHistory.{IsOfItsHistory}
 use Rattle.hx_scripted.proofs.Standing.{ranged_there, fixed_there}
 use Rattle.hx_scripted.proofs.Keeping.{Keeps}
-use Rattle.hx_scripted.proofs.Taking.{accepted_fetched, participant_there}
-use Rattle.hx_agreed.specs.InStep.{Each, IsInBag, IsInStep}
-use Rattle.hx_agreed.proofs.Lending.{IsOutOf, lent_there, none_out, others_kept}
-use Rattle.hx_agreed.proofs.Leaving.{AreLentIn, instance_quiet, all_quiet}
-use Rattle.hx_agreed.proofs.Marks.{accepted_slot}
+use Rattle.hx_agreed.specs.InStep.{Each, of_instance, is_lent_as, HasWork, IsHeldJob, IsInBag, IsInStep}
+use Rattle.hx_agreed.proofs.Lists.{each-le, each-filter}
+use Rattle.hx_agreed.proofs.Slots.{all_slots, slot_in-other}
+use Rattle.hx_agreed.proofs.Lent.{lent_is}
+use Rattle.hx_agreed.proofs.Frames.{same_is}
+use Rattle.hx_agreed.proofs.Changes.{instance_same}
+use Rattle.hx_agreed.proofs.Replicas.{here_put, others_put}
+use Rattle.hx_agreed.proofs.Fetching.{any-sort, of_instance_all, distinct_left}
 use Rattle.hx_agreed.proofs.Going.{happens, each-find}
 use Rattle.hx_agreed.proofs.Fitting.{sound_message, like_all, part_model}
 use Rattle.hx_agreed.proofs.DoingTurns.{Stands, idle_there, keeps_line, keeps_note, keeps_loud, keeps_step}
-use Rattle.hx_agreed.proofs.Doing.{took_there, stays_there, keeps_taken, wrote_there, unwritten_there, keeps_write, acked_there, unacked_there, keeps_ack}
-use Rattle.hx_agreed.proofs.DoingLines.{HasStood, line_happens, in_range_now, kept_now, adopted_own, fetch_happens, fetched_there, fetch_done, accepted_from_bag, from_bag, step_happens, stepped, died_there, died}
+use Rattle.hx_agreed.proofs.Doing.{keeps_taken, keeps_write, keeps_ack}
+use Rattle.hx_agreed.proofs.DoingLines.{HasStood, line_happens, in_range_now, kept_now, fetch_happens, fetch_done, from_bag, stepped, died}
 
 -- a world of its history that is in step stands, at its last line
 pub stands_there : (spec : Spec) (x : State) → IsOfItsHistory spec x.world → IsInStep x.world → Stands spec x.world.cluster.line x
 stands_there spec x of in_step = record { scripted = record { of = of; line = refl }; in_step = in_step }
 
-each_get : {X : Type 0} (P : X → Type 0) (xs : List X) (n : ℕ) (x : X) → Each P xs → slice_get xs n ≡ Some x → P x
+-- a job whose message is out, with its handler
+abbrev pub IsOutOf : List Participant → Job → Type 0
+IsOutOf ws j = (slot_of (of_instance ws j.instance) j.message.part).work ≡ Out j.message (is_some j.handler)
+
+pub each_get : {X : Type 0} (P : X → Type 0) (xs : List X) (n : ℕ) (x : X) → Each P xs → slice_get xs n ≡ Some x → P x
 each_get P [] n x e is = cc
 each_get P (y ∷ xs) zero x e is = let same : y ≡ x = grind (arith, is) in subst P same e.0
 each_get P (y ∷ xs) (suc n) x e is = each_get P xs n x e.1 is
+
+pub each_mid : {X : Type 0} (P : X → Type 0) (before after : List X) (x : X) → Each P (before ++ x ∷ after) → P x
+each_mid P [] after x e = e.0
+each_mid P (y ∷ before) after x e = each_mid P before after x e.1
+
+-- the only one that passes a test is taken out
+none_out : {X : Type 0} (p : X → Bool) (xs : List X) → count p xs ≡ 0 → filter (λ x. not (p x)) xs ≡ xs
+none_out p [] e = refl
+none_out {X} p (x ∷ xs) e = one (p x) refl (none_out p xs)
+  where
+    one : (b : Bool) → p x ≡ b → (count p xs ≡ 0 → filter (λ y. not (p y)) xs ≡ xs) → filter (λ y. not (p y)) (x ∷ xs) ≡ x ∷ xs
+    one true is more = absurd (let z : true ≡ false = grind (arith, is, e) in (cc))
+    one false is more = rw is (ap (λ (ys : List X). x ∷ ys) (more (grind (arith, is, e))))
+
+pub one_out : {X : Type 0} (p : X → Bool) (before after : List X) (x : X) → p x ≡ true → count p (before ++ x ∷ after) ≡ 1 → filter (λ y. not (p y)) (before ++ x ∷ after) ≡ before ++ after
+one_out p [] after x here only = rw here (none_out p after (grind (arith, here, only)))
+one_out {X} p (y ∷ before) after x here only = one (p y) refl (one_out p before after x here)
+  where
+    one : (b : Bool) → p y ≡ b → (count p (before ++ x ∷ after) ≡ 1 → filter (λ z. not (p z)) (before ++ x ∷ after) ≡ before ++ after)
+        → filter (λ z. not (p z)) ((y ∷ before) ++ x ∷ after) ≡ (y ∷ before) ++ after
+    one true is more =
+        let many = count-append p before (x ∷ after) in
+        absurd (let z : true ≡ false = grind (arith, is, here, only, many) in (cc))
+    one false is more = rw is (ap (λ (ys : List X). y ∷ ys) (more (grind (arith, is, only))))
+
+-- a slot that is out once a job ended is another one, and was out before
+pub record WasOut (w : Participant) (p q : PartId) : Type 0 where
+  pub other : part_eq p q ≡ false
+  pub out : is_out (slot_of w q).work ≡ true
+
+pub was_out : (w : Participant) (m : Message) (o : Option Outcome) (h : Option ℕ) (q : PartId) → is_out (slot_of (finish w m o h) q).work ≡ true → WasOut w m.part q
+was_out w m o h q out = one (part_eq m.part q) refl
+  where
+    y : Slot
+    y = brought (slot_of w m.part) (end_of m o) h
+
+    part : (slot_of w m.part).part ≡ m.part
+    part = part-slot_in w.slots m.part
+
+    one : (b : Bool) → part_eq m.part q ≡ b → WasOut w m.part q
+    one true e =
+        let here : slot_of (finish w m o h) q ≡ y = slot_in-put w.slots y q (part ∙ part_same m.part q e) in
+        absurd (let z : true ≡ false = sym out ∙ ap (λ (x : Slot). is_out x.work) here in (cc))
+    one false e =
+        let there : slot_of (finish w m o h) q ≡ slot_of w q = slot_in-other w.slots y q (subst (λ (r : PartId). part_eq r q ≡ false) (sym part) e) in
+        record { other = e; out = sym (ap (λ (x : Slot). is_out x.work) there) ∙ out }
+
+pub finished_here : (x : State) (j : Job) (i : InstanceId) → (j.instance.0 == i.0) ≡ true → i.0 < length x.world.participants
+    → participant_of (Jobs.end_job j x).world i ≡ finish (participant_of x.world i) j.message (Some j.outcome) j.handler
+finished_here x j i e lt =
+    subst (λ (n : InstanceId). of_instance (slice_set x.world.participants n.0 (finish (of_instance x.world.participants n) j.message (Some j.outcome) j.handler)) i ≡ finish (of_instance x.world.participants i) j.message (Some j.outcome) j.handler)
+    (sym (instance_same j.instance i e)) (here_put x.world.participants i (finish (of_instance x.world.participants i) j.message (Some j.outcome) j.handler) lt)
+
+-- each part that is out has one of the jobs that end, so then none is out
+none_left : (i : InstanceId) (js : List Job) (x : State) → i.0 < length x.world.participants → list_all (Jobs.is_job_of i) js ≡ true
+    → ((q : PartId) → is_out (slot_of (participant_of x.world i) q).work ≡ true → list_any (λ j. part_eq j.message.part q) js ≡ true)
+    → (q : PartId) → is_out (slot_of (participant_of (Jobs.end_jobs js x).world i) q).work ≡ false
+none_left i [] x lt all covered q = one (is_out (slot_of (participant_of x.world i) q).work) refl
+  where
+    one : (b : Bool) → is_out (slot_of (participant_of x.world i) q).work ≡ b → b ≡ false
+    one false e = refl
+    one true e = let no : false ≡ true = covered q e in sym no
+none_left i (j ∷ js) x lt all covered q =
+    none_left i js (Jobs.end_job j x) (let many = length-put x.world.participants j.instance.0 (finish (participant_of x.world j.instance) j.message (Some j.outcome) j.handler) in omega arith)
+    (and-second (Jobs.is_job_of i j) (list_all (Jobs.is_job_of i) js) all) rest q
+  where
+    now : participant_of (Jobs.end_job j x).world i ≡ finish (participant_of x.world i) j.message (Some j.outcome) j.handler
+    now = finished_here x j i (and-first (Jobs.is_job_of i j) (list_all (Jobs.is_job_of i) js) all) lt
+
+    later : (a b : Bool) → a ≡ false → (a || b) ≡ true → b ≡ true
+    later true b e f = cc
+    later false b e f = f
+
+    rest : (p : PartId) → is_out (slot_of (participant_of (Jobs.end_job j x).world i) p).work ≡ true → list_any (λ k. part_eq k.message.part p) js ≡ true
+    rest p out =
+        let was = was_out (participant_of x.world i) j.message (Some j.outcome) j.handler p (subst (λ (w : Participant). is_out (slot_of w p).work ≡ true) now out) in
+        later (part_eq j.message.part p) (list_any (λ k. part_eq k.message.part p) js) was.other (covered p was.out)
+
+-- a job that ended leaves the others out
+out_is : (m n : Message) (x y : Bool) → Out m x ≡ Out n y → m ≡ n
+out_is m n x y e = (cc)
+
+out_still : (x : State) (j k : Job) → j.instance.0 < length x.world.participants → IsOutOf x.world.participants j → not (Jobs.is_job j.instance j.message.id k) ≡ true
+    → IsOutOf x.world.participants k → IsOutOf (Jobs.end_job j x).world.participants k
+out_still x j k lt mine other out = one (j.instance.0 == k.instance.0) refl (part_eq j.message.part k.message.part) refl
+  where
+    w' : Participant
+    w' = finish (of_instance x.world.participants j.instance) j.message (Some j.outcome) j.handler
+
+    one : (a : Bool) → (j.instance.0 == k.instance.0) ≡ a → (b : Bool) → part_eq j.message.part k.message.part ≡ b → IsOutOf (slice_set x.world.participants j.instance.0 w') k
+    one false e b f = subst (λ (w : Participant). (slot_of w k.message.part).work ≡ Out k.message (is_some k.handler)) (sym (others_put x.world.participants j.instance w' k.instance e)) out
+    one true e true f =
+        let at = instance_same j.instance k.instance e in
+        let work : (slot_of (of_instance x.world.participants j.instance) j.message.part).work ≡ Out k.message (is_some k.handler) =
+        subst (λ (n : InstanceId). (slot_of (of_instance x.world.participants n) j.message.part).work ≡ Out k.message (is_some k.handler)) (sym at)
+        (subst (λ (p : PartId). (slot_of (of_instance x.world.participants k.instance) p).work ≡ Out k.message (is_some k.handler)) (sym (part_same j.message.part k.message.part f)) out) in
+        let same : k.message ≡ j.message = out_is k.message j.message (is_some k.handler) (is_some j.handler) (sym work ∙ mine) in
+        let yes : Jobs.is_job j.instance j.message.id k ≡ true =
+        and-both (k.instance.0 == j.instance.0) (k.message.id.0 == j.message.id.0)
+        (subst (λ (n : InstanceId). (k.instance.0 == n.0) ≡ true) (sym at) (same-self k.instance.0)) (subst (λ (m : Message). (k.message.id.0 == m.id.0) ≡ true) same (same-self k.message.id.0)) in
+        absurd (let z : true ≡ false = sym other ∙ ap not yes in (cc))
+    one true e false f =
+        let w = of_instance x.world.participants j.instance in
+        let y = brought (slot_of w j.message.part) (end_of j.message (Some j.outcome)) j.handler in
+        let at = instance_same j.instance k.instance e in
+        let part : y.part ≡ j.message.part = part-slot_in w.slots j.message.part in
+        let slot : slot_of w' k.message.part ≡ slot_of w k.message.part = slot_in-other w.slots y k.message.part (subst (λ (r : PartId). part_eq r k.message.part ≡ false) (sym part) f) in
+        subst (λ (n : InstanceId). (slot_of (of_instance (slice_set x.world.participants j.instance.0 w') n) k.message.part).work ≡ Out k.message (is_some k.handler)) at
+        (ap (λ (v : Participant). (slot_of v k.message.part).work) (here_put x.world.participants j.instance w' lt) ∙ ap (λ (z : Slot). z.work) slot
+        ∙ subst (λ (n : InstanceId). (slot_of (of_instance x.world.participants n) k.message.part).work ≡ Out k.message (is_some k.handler)) (sym at) out)
+
+pub others_out : (x : State) (j : Job) → j.instance.0 < length x.world.participants → IsOutOf x.world.participants j → Each (IsOutOf x.world.participants) x.world.jobs
+    → Each (IsOutOf (Jobs.end_job j x).world.participants) (Jobs.end_job j x).world.jobs
+others_out x j lt mine all =
+    each-filter (IsOutOf x.world.participants) (IsOutOf (Jobs.end_job j x).world.participants) (λ k. not (Jobs.is_job j.instance j.message.id k)) (λ k other out. out_still x j k lt mine other out) x.world.jobs all
 
 module _ (spec : Spec) (valid : IsValid spec) (last : Option ℕ) where
   -- what is said
@@ -106,29 +237,6 @@ module _ (spec : Spec) (valid : IsValid spec) (last : Option ℕ) where
   pub deliver_keeps : (v : Voice) (i : InstanceId) (m : Message) (x : State) → Stands spec last x → find (λ n. n.id.0 == m.id.0) x.world.bag ≡ Some m → Keeps (Stands spec last) (Jobs.deliver v i m x)
   deliver_keeps v i m x s is = from_bag spec valid last v i m.id (Some m) x s is
 
-  -- within these: the session is adopted, and all of a fetch is done; a message is accepted; and a session died
-  pub adopt_stands : (i : InstanceId) (x : State) → Stands spec last x → has_instance x.world.cluster i ≡ true → Jobs.same_session (participant_of x.world i).session (session_of x.world.cluster i) ≡ false
-      → Stands spec last (Jobs.adopt_in i (session_of x.world.cluster i) x)
-  adopt_stands i x s there other = adopted_own spec valid last i x (ranged_instance i x s there) s other
-
-  pub fetched_stands : (i : InstanceId) (x : State) → Stands spec last x → has_instance x.world.cluster i ≡ true
-      → (let mail = fetched x.world.cluster i in
-      x.world.weight + weight_of (events.Fetch i mail.session (length mail.messages)) ≤ x.world.limit
-      → Stands spec last (Jobs.fetched_as i mail (happened (events.Fetch i mail.session (length mail.messages)) x)))
-  fetched_stands i x s there room = fetched_there spec valid last i x (ranged_instance i x s there) s room
-
-  pub accept_stands : (i : InstanceId) (m : Message) (x : State) → Stands spec last x → find (λ n. n.id.0 == m.id.0) x.world.bag ≡ Some m → deliver_fault (participant_of x.world i) m ≡ None
-      → Stands spec last (with_participant i (accept (participant_of x.world i) m) x)
-  accept_stands i m x s is none = accepted_from_bag spec valid last i m.id m x s is none
-
-  pub died_stands : (i : InstanceId) (x : State) → Stands spec last x → has_instance x.world.cluster i ≡ true → refusal_of x.world.cluster (steps.End i) ≡ None
-      → x.world.weight + weight_of (events.Admin (steps.End i) dids.Done) ≤ x.world.limit → Stands spec last (Jobs.adopt_in i None (happened (events.Admin (steps.End i) dids.Done) x))
-  died_stands i x s there none room = died_there spec valid last i x (ranged_instance i x s there) none there s room
-
-  pub step_stands : (step : Admin) (x : State) → Stands spec last x → is_in_range x.world.cluster step ≡ true → refusal_of x.world.cluster step ≡ None
-      → x.world.weight + weight_of (events.Admin step (did_of x.world.cluster step)) ≤ x.world.limit → Stands spec last (happened (events.Admin step (did_of x.world.cluster step)) x)
-  step_stands step x s well none room = step_happens spec valid last step x well none s room
-
   -- and are run
   pub take_keeps : (v : Voice) (i : InstanceId) (id : MsgId) (x : State) → Stands spec last x → Keeps (Stands spec last) (Jobs.do_take v i id x)
   take_keeps v i id x s = keeps_taken spec valid last v i id _ x s refl
@@ -138,37 +246,6 @@ module _ (spec : Spec) (valid : IsValid spec) (last : Option ℕ) where
 
   pub ack_keeps : (v : Voice) (i : InstanceId) (id : MsgId) (x : State) → Stands spec last x → Keeps (Stands spec last) (Jobs.do_ack v i id x)
   ack_keeps v i id x s = keeps_ack spec valid last v i id x s
-
-  -- within these: a message that was handed out is taken and run, or put back; and a job is written and acknowledged, or ends without
-  pub took_stands : (i : InstanceId) (id : MsgId) (m : Message) (failed : Bool) (handler : Option ℕ) (answers : Answers) (x : State) → Stands spec last x → accepted_by (participant_of x.world i) id ≡ Some m
-      → is_some handler ≡ is_some (made_ready (slot_of (participant_of x.world i) m.part) m failed).handler → can_take x.world.cluster m.session m.id ≡ true
-      → Stands spec last (Jobs.ran i m handler (happened (events.Take m.session m.id) (record { world = (with_participant i (hand_out (participant_of x.world i) m failed) x).world; answers = answers })))
-  took_stands i id m failed handler answers x s is held can =
-      took_there spec valid last i m failed handler answers x s (accepted_fetched spec x.world.history (participant_of x.world i) id m (participant_there spec last x.world i s.scripted) is)
-      (accepted_slot x.world.cluster x.world.bag x.world.jobs i (participant_of x.world i) id m (s.in_step.parts.each i) is) held can
-
-  pub put_back_stands : (i : InstanceId) (id : MsgId) (m : Message) (failed : Bool) (handler : Option ℕ) (answers : Answers) (x : State) → Stands spec last x → accepted_by (participant_of x.world i) id ≡ Some m
-      → can_take x.world.cluster m.session m.id ≡ false
-      → Stands spec last (Jobs.put_back i m handler (record { world = (with_participant i (hand_out (participant_of x.world i) m failed) x).world; answers = answers }))
-  put_back_stands i id m failed handler answers x s is can =
-      stays_there spec valid last i m failed handler answers x s (accepted_fetched spec x.world.history (participant_of x.world i) id m (participant_there spec last x.world i s.scripted) is)
-      (accepted_slot x.world.cluster x.world.bag x.world.jobs i (participant_of x.world i) id m (s.in_step.parts.each i) is) can
-
-  pub wrote_stands : (i : InstanceId) (id : MsgId) (j : Job) (x : State) → Stands spec last x → find (Jobs.is_job i id) x.world.jobs ≡ Some j → can_write x.world.cluster j.message.session j.message.id ≡ true
-      → Stands spec last (Jobs.with_written j.instance j.message.id (happened (events.Write j.message.session j.message.id j.outcome) x))
-  wrote_stands i id j x s is can = wrote_there spec valid last i id j x s is can
-
-  pub unwritten_stands : (i : InstanceId) (id : MsgId) (j : Job) (x : State) → Stands spec last x → find (Jobs.is_job i id) x.world.jobs ≡ Some j → j.is_written ≡ false
-      → can_write x.world.cluster j.message.session j.message.id ≡ false → Stands spec last (Jobs.end_job j x)
-  unwritten_stands i id j x s is unwritten can = unwritten_there spec valid last i id j x s is unwritten can
-
-  pub acked_stands : (i : InstanceId) (id : MsgId) (j : Job) (x : State) → Stands spec last x → find (Jobs.is_job i id) x.world.jobs ≡ Some j → j.is_written ≡ true
-      → can_ack x.world.cluster j.message.session j.message.id ≡ true → Stands spec last (Jobs.end_job j (happened (events.Ack j.message.session j.message.id) x))
-  acked_stands i id j x s is written can = acked_there spec valid last i id j x s is written can
-
-  pub unacked_stands : (i : InstanceId) (id : MsgId) (j : Job) (x : State) → Stands spec last x → find (Jobs.is_job i id) x.world.jobs ≡ Some j → j.is_written ≡ true
-      → can_ack x.world.cluster j.message.session j.message.id ≡ false → Stands spec last (Jobs.end_job j x)
-  unacked_stands i id j x s is written can = unacked_there spec valid last i id j x s is written can
 
   -- turns
   pub turn_keeps : (v : Voice) (k : ControllerId) (x : State) → Stands spec last x → Keeps (Stands spec last) (Turns.step v k x)
@@ -183,12 +260,11 @@ module _ (spec : Spec) (valid : IsValid spec) (last : Option ℕ) where
   pub turn_planned : (k : ControllerId) (x : State) → Stands spec last x → IsPlanOf spec (controller_of x.world k).turn (controller_of x.world k).plan
   turn_planned k x s = (s.scripted.of.turns k).of_board.planned
 
-  -- open jobs are out, each once
-  pub jobs_lent : (x : State) → Stands spec last x → AreLentIn x
-  jobs_lent x s = lent_there x.world.cluster x.world.participants x.world.jobs x.world.bag s.in_step.parts
-
+  -- open jobs are out
   pub jobs_out : (x : State) → Stands spec last x → Each (IsOutOf x.world.participants) x.world.jobs
-  jobs_out x s = (jobs_lent x s).out
+  jobs_out x s =
+      each-le (IsHeldJob x.world.cluster x.world.participants x.world.jobs) (IsOutOf x.world.participants)
+      (λ j h. lent_is j (slot_of (of_instance x.world.participants j.instance) j.message.part).work h.out) x.world.jobs s.in_step.parts.held
 
   pub job_out : (p : Job → Bool) (j : Job) (x : State) → Stands spec last x → find p x.world.jobs ≡ Some j → (slot_of (participant_of x.world j.instance) j.message.part).work ≡ Out j.message (is_some j.handler)
   job_out p j x s is = each-find (IsOutOf x.world.participants) p x.world.jobs j (jobs_out x s) is
@@ -198,17 +274,66 @@ module _ (spec : Spec) (valid : IsValid spec) (last : Option ℕ) where
 
   pub only_one : (before after : List Job) (j : Job) (x : State) → Stands spec last x → x.world.jobs ≡ before ++ j ∷ after
       → filter (λ k. not (Jobs.is_job j.instance j.message.id k)) x.world.jobs ≡ before ++ after
-  only_one before after j x s e = others_kept x.world.participants x.world.jobs before after j (jobs_lent x s) e
+  only_one before after j x s e =
+      let held : Each (IsHeldJob x.world.cluster x.world.participants x.world.jobs) (before ++ j ∷ after) =
+      subst (λ (js : List Job). Each (IsHeldJob x.world.cluster x.world.participants x.world.jobs) js) e s.in_step.parts.held in
+      let h : IsHeldJob x.world.cluster x.world.participants x.world.jobs j = each_mid (IsHeldJob x.world.cluster x.world.participants x.world.jobs) before after j held in
+      let only : count (Jobs.is_job j.instance j.message.id) (before ++ j ∷ after) ≡ 1 = subst (λ (js : List Job). count (Jobs.is_job j.instance j.message.id) js ≡ 1) e h.only in
+      ap (filter (λ k. not (Jobs.is_job j.instance j.message.id k))) e
+      ∙ one_out (Jobs.is_job j.instance j.message.id) before after j (and-both (j.instance.0 == j.instance.0) (j.message.id.0 == j.message.id.0) (same-self j.instance.0) (same-self j.message.id.0)) only
 
-  -- where an instance has no job none of its parts is out, and once its jobs ended, or all jobs, none is
+  -- a part that is out has a job
+  pub job_of_part : (i : InstanceId) (q : PartId) (x : State) → Stands spec last x → is_out (slot_of (participant_of x.world i) q).work ≡ true
+      → list_any (λ j. part_eq j.message.part q) (filter (Jobs.is_job_of i) x.world.jobs) ≡ true
+  job_of_part i q x s out = one (slot_of (participant_of x.world i) q).work out ((s.in_step.parts.each i).slots q).work
+    where
+      of_part : (m : Message) → m.part ≡ q → (j : Job) → is_same j.message m ≡ true → part_eq j.message.part q ≡ true
+      of_part m part j same = subst (λ (r : PartId). part_eq j.message.part r ≡ true) ((same_is j.message m same).part ∙ part) (part_eq-self j.message.part)
+
+      one : (w : Work) → is_out w ≡ true → HasWork x.world.cluster x.world.bag x.world.jobs i (participant_of x.world i).session q (slot_of (participant_of x.world i) q) w
+          → list_any (λ j. part_eq j.message.part q) (filter (Jobs.is_job_of i) x.world.jobs) ≡ true
+      one Idle o h = cc
+      one (Accepted m) o h = cc
+      one (Out m is_held) o h =
+          any-le (is_lent_as i m is_held) (λ j. part_eq j.message.part q) (λ j e. of_part m h.of.part j (and-second (Jobs.is_job i m.id j) (is_same j.message m) (and-first _ _ e))) (filter (Jobs.is_job_of i) x.world.jobs)
+          (any-filter_kept (is_lent_as i m is_held) (Jobs.is_job_of i)
+          (λ j e. and-first (j.instance.0 == i.0) (j.message.id.0 == m.id.0) (and-first (Jobs.is_job i m.id j) (is_same j.message m) (and-first _ _ e))) x.world.jobs h.job)
+
+  -- where an instance has no job none of its parts is out, and once its jobs ended none is
+  quiet_from : (w : Participant) → ((p : Slot → Bool) → ((q : PartId) → p (slot_of w q) ≡ true) → list_all p w.slots ≡ true) → ((q : PartId) → is_out (slot_of w q).work ≡ false) → any_out w ≡ false
+  quiet_from w each none = none-from-all (λ (y : Slot). not (is_out y.work)) (λ y. is_out y.work) (λ y e. one (is_out y.work) e) w.slots (each (λ y. not (is_out y.work)) (λ q. ap not (none q)))
+    where
+      one : (b : Bool) → not b ≡ true → b ≡ false
+      one true e = cc
+      one false e = refl
+
   pub no_job_none_out : (i : InstanceId) (x : State) → Stands spec last x → list_any (Jobs.is_job_of i) x.world.jobs ≡ false → any_out (participant_of x.world i) ≡ false
-  no_job_none_out i x s no_job = none_out x.world.participants x.world.jobs i (jobs_lent x s) no_job
+  no_job_none_out i x s no_job =
+      quiet_from (participant_of x.world i) (λ p h. all_slots p (participant_of x.world i).slots (s.in_step.parts.each i).distinct h) (λ q. one q (is_out (slot_of (participant_of x.world i) q).work) refl)
+    where
+      none_of : (p : Job → Bool) (js : List Job) → list_any (Jobs.is_job_of i) js ≡ false → list_any p (filter (Jobs.is_job_of i) js) ≡ false
+      none_of p [] e = refl
+      none_of p (j ∷ js) e = two (Jobs.is_job_of i j) refl e (none_of p js)
+        where
+          two : (b : Bool) → Jobs.is_job_of i j ≡ b → (b || list_any (Jobs.is_job_of i) js) ≡ false → (list_any (Jobs.is_job_of i) js ≡ false → list_any p (filter (Jobs.is_job_of i) js) ≡ false)
+              → list_any p (filter (Jobs.is_job_of i) (j ∷ js)) ≡ false
+          two true is f more = cc
+          two false is f more = rw is (more f)
+
+      one : (q : PartId) (b : Bool) → is_out (slot_of (participant_of x.world i) q).work ≡ b → b ≡ false
+      one q false e = refl
+      one q true e = sym (job_of_part i q x s e) ∙ none_of (λ j. part_eq j.message.part q) x.world.jobs no_job
+
+  pub ended_out : (i : InstanceId) (q : PartId) (x : State) → Stands spec last x → has_instance x.world.cluster i ≡ true
+      → is_out (slot_of (participant_of (Jobs.end_jobs (Jobs.jobs_of i x) x).world i) q).work ≡ false
+  ended_out i q x s there =
+      none_left i (Jobs.jobs_of i x) x (instance_there i x s there) (of_instance_all i x)
+      (λ p out. any-sort (λ (j : Job). part_eq j.message.part p) Jobs.job_before (filter (Jobs.is_job_of i) x.world.jobs) ∙ job_of_part i p x s out) q
 
   pub ended_none_out : (i : InstanceId) (x : State) → Stands spec last x → has_instance x.world.cluster i ≡ true → any_out (participant_of (Jobs.end_jobs (Jobs.jobs_of i x) x).world i) ≡ false
-  ended_none_out i x s there = instance_quiet i x (jobs_lent x s)
-
-  pub closed_none_out : (i : InstanceId) (x : State) → Stands spec last x → any_out (participant_of (Jobs.end_jobs x.world.jobs x).world i) ≡ false
-  closed_none_out i x s = all_quiet i x (jobs_lent x s)
+  ended_none_out i x s there =
+      let w = participant_of (Jobs.end_jobs (Jobs.jobs_of i x) x).world i in
+      quiet_from w (λ p h. all_slots p w.slots (distinct_left i (Jobs.jobs_of i x) x (instance_there i x s there) (s.in_step.parts.each i).distinct) h) (λ q. ended_out i q x s there)
 
   -- a message of the bag fits a participant
   pub fits : (i : InstanceId) (m : Message) (x : State) → Stands spec last x → find (λ n. n.id.0 == m.id.0) x.world.bag ≡ Some m → Fits (participant_of x.world i) m

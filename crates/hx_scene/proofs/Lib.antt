@@ -1,2 +1,16 @@
 pub mod Reaching
 pub mod Advancing
+pub mod Charging
+pub mod Saying
+pub mod Happening
+pub mod Standing
+pub mod Ending
+pub mod Bags
+pub mod Numbers
+pub mod Outs
+pub mod Adopting
+pub mod Handing
+pub mod Taking
+pub mod Taken
+pub mod Written
+pub mod Acked

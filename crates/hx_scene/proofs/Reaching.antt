@@ -391,6 +391,17 @@ brings_same : (s u : SceneState) (a : Answers) → u.board ≡ s.board → u.spe
 brings_same s u a board spec =
     subst (λ past. Brings (past_of (at s a)) [] past) (ap (λ z. past_at z s.board) (sym spec) ∙ ap (λ b. past_at u.spec b) (sym board)) (brings_nothing (past_of (at s a)))
 
+-- memory is wanted where nothing that counts was done
+pub nothing_yet : {A : Type 0} (f : State → Run A) (s : SceneState) (p : List ℕ) (u : SceneState) → u.board ≡ s.board → u.spec ≡ s.spec → Keeps s u [] → IsCut f s p u p
+nothing_yet f s p u board spec keeps = record {
+  asked = [];
+  items = [];
+  front = λ a _. (items_of (f (at s a)), refl);
+  brings = λ a. brings_same s u a board spec;
+  text = puts_none [] p;
+  keeps = keeps;
+}
+
 pub one_step : {A : Type 0} (f g : State → Run A) (s : SceneState) (p : List ℕ) (u : SceneState) (asked : List Asked) → ((a : Answers) → Gives asked a → f (at s a) ≡ g (at u (left asked a)))
     → u.board ≡ s.board → u.spec ≡ s.spec → Keeps s u asked → Reaches f s p g u p
 one_step f g s p u asked same board spec keeps = record {
@@ -574,6 +585,21 @@ event_cut f e asked s u p q is board spec keeps front = record {
       let w : SceneState = record s { board = on_board s.board e } in
       brings_both (past_of (at s a)) (past_of (at w a)) (past_of (at u a)) (Happens e ∷ []) [] (brings_happened e s w a refl) (brings_same w u a board spec);
   text = puts_longer (entry_text s.spec s.board.cluster e) [] p q front;
+  keeps = keeps;
+}
+
+-- one that is that event, and with it is done
+pub event_ends : {A : Type 0} (f : State → Run A) (e : Event) (answer : A) (asked : List Asked) (s u : SceneState) (p q : List ℕ)
+    → ((a : Answers) → Gives asked a → f (at s a) ≡ GoesOn (Happens e ∷ []) (at u (left asked a)) answer)
+    → u.board ≡ on_board s.board e → u.spec ≡ s.spec → Keeps s u asked → q ≡ p ++ entry_text s.spec s.board.cluster e → Ends f s p answer u q
+event_ends f e answer asked s u p q is board spec keeps text = record {
+  asked = asked;
+  items = Happens e ∷ [];
+  goes = is;
+  brings = λ a.
+      let w : SceneState = record s { board = on_board s.board e } in
+      brings_both (past_of (at s a)) (past_of (at w a)) (past_of (at u a)) (Happens e ∷ []) [] (brings_happened e s w a refl) (brings_same w u a board spec);
+  text = text ∙ ap (λ t. p ++ t) (sym (append-nil (entry_text s.spec s.board.cluster e)));
   keeps = keeps;
 }
 

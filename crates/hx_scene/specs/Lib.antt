@@ -3,3 +3,5 @@ pub mod Doing
 pub mod Kept
 pub mod Telling
 pub mod Advances
+pub mod Taking
+pub mod Ending

@@ -1,12 +1,20 @@
 //! The bag of all messages ever fetched.
 
-ghost use Rattle.std.specs.Prelude.{◌≡◌, ◌+◌, ◌≤◌, ◌==◌, find, length, vec_len, vec_capacity};
+ghost use Rattle.std.specs.Prelude.{◌≡◌, ◌+◌, ◌≤◌, ◌==◌, find, length, position};
+ghost use Rattle.std.specs.Prelude.{vec_len, vec_capacity};
 ghost use Rattle.hx_worlds.specs.Jobs.{put_in_bag, put_all as all_put};
 
 use crate::Scene;
 use hx_cluster::Message;
 use hx_handler::Factory;
 use hx_ids::MsgId;
+
+/// The place of the message of a number.
+fn place_of(bag: &[Message], id: MsgId) -> Option<usize>
+    ensures { result ≡ position (λ m. m.id.0 == id.0) bag.now }
+{
+    bag.iter().position(|m| m.id == id)
+}
 
 /// Puts a message into a bag that has room for it, in the place of the one of its number.
 fn put(bag: &mut Vec<Message>, message: Message)
@@ -15,7 +23,7 @@ fn put(bag: &mut Vec<Message>, message: Message)
     ensures room { vec_capacity bag.new ≡ vec_capacity bag.old }
     ensures len { vec_len bag.new ≤ vec_len bag.old + 1 }
 {
-    match bag.iter().position(|m| m.id == message.id) {
+    match place_of(bag, message.id) {
         Some(place) => bag[place] = message,
         None => bag.push_reserved(message),
     }

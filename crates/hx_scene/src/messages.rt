@@ -10,6 +10,7 @@ ghost use Rattle.hx_scene.specs.Scenes.{IsBagged};
 
 use crate::Scene;
 use crate::bag::put_all;
+use crate::jobs::adopt;
 use hx_board::RoomFault;
 use hx_cluster::Message;
 use hx_handler::Factory;
@@ -33,11 +34,7 @@ fn note_of(fault: DeliverFault) -> Note
 impl<F: Factory> Scene<F> {
     /// Fetches an instance's messages, which go into the bag. Where its session is another one, the
     /// participant adopts it.
-    pub fn fetch(
-        &mut self,
-        instance: InstanceId,
-        out: &mut Page,
-    ) -> Result<Vec<Message>, RoomFault>
+    pub fn fetch(&mut self, instance: InstanceId, out: &mut Page) -> Result<Vec<Message>, RoomFault>
         requires { has_instance self.old.board.cluster instance ≡ true }
         ensures does { DoesDeed (λ x. do_fetch instance x)
             self.old out.old self.new out.new result }
@@ -49,7 +46,13 @@ impl<F: Factory> Scene<F> {
         let mail = self.board.fetch(instance)?;
         self.bag.reserve(mail.messages.len())?;
         if self.participants[instance.0 as usize].session() != mail.session {
-            self.adopt(instance, mail.session, &open);
+            adopt(
+                &mut self.jobs,
+                &mut self.participants,
+                instance,
+                mail.session,
+                &open,
+            );
         }
         put_all(&mut self.bag, mail.messages.as_slice());
         self.print_last(&self.no_roll(), out)?;

@@ -1,9 +1,12 @@
 //! How accepted messages are run: taken, written and acknowledged.
 
-ghost use Rattle.std.specs.Prelude.{◌≡◌, true};
+ghost use Rattle.std.specs.Prelude.{◌≡◌, true, IfOk, OnErr, IfSome, IfNone};
+ghost use Rattle.std.specs.Option.{option_map};
 ghost use Rattle.hx_cluster.specs.Steps.{has_instance};
+ghost use Rattle.hx_replicas.specs.Participants.{accepted_by};
 ghost use Rattle.hx_worlds.specs.Jobs.{do_take, do_write, do_ack};
 ghost use Rattle.hx_scene.specs.Doing.{DoesDeed};
+ghost use Rattle.hx_scene.specs.Taking.{HandsOut, IsStill};
 
 use crate::Scene;
 use crate::jobs::{OpenJob, end_at, place_of};
@@ -11,11 +14,30 @@ use hx_board::RoomFault;
 use hx_handler::Factory;
 use hx_ids::{InstanceId, MsgId};
 use hx_print::Note;
+use hx_replicas::{Job, Participant};
 use hx_text::Page;
 use hx_worlds::Voice;
+use std::alloc::AllocError;
 
 /// The most messages that are handed out.
 const MOST_HANDED: u64 = 1 << 62;
+
+/// Hands out an accepted message of a participant by its number.
+fn hand_out<F: Factory>(
+    participant: &mut Participant<F>,
+    id: MsgId,
+) -> Result<Option<Job<F::H>>, AllocError>
+    ensures asked { IfOk result (λ found.
+        option_map (λ job. job.message) found ≡ accepted_by participant.old.plain id) }
+    ensures some { IfOk result (λ found.
+        IfSome found (HandsOut participant.old participant.new)) }
+    ensures none { IfOk result (λ found.
+        IfNone found (IsStill participant.old participant.new)) }
+    ensures err { OnErr result (IsStill participant.old participant.new) }
+{
+    participant.reserve(0)?;
+    participant.job_of(id)
+}
 
 impl<F: Factory> Scene<F> {
     /// Hands out an accepted message, takes it on the board and runs its transition. Where its
@@ -35,12 +57,14 @@ impl<F: Factory> Scene<F> {
             return Err(RoomFault::OutOfMemory);
         }
         self.jobs.reserve(1)?;
-        let Some(job) = self.participants[instance.0 as usize].job_of(id)? else {
+        let Some(job) = hand_out(&mut self.participants[instance.0 as usize], id)? else {
             return self.note(voice, &Note::NoJob, out);
         };
         self.handed += 1;
-        let session = job.message().session;
-        match self.board.take(session, id) {
+        let message = *job.message();
+        let taken = self.board.take(message.session, message.id);
+        self.board.history();
+        match taken {
             Ok(()) => {
                 self.jobs.push_reserved(OpenJob {
                     instance,
@@ -72,13 +96,15 @@ impl<F: Factory> Scene<F> {
         let Some(place) = place_of(&self.jobs, instance, id) else {
             return self.note(voice, &Note::NoJob, out);
         };
-        let job = &mut self.jobs[place];
+        let job = &self.jobs[place];
         if job.is_written {
             return self.note(voice, &Note::NoJob, out);
         }
-        match self.board.write(job.session(), id, job.outcome()) {
+        let written = self.board.write(job.session(), job.id(), job.outcome());
+        self.board.history();
+        match written {
             Ok(()) => {
-                job.is_written = true;
+                self.jobs[place].is_written = true;
                 self.print_last(&self.no_roll(), out)?;
                 Ok(())
             }
@@ -108,7 +134,8 @@ impl<F: Factory> Scene<F> {
         if !job.is_written {
             return self.note(voice, &Note::NoJob, out);
         }
-        let acked = self.board.ack(job.session(), id);
+        let acked = self.board.ack(job.session(), job.id());
+        self.board.history();
         end_at(&mut self.jobs, &mut self.participants, place);
         match acked {
             Ok(()) => {

@@ -1,11 +1,13 @@
 //! The parts of a world, and what stands in them.
 
 ghost use Rattle.std.specs.Prelude.{◌≡◌, true, [], IfOk};
+ghost use Rattle.std.specs.List.{All};
 ghost use Rattle.hx_cluster.specs.Steps.{has_instance, has_controller};
 ghost use Rattle.hx_replicas.specs.Participants.{accepted_all};
 ghost use Rattle.hx_worlds.specs.World.{controller_of, participant_of};
 ghost use Rattle.hx_scene.specs.Scenes.{world_of};
 ghost use Rattle.hx_scene.specs.Kept.{IsScene};
+ghost use Rattle.hx_scene.specs.Ending.{IsAtRest};
 
 use crate::jobs::{OpenJob, end_all};
 use hx_board::Board;
@@ -77,7 +79,9 @@ fn hops_of(alloc: Global, models: &[StateModel]) -> Result<Vec<Hops>, AllocError
 }
 
 /// Ends participants that have no job out.
-fn close_all<F: Factory>(mut participants: Vec<Participant<F>>) {
+fn close_all<F: Factory>(mut participants: Vec<Participant<F>>)
+    requires { All IsAtRest participants.items }
+{
     while let Some(participant) = participants.pop() {
         let _factory = participant.close();
     }

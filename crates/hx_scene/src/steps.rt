@@ -9,6 +9,7 @@ ghost use Rattle.hx_worlds.specs.Scripts.{do_step, do_die};
 ghost use Rattle.hx_scene.specs.Doing.{DoesDeed};
 
 use crate::Scene;
+use crate::jobs::adopt;
 use hx_board::{BoardFault, RoomFault};
 use hx_cluster::{Admin, Event};
 use hx_handler::Factory;
@@ -26,6 +27,7 @@ impl<F: Factory> Scene<F> {
             self.old out.old self.new out.new result }
     {
         self.board.next_line()?;
+        self.board.history();
         self.print_last(&self.no_roll(), out)?;
         Ok(())
     }
@@ -38,6 +40,7 @@ impl<F: Factory> Scene<F> {
         let roll = self.roll()?;
         match self.board.admin(step) {
             Ok(_) => {
+                self.board.history();
                 self.print_last(&roll, out)?;
                 Ok(())
             }
@@ -61,7 +64,13 @@ impl<F: Factory> Scene<F> {
         let open = self.open_jobs(instance)?;
         match self.board.admin(&Admin::End { instance }) {
             Ok(_) => {
-                self.adopt(instance, None, &open);
+                adopt(
+                    &mut self.jobs,
+                    &mut self.participants,
+                    instance,
+                    None,
+                    &open,
+                );
                 self.print_last(&roll, out)?;
                 Ok(())
             }

@@ -139,11 +139,7 @@ impl<F: Factory> Scene<F> {
     }
 
     /// Says that a pass settled.
-    pub fn say_settled(
-        &mut self,
-        controller: ControllerId,
-        out: &mut Page,
-    ) -> Result<(), RoomFault>
+    pub fn say_settled(&mut self, controller: ControllerId, out: &mut Page) -> Result<(), RoomFault>
         ensures { DoesDeed (λ x. say 1 (settled_text controller) x)
             self.old out.old self.new out.new result }
     {
@@ -196,7 +192,8 @@ impl<F: Factory> Scene<F> {
             (full_text x.world.spec x.world.cluster.resources (live_shown x.world.cluster) full.now) x)
             self.old out.old self.new out.new result }
     {
-        self.charge(1 + full.holders.len() as u64)?;
+        let holders = full.holders.as_slice();
+        self.charge(1 + holders.len() as u64)?;
         let part = full.candidate.part;
         let name = resource_name(&self.spec, self.board.resources(), part.resource);
         print_full(full, name, shown, &self.spec, out)?;
@@ -239,11 +236,7 @@ impl<F: Factory> Scene<F> {
     }
 
     /// Says what happened so far, in numbers.
-    pub fn say_summary(
-        &mut self,
-        summary: &Summary,
-        out: &mut Page,
-    ) -> Result<(), RoomFault>
+    pub fn say_summary(&mut self, summary: &Summary, out: &mut Page) -> Result<(), RoomFault>
         ensures { DoesDeed (λ x. say 1 (text_of summary.now) x)
             self.old out.old self.new out.new result }
     {

@@ -1,0 +1,20 @@
+use Rattle.std.proofs.Common.{◌≡◌, ◌+◌, ℕ, List, length, refl, sym, ap, ◌∙◌}
+use Rattle.hx_worlds.specs.declared.Voice.{Voice}
+use Rattle.hx_worlds.specs.Runs.{say, say_if_loud, note}
+use Rattle.hx_scene.specs.Scenes.{at}
+use Rattle.hx_scene.proofs.Saying.{say_full, say_cut, say_whole, say_nothing, same_text, same_line}
+use Rattle.hx_print.specs.Texts.{route_line}
+use Rattle.hx_scene.proofs.scene.Scene.say_route.Goals as goal
+
+pub returns-in_err-charge : goal.returns-in_err-charge
+returns-in_err-charge g c = say_full _ _ c.args.out.now c.from_residual.result c.in_err-charge.ensures (λ a. refl) c.from_residual.ensures.1
+
+pub returns-in_err-print_route : goal.returns-in_err-print_route
+returns-in_err-print_route g c =
+    say_cut _ c.from_residual-in_err-print_route.result c.in_ok-charge.ensures c.in_err-print_route.ensures
+    (λ a. same_line (λ spec name. route_line spec name c.args.part c.args.state c.args.instances.now) c.args.part.resource c.resources.result.now c.resource_name-name.result.now c.in_ok-charge.ensures c.self.view_is c.resources.ensures c.resource_name-name.ensures a) c.from_residual-in_err-print_route.ensures.1
+
+pub returns : goal.returns
+returns g c =
+    say_whole _ c.in_ok-charge.ensures c.in_ok-print_route.ensures
+    (λ a. same_line (λ spec name. route_line spec name c.args.part c.args.state c.args.instances.now) c.args.part.resource c.resources.result.now c.resource_name-name.result.now c.in_ok-charge.ensures c.self.view_is c.resources.ensures c.resource_name-name.ensures a)
