@@ -21,7 +21,7 @@ use Rattle.hx_scene.specs.Doing.{IsBelow, IsRunsBelow}
 use Rattle.hx_scene.specs.Kept.{IsListed}
 use Rattle.hx_scene.specs.Ending.{CanEnd, KeepsParts, AreBelow, ended_staff, plain_staff, staff_in}
 
-all-put : (P : Slot → Type 0) (y : Slot) (xs : List Slot) → P y → All P xs → All P (put_slot xs y)
+pub all-put : (P : Slot → Type 0) (y : Slot) (xs : List Slot) → P y → All P xs → All P (put_slot xs y)
 all-put P y [] here all = All-cons P y [] here (All-nil P)
 all-put P y (x ∷ xs) here all = one (part_eq x.part y.part) refl (all-put P y xs here (All-tail P x xs all))
   where

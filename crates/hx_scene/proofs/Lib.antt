@@ -9,3 +9,4 @@ pub mod Bags
 pub mod Numbers
 pub mod Outs
 pub mod Adopting
+pub mod Delivering
