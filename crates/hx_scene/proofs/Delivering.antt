@@ -66,11 +66,14 @@ keeps_put : (s : SceneState) (i : InstanceId) (p q : ParticipantState) → IsIn 
 keeps_put s i p q is below = record {
   lists = lists_same s i p q is;
   lines = refl;
-  told = λ c. (record {
-    few = c.few;
-    staff = All-set (IsBelow s.handed) s.staff i.0 q (below s.handed (subst (IsBelow s.handed) (sym is.was) (All-get_or (IsBelow s.handed) s.staff i.0 p is.range c.staff))) c.staff;
-    jobs = c.jobs;
-  }, tt);
+  told = λ c. (
+    record {
+      few = c.few;
+      staff = All-set (IsBelow s.handed) s.staff i.0 q (below s.handed (subst (IsBelow s.handed) (sym is.was) (All-get_or (IsBelow s.handed) s.staff i.0 p is.range c.staff))) c.staff;
+      jobs = c.jobs;
+    },
+    tt,
+  );
 }
 
 below_same : (p q : ParticipantState) → q.made ≡ p.made → q.plain ≡ p.plain → (most : ℕ) → IsBelow most p → IsBelow most q

@@ -10,3 +10,4 @@ pub mod Numbers
 pub mod Outs
 pub mod Adopting
 pub mod Delivering
+pub mod Fetching

@@ -32,16 +32,20 @@ deliver-requires-clause-fits g c κs within mine =
 
 pub invariant_of-self-in-Ok : goal.invariant_of-self-in-Ok
 invariant_of-self-in-Ok g c =
-    let lt = has_staff _ c.self.invariant.0 c.args.instance (rw (← c.self.view_is) at c.requires.instance) in
-    (accepted_scene c.args.voice c.args.instance c.args.message.now c.index_mut-participant.result.now c.deliver.new.self (is_accepted c.args.instance c.index_mut-participant.result.now c.reserve.new.self c.deliver.new.self c.args.message.now lt c.index_mut-participant.ensures.value c.reserve.ensures.rest c.in-Ok.ensures.ok)
-    (plain_accepted c.index_mut-participant.result.now c.reserve.new.self c.deliver.new.self c.args.message.now c.reserve.ensures.rest c.in-Ok.ensures.ok) (fault_before c.index_mut-participant.result.now c.reserve.new.self c.args.message.now None c.reserve.ensures.rest c.in-Ok.ensures.decides)
-    c.self.invariant.0 (rw (← c.self.view_is) at c.requires.bagged), c.self.invariant.1)
+    let lt = has_staff _ c.self.invariant.0 c.args.instance (rw (← c.self.view_is) at c.requires.instance) in (
+      accepted_scene c.args.voice c.args.instance c.args.message.now c.index_mut-participant.result.now c.deliver.new.self (is_accepted c.args.instance c.index_mut-participant.result.now c.reserve.new.self c.deliver.new.self c.args.message.now lt c.index_mut-participant.ensures.value c.reserve.ensures.rest c.in-Ok.ensures.ok)
+          (plain_accepted c.index_mut-participant.result.now c.reserve.new.self c.deliver.new.self c.args.message.now c.reserve.ensures.rest c.in-Ok.ensures.ok) (fault_before c.index_mut-participant.result.now c.reserve.new.self c.args.message.now None c.reserve.ensures.rest c.in-Ok.ensures.decides)
+          c.self.invariant.0 (rw (← c.self.view_is) at c.requires.bagged),
+      c.self.invariant.1,
+    )
 
 pub invariant_of-self-in-Err : goal.invariant_of-self-in-Err
 invariant_of-self-in-Err g c =
-    let lt = has_staff _ c.self.invariant.0 c.args.instance (rw (← c.self.view_is) at c.requires.instance) in
-    (same_scene c.args.instance c.index_mut-participant.result.now c.deliver.new.self (is_refused c.args.instance c.index_mut-participant.result.now c.reserve.new.self c.deliver.new.self lt c.index_mut-participant.ensures.value c.reserve.ensures.rest c.in-Err.ensures.err)
-    (ap (λ (r : ParticipantState). r.plain) c.in-Err.ensures.err ∙ plain_reserved c.index_mut-participant.result.now c.reserve.new.self c.reserve.ensures.rest) c.self.invariant.0, c.self.invariant.1)
+    let lt = has_staff _ c.self.invariant.0 c.args.instance (rw (← c.self.view_is) at c.requires.instance) in (
+      same_scene c.args.instance c.index_mut-participant.result.now c.deliver.new.self (is_refused c.args.instance c.index_mut-participant.result.now c.reserve.new.self c.deliver.new.self lt c.index_mut-participant.ensures.value c.reserve.ensures.rest c.in-Err.ensures.err)
+          (ap (λ (r : ParticipantState). r.plain) c.in-Err.ensures.err ∙ plain_reserved c.index_mut-participant.result.now c.reserve.new.self c.reserve.ensures.rest) c.self.invariant.0,
+      c.self.invariant.1,
+    )
 
 pub returns-in-Ok-clause-does : goal.returns-in-Ok-clause-does
 returns-in-Ok-clause-does g c =
