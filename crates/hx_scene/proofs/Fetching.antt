@@ -8,6 +8,7 @@ use Rattle.hx_ids.specs.declared.SessionId.{SessionId}
 use Rattle.hx_ids.specs.declared.MsgId.{MsgId}
 use Rattle.hx_cluster.specs.declared.state.Message.{Message}
 use Rattle.hx_cluster.specs.declared.state.Cluster.{Cluster}
+use Rattle.hx_cluster.specs.declared.happenings.Mail.{Mail}
 use Rattle.hx_cluster.specs.declared.happenings.Event.{Event}
 use Rattle.hx_cluster.specs.declared.happenings.Event.TheVariants as events
 use Rattle.hx_cluster.specs.Ends.{message_of}
@@ -43,19 +44,6 @@ use Rattle.hx_scene.proofs.Reaching.{reaches_as, cut_as, at_happened, happens_an
 use Rattle.hx_scene.proofs.Standing.{valid_in, stands_in, participant_is}
 use Rattle.hx_scene.proofs.Happening.{refused_as, stopped_here, made_here, room_is, scene_happened}
 
--- the session is the participant's, or is adopted
-pub follows_same : (i : InstanceId) (session : Option SessionId) (jobs : List OpenState) (staff : List ParticipantState) (p : ParticipantState) → i.0 < length staff → p ≡ slice_index_or staff i.0 p
-    → same_session p.plain.session session ≡ true → Follows i session jobs jobs staff staff
-follows_same i session jobs staff p lt was is x =
-    ap (λ (w : Participant). if same_session w.session session then with_parts jobs staff x else adopt_in i session (with_parts jobs staff x)) (participant_is staff i p lt was)
-    ∙ ap (λ (b : Bool). if b then with_parts jobs staff x else adopt_in i session (with_parts jobs staff x)) is
-
-pub follows_other : (i : InstanceId) (session : Option SessionId) (jobs later : List OpenState) (staff after : List ParticipantState) (p : ParticipantState) → i.0 < length staff
-    → p ≡ slice_index_or staff i.0 p → same_session p.plain.session session ≡ false → Adopts i session jobs later staff after → Follows i session jobs later staff after
-follows_other i session jobs later staff after p lt was is adopts x =
-    ap (λ (w : Participant). if same_session w.session session then with_parts jobs staff x else adopt_in i session (with_parts jobs staff x)) (participant_is staff i p lt was)
-    ∙ ap (λ (b : Bool). if b then with_parts jobs staff x else adopt_in i session (with_parts jobs staff x)) is ∙ adopts x
-
 -- the event
 abbrev pub fetch_event : SceneState → InstanceId → Event
 fetch_event s i = events.Fetch i (fetched s.board.cluster i).session (length (fetched s.board.cluster i).messages)
@@ -67,25 +55,44 @@ fetch_refused i s b p fault (Err x) same refused failed =
     subst (λ y. Fails (λ z. do_fetch i z) s p y (record s { board = b }) p) (sym failed)
     (refused_as (λ z. do_fetch i z) s b p fault 1 (λ full a. ap (λ r. and_then r (λ y. done (fetched_as i (fetched s.board.cluster i) y))) (stopped_here (fetch_event s i) (at s a) full)) same refused)
 
+pub event_made : (s : SceneState) (i : InstanceId) (b : Held) (mail : Mail) → mail ≡ fetched s.board.cluster i → b ≡ on_board s.board (events.Fetch i mail.session (length mail.messages))
+    → b ≡ on_board s.board (fetch_event s i)
+event_made s i b mail is made = made ∙ ap (λ (m : Mail). on_board s.board (events.Fetch i m.session (length m.messages))) is
+
+pub follows_mail : (s : SceneState) (i : InstanceId) (mail : Mail) (later : List OpenState) (after : List ParticipantState) → mail ≡ fetched s.board.cluster i
+    → Follows i mail.session s.jobs later s.staff after → Follows i (fetched s.board.cluster i).session s.jobs later s.staff after
+follows_mail s i mail later after is follows = subst (λ (m : Mail). Follows i m.session s.jobs later s.staff after) is follows
+
+pub puts_mail : (s : SceneState) (i : InstanceId) (mail : Mail) (bag room ms : List Message) → mail ≡ fetched s.board.cluster i → bag ≡ put_all room ms → room ≡ s.bag → ms ≡ mail.messages
+    → bag ≡ put_all s.bag (fetched s.board.cluster i).messages
+puts_mail s i mail bag room ms is put same all = put ∙ ap (λ xs. put_all xs ms) same ∙ ap (λ xs. put_all s.bag xs) (all ∙ ap (λ (m : Mail). m.messages) is)
+
 -- it was made, and maybe more of the operation done
-module _ {s : SceneState} (i : InstanceId) (b : Held) (made : b ≡ on_board s.board (fetch_event s i)) (free : fetch_refusal s.board ≡ None) where
+module _ (s : SceneState) (i : InstanceId) (b : Held) (made : b ≡ on_board s.board (fetch_event s i)) (free : fetch_refusal s.board ≡ None) where
   room : nat_lt s.board.limit (weight_at s.board + 1) ≡ false
   room = room_of s.board 1 rooms.HistoryFull free
 
-  pub event_scene : IsScene s → has_instance s.board.cluster i ≡ true → HasHistory b → IsScene (record s { board = b })
-  event_scene is there history =
+  scene_of_event : IsScene s → has_instance s.board.cluster i ≡ true → HasHistory b → IsScene (record s { board = b })
+  scene_of_event is there history =
       scene_happened b (fetch_event s i) s.board.cluster.line is history made
       (fetch_stands s.spec (valid_in s is) s.board.cluster.line i (at s (Answered [])) (stands_in s is (Answered [])) there (room_is s.board.limit (weight_at s.board + 1) room))
+
+  pub event_scene : (bag : List Message) → bag ≡ s.bag → IsScene s → has_instance s.board.cluster i ≡ true → HasHistory b → IsScene (record s { board = b; bag = bag })
+  event_scene bag same is there history = subst (λ (ms : List Message). IsScene (record s { board = b; bag = ms })) (sym same) (scene_of_event is there history)
 
   event_keeps : Keeps s (record s { board = b }) []
   event_keeps = record { lists = refl; lines = ap (λ (c : Held). c.lines) made; told = λ c. (record { few = c.few; staff = c.staff; jobs = c.jobs }, tt) }
 
-  pub event_alone : {R : Type 0} (p : List ℕ) (result : Result R RoomFault) → IsErrAnd result (λ x. x ≡ rooms.OutOfMemory) → DoesDeed (λ x. do_fetch i x) s p (record s { board = b }) p result
-  event_alone p (Ok x) failed = absurd failed
-  event_alone p (Err x) failed =
+  alone : {R : Type 0} (p : List ℕ) (result : Result R RoomFault) → IsErrAnd result (λ x. x ≡ rooms.OutOfMemory) → DoesDeed (λ x. do_fetch i x) s p (record s { board = b }) p result
+  alone p (Ok x) failed = absurd failed
+  alone p (Err x) failed =
       subst (λ y. Fails (λ x. do_fetch i x) s p y (record s { board = b }) p) (sym failed)
       (cut_as (λ a. refl)
       (happens_and_cut (fetch_event s i) (λ y. done (fetched_as i (fetched s.board.cluster i) y)) [] s (record s { board = b }) p p room made refl event_keeps (puts_none (entry_text s.spec s.board.cluster (fetch_event s i)) p)))
+
+  pub event_alone : {R : Type 0} (bag : List Message) → bag ≡ s.bag → (p : List ℕ) (result : Result R RoomFault) → IsErrAnd result (λ x. x ≡ rooms.OutOfMemory)
+      → DoesDeed (λ x. do_fetch i x) s p (record s { board = b; bag = bag }) p result
+  event_alone bag same p result failed = subst (λ (ms : List Message). DoesDeed (λ x. do_fetch i x) s p (record s { board = b; bag = ms }) p result) (sym same) (alone p result failed)
 
   module _ (later : List OpenState) (after : List ParticipantState) (bag : List Message) (follows : Follows i (fetched s.board.cluster i).session s.jobs later s.staff after)
       (kept : KeepsParts s.jobs later s.staff after) (put : bag ≡ put_all s.bag (fetched s.board.cluster i).messages) where
@@ -175,10 +182,15 @@ module _ (c : Cluster) (P : Message → Type 0) (alike : (m n : Message) → P m
   each_one [] all bag = tt
   each_one (m ∷ ms) all bag = (stays ms all.1 (put_in_bag bag m) m all.0 (put_found bag m), each_one ms all.1 (put_in_bag bag m))
 
-pub all_bagged : (s : SceneState) → IsScene s → (i : InstanceId) (bag : List Message) → bag ≡ put_all s.bag (fetched s.board.cluster i).messages → All (IsBagged bag) (fetched s.board.cluster i).messages
+all_bagged : (s : SceneState) → IsScene s → (i : InstanceId) (bag : List Message) → bag ≡ put_all s.bag (fetched s.board.cluster i).messages → All (IsBagged bag) (fetched s.board.cluster i).messages
 all_bagged s is i bag put =
     let c = s.board.cluster in
     let k = kept_now s.spec (valid_in s is) s.board.cluster.line (at s Missing) (stands_in s is Missing) in
     subst (λ (xs : List Message). All (IsBagged xs) (fetched s.board.cluster i).messages) (sym put)
     (each-all (IsBagged (put_all s.bag (fetched s.board.cluster i).messages)) (fetched s.board.cluster i).messages
     (each_one c (λ m. message_of c.mail m.session m.part ≡ Some m) (λ m n a b e. one_number c k m.session n.session m.part n.part m n a b e) (fetched s.board.cluster i).messages (mail_found c k (session_of c i)) s.bag))
+
+pub mail_bagged : (s : SceneState) → IsScene s → (i : InstanceId) (mail : Mail) (bag ms : List Message) → mail ≡ fetched s.board.cluster i → ms ≡ mail.messages
+    → bag ≡ put_all s.bag (fetched s.board.cluster i).messages → All (IsBagged bag) ms
+mail_bagged s is i mail bag ms same all put =
+    subst (λ (xs : List Message). All (IsBagged bag) xs) (sym (all ∙ ap (λ (m : Mail). m.messages) same)) (all_bagged s is i bag put)
