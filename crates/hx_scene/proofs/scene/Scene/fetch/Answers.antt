@@ -24,11 +24,10 @@ invariant_of-self-in_err-reserve g c =
       jobs = c.self.inside.jobs.items;
       bag = c.self.inside.bag.items;
       handed = c.self.inside.handed;
-    } in
-    (
-    event_scene s c.args.instance c.fetch.new.self (event_made s c.args.instance c.fetch.new.self c.in_ok-mail.mail c.in_ok-mail.ensures.mail c.in_ok-mail.ensures.ok) c.in_ok-mail.ensures.refused c.reserve.new.self.items c.reserve.ensures.items c.self.invariant.0 (rw (← c.self.view_is) at c.requires)
-    c.history.ensures.history,
-    c.self.invariant.1,
+    } in (
+      event_scene s c.args.instance c.fetch.new.self (event_made s c.args.instance c.fetch.new.self c.in_ok-mail.mail c.in_ok-mail.ensures.mail c.in_ok-mail.ensures.ok) c.in_ok-mail.ensures.refused c.reserve.new.self.items c.reserve.ensures.items c.self.invariant.0 (rw (← c.self.view_is) at c.requires)
+          c.history.ensures.history,
+      c.self.invariant.1,
     )
 
 pub returns-in_err-reserve-clause-does : goal.returns-in_err-reserve-clause-does
@@ -59,10 +58,9 @@ invariant_of-self-2 g c =
       jobs = c.self.inside.jobs.items;
       bag = c.self.inside.bag.items;
       handed = c.self.inside.handed;
-    } in
-    (
-    is_fetched_scene s c.args.instance c.fetch.new.self (event_made s c.args.instance c.fetch.new.self c.in_ok-mail.mail c.in_ok-mail.ensures.mail c.in_ok-mail.ensures.ok) c.in_ok-mail.ensures.refused c.follow.new.jobs.items c.follow.new.participants.items c.put_all.new.bag.items (follows_mail s c.args.instance c.in_ok-mail.mail c.follow.new.jobs.items c.follow.new.participants.items c.in_ok-mail.ensures.mail c.follow.ensures.follows) c.follow.ensures.kept (puts_mail s c.args.instance c.in_ok-mail.mail c.put_all.new.bag.items c.reserve.new.self.items c.as_slice.result.now c.in_ok-mail.ensures.mail c.put_all.ensures c.reserve.ensures.items c.as_slice.ensures) c.self.invariant.0 (rw (← c.self.view_is) at c.requires) c.history.ensures.history,
-    c.self.invariant.1,
+    } in (
+      is_fetched_scene s c.args.instance c.fetch.new.self (event_made s c.args.instance c.fetch.new.self c.in_ok-mail.mail c.in_ok-mail.ensures.mail c.in_ok-mail.ensures.ok) c.in_ok-mail.ensures.refused c.follow.new.jobs.items c.follow.new.participants.items c.put_all.new.bag.items (follows_mail s c.args.instance c.in_ok-mail.mail c.follow.new.jobs.items c.follow.new.participants.items c.in_ok-mail.ensures.mail c.follow.ensures.follows) c.follow.ensures.kept (puts_mail s c.args.instance c.in_ok-mail.mail c.put_all.new.bag.items c.reserve.new.self.items c.as_slice.result.now c.in_ok-mail.ensures.mail c.put_all.ensures c.reserve.ensures.items c.as_slice.ensures) c.self.invariant.0 (rw (← c.self.view_is) at c.requires) c.history.ensures.history,
+      c.self.invariant.1,
     )
 
 pub returns-in_err-print_last-clause-does : goal.returns-in_err-print_last-clause-does
