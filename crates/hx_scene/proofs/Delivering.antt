@@ -1,6 +1,6 @@
 -- A message is delivered: it is accepted or noted, and the scene stays one.
-use Rattle.std.proofs.Common.{◌≡◌, ℕ, ◌+◌, ◌≤◌, ◌<◌, ◌==◌, Bool, true, false, List, [], ◌∷◌, find, map, length, Option, None, Some, refl, sym, ap, subst, ◌∙◌, arith}
-use Rattle.std.specs.Prelude.{if◌then◌else◌, slice_set, slice_index_or, Result, Ok, Err, IsErrAnd}
+use Rattle.std.proofs.Common.{◌≡◌, ℕ, ◌≤◌, ◌<◌, Bool, true, false, List, [], ◌∷◌, length, Option, None, Some, refl, sym, ap, subst, ◌∙◌}
+use Rattle.std.specs.Prelude.{slice_set, slice_index_or, Result, Ok, Err, IsErrAnd}
 use Rattle.std.specs.List.{All}
 use Rattle.std.proofs.lemmas.List.{map-set}
 use Rattle.std.proofs.Math.Seq.{map-set_same}
@@ -9,13 +9,12 @@ use Rattle.hx_ids.specs.declared.InstanceId.{InstanceId}
 use Rattle.hx_ids.specs.declared.PartId.{PartId}
 use Rattle.hx_cluster.specs.declared.state.Message.{Message}
 use Rattle.hx_cluster.specs.Ends.{part_eq}
-use Rattle.hx_cluster.specs.Steps.{has_instance}
 use Rattle.hx_handler.specs.Makings.{tried_of}
 use Rattle.hx_print.specs.Texts.{accept_text}
 use Rattle.hx_board.specs.declared.faults.RoomFault.{RoomFault}
 use Rattle.hx_board.specs.declared.faults.RoomFault.TheVariants as rooms
 use Rattle.hx_replicas.specs.declared.DeliverFault.{DeliverFault}
-use Rattle.hx_replicas.specs.Participants.{Participant, Slot, new_slot, slot_of, slot_in, Fits, deliver_fault, accept, accepted}
+use Rattle.hx_replicas.specs.Participants.{Participant, Slot, slot_of, slot_in, Fits, deliver_fault, accept, accepted}
 use Rattle.hx_replicas.specs.Jobs.{ParticipantState}
 use Rattle.hx_worlds.specs.World.{Answers, Missing, State, participant_of, with_participant}
 use Rattle.hx_worlds.specs.declared.Voice.{Voice}
@@ -26,10 +25,10 @@ use Rattle.hx_scripted.proofs.Keeping.{Keeps as Leaves}
 use Rattle.hx_agreed.proofs.DoingTurns.{Stands}
 use Rattle.hx_agreed.proofs.Operations.{fits, deliver_keeps}
 use Rattle.hx_scene.specs.Scenes.{SceneState, IsBagged, at, world_of, lists_of}
-use Rattle.hx_scene.specs.Doing.{IsBelow, IsRunsBelow, IsCounted, Keeps, Reaches, IsCut, Fails, DoesDeed}
+use Rattle.hx_scene.specs.Doing.{IsBelow, IsRunsBelow, Keeps, Reaches, IsCut, Fails, DoesDeed}
 use Rattle.hx_scene.specs.Kept.{IsScene, IsListed}
 use Rattle.hx_scene.proofs.Reaching.{one_step, cut_after, cut_here}
-use Rattle.hx_scene.proofs.Standing.{valid_in, stands_in, has_staff, participant_is}
+use Rattle.hx_scene.proofs.Standing.{valid_in, stands_in, participant_is}
 use Rattle.hx_scene.proofs.Ending.{all-put}
 
 -- a participant in the place of one

@@ -1,11 +1,9 @@
 -- Messages are fetched: an event happens, its session is adopted, and the messages go into the bag.
-use Rattle.std.proofs.Common.{◌≡◌, ℕ, ◌+◌, ◌≤◌, ◌<◌, ◌⊎◌, ◌==◌, Bool, true, false, List, [], ◌∷◌, ◌++◌, find, map, length, Option, None, Some, refl, sym, ap, subst, ◌∙◌, arith}
-use Rattle.std.specs.Prelude.{if◌then◌else◌, nat_lt, slice_index_or, Result, Ok, Err, IsErrAnd}
+use Rattle.std.proofs.Common.{◌≡◌, ℕ, ◌+◌, ◌⊎◌, ◌==◌, Bool, true, false, List, [], ◌∷◌, ◌++◌, find, length, None, Some, refl, sym, ap, subst, ◌∙◌, arith}
+use Rattle.std.specs.Prelude.{nat_lt, Result, Ok, Err, IsErrAnd}
 use Rattle.std.specs.List.{All}
 use Rattle.std.proofs.lemmas.Bool.Decides.{nat_tests}
 use Rattle.hx_ids.specs.declared.InstanceId.{InstanceId}
-use Rattle.hx_ids.specs.declared.SessionId.{SessionId}
-use Rattle.hx_ids.specs.declared.MsgId.{MsgId}
 use Rattle.hx_cluster.specs.declared.state.Message.{Message}
 use Rattle.hx_cluster.specs.declared.state.Cluster.{Cluster}
 use Rattle.hx_cluster.specs.declared.happenings.Mail.{Mail}
@@ -14,34 +12,33 @@ use Rattle.hx_cluster.specs.declared.happenings.Event.TheVariants as events
 use Rattle.hx_cluster.specs.Ends.{message_of}
 use Rattle.hx_cluster.specs.Reads.{fetched}
 use Rattle.hx_cluster.specs.Steps.{has_instance, session_of}
-use Rattle.hx_text.specs.Texts.{Prints, PutsFront}
+use Rattle.hx_text.specs.Texts.{Prints}
 use Rattle.hx_print.specs.Texts.{event_text, entry_text}
 use Rattle.hx_board.specs.declared.faults.RoomFault.{RoomFault}
 use Rattle.hx_board.specs.declared.faults.RoomFault.TheVariants as rooms
 use Rattle.hx_board.specs.Board.{Held, HasHistory, weight_at}
 use Rattle.hx_board.specs.Board.{happened as on_board}
-use Rattle.hx_board.specs.Refusals.{full, fetch_refusal}
+use Rattle.hx_board.specs.Refusals.{fetch_refusal}
 use Rattle.hx_replicas.specs.Jobs.{ParticipantState}
-use Rattle.hx_replicas.specs.Participants.{Participant, new_participant}
 use Rattle.hx_safe.proofs.Ends.{same-self}
-use Rattle.hx_worlds.specs.World.{State, Answers, Answered, Missing, participant_of}
-use Rattle.hx_worlds.specs.Runs.{Deed, done, and_then, make, happen, happened}
-use Rattle.hx_worlds.specs.Jobs.{do_fetch, fetched_as, bagged, same_session, adopt_in, put_in_bag, put_all}
+use Rattle.hx_worlds.specs.World.{State, Answers, Answered, Missing}
+use Rattle.hx_worlds.specs.Runs.{done, and_then, make, happened}
+use Rattle.hx_worlds.specs.Jobs.{do_fetch, fetched_as, bagged, put_in_bag, put_all}
 use Rattle.hx_scripted.proofs.Keeping.{Keeps as Leaves}
 use Rattle.hx_agreed.specs.InStep.{Each}
-use Rattle.hx_agreed.proofs.Lists.{each-all, each-le}
+use Rattle.hx_agreed.proofs.Lists.{each-all}
 use Rattle.hx_agreed.proofs.Frames.{one_number}
 use Rattle.hx_agreed.proofs.Fetching.{mail_found}
 use Rattle.hx_agreed.proofs.DoingTurns.{Stands}
 use Rattle.hx_agreed.proofs.DoingLines.{kept_now}
 use Rattle.hx_agreed.proofs.Operations.{fetch_stands, fetch_keeps}
-use Rattle.hx_scene.specs.Scenes.{SceneState, OpenState, IsBagged, at, world_of, lists_of}
+use Rattle.hx_scene.specs.Scenes.{SceneState, OpenState, IsBagged, at, lists_of}
 use Rattle.hx_scene.specs.Advances.{no_roll}
-use Rattle.hx_scene.specs.Doing.{IsCounted, Keeps, Ends, IsCut, Fails, DoesDeed}
+use Rattle.hx_scene.specs.Doing.{Keeps, Ends, Fails, DoesDeed}
 use Rattle.hx_scene.specs.Kept.{IsScene, IsListed}
-use Rattle.hx_scene.specs.Ending.{KeepsParts, Adopts, Follows, with_parts, plain_staff}
+use Rattle.hx_scene.specs.Ending.{KeepsParts, Follows}
 use Rattle.hx_scene.proofs.Reaching.{reaches_as, cut_as, at_happened, happens_and, happens_and_cut, room_of, puts_none}
-use Rattle.hx_scene.proofs.Standing.{valid_in, stands_in, participant_is}
+use Rattle.hx_scene.proofs.Standing.{valid_in, stands_in}
 use Rattle.hx_scene.proofs.Happening.{refused_as, stopped_here, made_here, room_is, scene_happened}
 
 -- the event

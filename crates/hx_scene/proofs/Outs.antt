@@ -1,7 +1,7 @@
 -- Open jobs are out, and end one after another.
-use Rattle.std.proofs.Common.{◌≡◌, ℕ, zero, suc, ◌+◌, ◌≤◌, ◌<◌, ◌&&◌, ◌||◌, ◌==◌, not, Bool, true, false, List, [], ◌∷◌, ◌++◌, filter, find, map, take, drop, length, Option, Some, None, inl, inr, refl, sym, ap, ◌∙◌, subst, append_assoc, arith}
-use Rattle.std.specs.Prelude.{if◌then◌else◌, is_some, slice_get, slice_set, slice_index_or, ◌⊎◌}
-use Rattle.std.specs.List.{list_any, list_all}
+use Rattle.std.proofs.Common.{◌≡◌, ℕ, suc, ◌≤◌, ◌<◌, ◌&&◌, ◌||◌, ◌==◌, not, Bool, true, false, List, [], ◌∷◌, ◌++◌, filter, find, map, length, Option, Some, inl, inr, refl, sym, ap, ◌∙◌, subst, append_assoc, arith}
+use Rattle.std.specs.Prelude.{is_some, slice_index_or, ◌⊎◌}
+use Rattle.std.specs.List.{list_any}
 use Rattle.std.proofs.lemmas.Bool.Decides.{nat_tests}
 use Rattle.hx_lists.specs.Lists.{count, insert_by, sort_by}
 use Rattle.hx_ids.specs.declared.InstanceId.{InstanceId}
@@ -13,7 +13,7 @@ use Rattle.hx_replicas.specs.declared.slots.Work.TheVariants.{Out}
 use Rattle.hx_replicas.specs.Participants.{Participant, Slot, new_participant, slot_of, is_out, any_out, finish}
 use Rattle.hx_replicas.specs.Layout.{AreDistinct}
 use Rattle.hx_worlds.specs.World.{State, Job, participant_of}
-use Rattle.hx_worlds.specs.Jobs.{is_job, is_job_of, job_before, end_job, end_jobs, jobs_of}
+use Rattle.hx_worlds.specs.Jobs.{is_job, is_job_of, job_before, end_job}
 use Rattle.hx_safe.proofs.Counting.{and-first, and-second, and-both, any-append, none-from-all, count-filter}
 use Rattle.hx_safe.proofs.Ends.{same-self, find-filter_kept}
 use Rattle.hx_safe.proofs.Ideals.{length-put}
@@ -22,7 +22,7 @@ use Rattle.hx_agreed.specs.InStep.{Each, of_instance, IsHeldJob}
 use Rattle.hx_agreed.proofs.Lists.{each-le, each-filter, in_range}
 use Rattle.hx_agreed.proofs.Slots.{all_slots}
 use Rattle.hx_agreed.proofs.Replicas.{others_put}
-use Rattle.hx_agreed.proofs.Fetching.{distinct_left, of_instance_all}
+use Rattle.hx_agreed.proofs.Fetching.{distinct_left}
 use Rattle.hx_agreed.proofs.DoingTurns.{Stands}
 use Rattle.hx_agreed.proofs.Operations.{IsOutOf, each_mid, one_out, was_out, finished_here, others_out, jobs_out, job_of_part}
 

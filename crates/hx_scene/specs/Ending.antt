@@ -1,5 +1,5 @@
 -- How open jobs end: what is needed of them, and what becomes of the jobs and the participants.
-use Rattle.std.specs.Prelude.{◌≡◌, ◌<◌, ℕ, true, false, List, map, length, Option, Some, is_some, slice_set, slice_index_or, if◌then◌else◌}
+use Rattle.std.specs.Prelude.{◌≡◌, ◌<◌, ℕ, false, List, map, length, Option, Some, is_some, slice_set, slice_index_or, if◌then◌else◌}
 use Rattle.std.specs.List.{All}
 use Rattle.std.specs.Option.{ForSome}
 use Rattle.hx_ids.specs.declared.InstanceId.{InstanceId}

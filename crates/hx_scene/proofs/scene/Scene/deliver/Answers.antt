@@ -1,4 +1,4 @@
-use Rattle.std.proofs.Common.{◌≡◌, ◌<◌, length, arith, None, Some, ap, sym, subst, ◌∙◌}
+use Rattle.std.proofs.Common.{arith, None, Some, ap, sym, subst, ◌∙◌}
 use Rattle.hx_replicas.specs.Participants.{Participant, Fits}
 use Rattle.hx_replicas.specs.Jobs.{ParticipantState}
 use Rattle.hx_scene.specs.Scenes.{SceneState}

@@ -1,4 +1,3 @@
-use Rattle.std.proofs.Common.{◌≡◌, ap, sym, ◌∙◌}
 use Rattle.hx_scene.specs.Scenes.{SceneState}
 use Rattle.hx_scene.proofs.Standing.{has_staff}
 use Rattle.hx_scene.proofs.Happening.{memory_wanted}

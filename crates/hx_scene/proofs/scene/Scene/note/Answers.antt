@@ -1,8 +1,8 @@
-use Rattle.std.proofs.Common.{◌≡◌, ◌+◌, ℕ, List, length, refl, sym, ap, ◌∙◌}
+use Rattle.std.proofs.Common.{ap, ◌∙◌}
 use Rattle.hx_worlds.specs.declared.Voice.{Voice}
-use Rattle.hx_worlds.specs.Runs.{say, say_if_loud, note}
+use Rattle.hx_worlds.specs.Runs.{note}
 use Rattle.hx_scene.specs.Scenes.{SceneState, at}
-use Rattle.hx_scene.proofs.Saying.{say_full, say_cut, say_whole, say_nothing, same_text, same_line}
+use Rattle.hx_scene.proofs.Saying.{say_full, say_cut, say_whole, say_nothing, same_text}
 use Rattle.hx_print.specs.Texts.{note_text}
 use Rattle.hx_scene.proofs.scene.Scene.note.Goals as goal
 

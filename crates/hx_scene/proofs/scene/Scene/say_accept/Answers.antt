@@ -1,8 +1,8 @@
-use Rattle.std.proofs.Common.{◌≡◌, ◌+◌, ℕ, List, length, refl, sym, ap, ◌∙◌}
+use Rattle.std.proofs.Common.{ap, ◌∙◌}
 use Rattle.hx_worlds.specs.declared.Voice.{Voice}
-use Rattle.hx_worlds.specs.Runs.{say, say_if_loud, note}
+use Rattle.hx_worlds.specs.Runs.{say_if_loud}
 use Rattle.hx_scene.specs.Scenes.{SceneState, at}
-use Rattle.hx_scene.proofs.Saying.{say_full, say_cut, say_whole, say_nothing, same_text, same_line}
+use Rattle.hx_scene.proofs.Saying.{say_full, say_cut, say_whole, say_nothing, same_text}
 use Rattle.hx_print.specs.Texts.{accept_text}
 use Rattle.hx_scene.proofs.scene.Scene.say_accept.Goals as goal
 
