@@ -1,13 +1,12 @@
 -- The open jobs of an instance end in order, and its participant adopts a session.
-use Rattle.std.proofs.Common.{◌≡◌, ℕ, zero, suc, ◌+◌, ◌≤◌, ◌<◌, ◌==◌, not, Bool, true, false, List, [], ◌∷◌, ◌++◌, filter, find, map, take, drop, length, get_or, Option, Some, None, refl, sym, ap, ◌∙◌, subst, drop-cons, add-one, arith}
-use Rattle.std.specs.Prelude.{is_some, is_none, slice_get, slice_set, slice_index_or, nat_lt}
+use Rattle.std.proofs.Common.{◌≡◌, ℕ, zero, suc, ◌+◌, ◌≤◌, ◌<◌, not, Bool, true, false, List, [], ◌∷◌, ◌++◌, filter, find, map, take, drop, length, get_or, Option, Some, None, refl, sym, ap, ◌∙◌, subst, add-one, arith}
+use Rattle.std.specs.Prelude.{is_some, slice_get, slice_set, slice_index_or}
 use Rattle.std.specs.List.{All, position}
 use Rattle.std.specs.Option.{option_map, ForSome}
 use Rattle.std.proofs.lemmas.List.{take_more, drop_more, map-set, get_or-map, length-map, take_all}
 use Rattle.std.proofs.Math.Seq.{map-set_same}
-use Rattle.std.proofs.lemmas.Option.{slice_get-map, slice_get_within, slice_get-get_or, get_or_from_slice_get}
+use Rattle.std.proofs.lemmas.Option.{slice_get-map, slice_get_within, get_or_from_slice_get}
 use Rattle.std.proofs.lemmas.List.Elements.{All-get_or, All-set, All-map}
-use Rattle.std.proofs.lemmas.Bool.Decides.{nat_tests}
 use Rattle.hx_lists.specs.Lists.{sort_by}
 use Rattle.hx_ids.specs.declared.InstanceId.{InstanceId}
 use Rattle.hx_ids.specs.declared.SessionId.{SessionId}
@@ -20,17 +19,17 @@ use Rattle.hx_handler.specs.Makings.{tried_of}
 use Rattle.hx_replicas.specs.declared.slots.Work.TheVariants.{Out}
 use Rattle.hx_replicas.specs.Participants.{Participant, Slot, new_participant, slot_of, any_out, finish, adopt, emptied}
 use Rattle.hx_replicas.specs.Jobs.{ParticipantState, runs_of}
-use Rattle.hx_replicas.proofs.Searching.{found-in, found-passes, found-first, found-none, find-map}
+use Rattle.hx_replicas.proofs.Searching.{found-in, found-first, found-none, find-map}
 use Rattle.hx_worlds.specs.World.{State, Job, Missing, participant_of}
-use Rattle.hx_worlds.specs.Jobs.{is_job, is_job_of, job_before, end_job, end_jobs, jobs_of, adopt_in, adopted}
-use Rattle.hx_agreed.specs.InStep.{Each, of_instance}
+use Rattle.hx_worlds.specs.Jobs.{is_job, is_job_of, job_before, end_job, end_jobs, jobs_of, adopted}
+use Rattle.hx_agreed.specs.InStep.{of_instance}
 use Rattle.hx_safe.proofs.Ideals.{length-put}
 use Rattle.hx_agreed.proofs.Changes.{instance_same}
 use Rattle.hx_agreed.proofs.Operations.{IsOutOf, each_get, ended_none_out}
-use Rattle.hx_scene.specs.Scenes.{SceneState, OpenState, plain_job, new_staff, at}
+use Rattle.hx_scene.specs.Scenes.{OpenState, plain_job, new_staff, at}
 use Rattle.hx_scene.specs.Doing.{IsBelow, IsRunsBelow}
-use Rattle.hx_scene.specs.Kept.{IsScene, IsListed}
-use Rattle.hx_scene.specs.Ending.{CanEnd, AreOfScene, KeepsParts, AreBelow, Adopts, IsAtRest, ended_staff, plain_staff, staff_in, with_parts}
+use Rattle.hx_scene.specs.Kept.{IsListed}
+use Rattle.hx_scene.specs.Ending.{CanEnd, AreOfScene, KeepsParts, Adopts, IsAtRest, ended_staff, plain_staff, staff_in, with_parts}
 use Rattle.hx_scene.proofs.Standing.{valid_in, stands_in, participant_is, staff_has}
 use Rattle.hx_scene.proofs.Outs.{AreOut, AreLeft, is_same_job, out_there, jobs_after, one_ended, none_out, left_first, left_next}
 

@@ -1,5 +1,5 @@
 -- A job that goes back to its participant.
-use Rattle.std.proofs.Common.{◌≡◌, ℕ, ◌+◌, ◌<◌, ◌≤◌, Bool, true, false, List, [], ◌∷◌, ◌++◌, map, take, drop, length, Option, None, Some, refl, sym, ap, subst, ◌∙◌, arith}
+use Rattle.std.proofs.Common.{◌≡◌, ℕ, ◌+◌, ◌<◌, ◌≤◌, Bool, true, false, List, [], ◌∷◌, ◌++◌, take, drop, length, Option, None, Some, refl, sym, ap, subst, ◌∙◌}
 use Rattle.std.specs.Prelude.{if◌then◌else◌, ◌==◌, is_some, slice_get, slice_set, slice_index_or}
 use Rattle.std.specs.List.{All}
 use Rattle.std.specs.Option.{ForSome}
@@ -10,7 +10,6 @@ use Rattle.std.proofs.lemmas.List.Elements.{All-append, All-take, All-drop, All-
 use Rattle.hx_ids.specs.declared.StateId.{StateId}
 use Rattle.hx_ids.specs.declared.PartId.{PartId}
 use Rattle.hx_model.specs.Model.{dropped}
-use Rattle.hx_cluster.specs.declared.description.Failure.{Failure}
 use Rattle.hx_cluster.specs.Ends.{part_eq}
 use Rattle.hx_handler.specs.Makings.{tried_of}
 use Rattle.hx_replicas.specs.declared.slots.Work.TheVariants.{Out}
@@ -19,9 +18,9 @@ use Rattle.hx_replicas.specs.Jobs.{ParticipantState, runs_of}
 use Rattle.hx_scene.specs.Scenes.{OpenState, plain_job, new_staff}
 use Rattle.hx_scene.specs.Doing.{IsBelow, IsRunsBelow}
 use Rattle.hx_scene.specs.Kept.{IsListed}
-use Rattle.hx_scene.specs.Ending.{CanEnd, KeepsParts, AreBelow, ended_staff, plain_staff, staff_in}
+use Rattle.hx_scene.specs.Ending.{CanEnd, KeepsParts, ended_staff, plain_staff, staff_in}
 
-all-put : (P : Slot → Type 0) (y : Slot) (xs : List Slot) → P y → All P xs → All P (put_slot xs y)
+pub all-put : (P : Slot → Type 0) (y : Slot) (xs : List Slot) → P y → All P xs → All P (put_slot xs y)
 all-put P y [] here all = All-cons P y [] here (All-nil P)
 all-put P y (x ∷ xs) here all = one (part_eq x.part y.part) refl (all-put P y xs here (All-tail P x xs all))
   where

@@ -14,3 +14,5 @@ pub mod Taking
 pub mod Taken
 pub mod Written
 pub mod Acked
+pub mod Delivering
+pub mod Fetching

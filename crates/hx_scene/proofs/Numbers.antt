@@ -1,6 +1,6 @@
 -- The numbers of an instance's jobs, put in order from the last job on.
-use Rattle.std.proofs.Common.{◌≡◌, ℕ, suc, ◌<◌, Bool, true, false, List, [], ◌∷◌, filter, map, drop, length, get_or, refl, sym, ap, subst, ◌∙◌, arith, drop-cons}
-use Rattle.std.specs.Prelude.{if◌then◌else◌, nat_lt}
+use Rattle.std.proofs.Common.{◌≡◌, ℕ, suc, ◌<◌, Bool, true, false, List, [], ◌∷◌, filter, map, drop, length, get_or, refl, ap, drop-cons}
+use Rattle.std.specs.Prelude.{nat_lt}
 use Rattle.hx_lists.specs.Lists.{sort_by, insert_by}
 use Rattle.hx_ids.specs.declared.InstanceId.{InstanceId}
 use Rattle.hx_ids.specs.declared.MsgId.{MsgId}

@@ -1,7 +1,7 @@
 -- Open jobs are out, and end one after another.
-use Rattle.std.proofs.Common.{◌≡◌, ℕ, zero, suc, ◌+◌, ◌≤◌, ◌<◌, ◌&&◌, ◌||◌, ◌==◌, not, Bool, true, false, List, [], ◌∷◌, ◌++◌, filter, find, map, take, drop, length, Option, Some, None, inl, inr, refl, sym, ap, ◌∙◌, subst, append_assoc, arith}
-use Rattle.std.specs.Prelude.{if◌then◌else◌, is_some, slice_get, slice_set, slice_index_or, ◌⊎◌}
-use Rattle.std.specs.List.{list_any, list_all}
+use Rattle.std.proofs.Common.{◌≡◌, ℕ, suc, ◌≤◌, ◌<◌, ◌&&◌, ◌||◌, ◌==◌, not, Bool, true, false, List, [], ◌∷◌, ◌++◌, filter, find, map, length, Option, Some, inl, inr, refl, sym, ap, ◌∙◌, subst, append_assoc, arith}
+use Rattle.std.specs.Prelude.{is_some, slice_index_or, ◌⊎◌}
+use Rattle.std.specs.List.{list_any}
 use Rattle.std.proofs.lemmas.Bool.Decides.{nat_tests}
 use Rattle.hx_lists.specs.Lists.{count, insert_by, sort_by}
 use Rattle.hx_ids.specs.declared.InstanceId.{InstanceId}
@@ -13,7 +13,7 @@ use Rattle.hx_replicas.specs.declared.slots.Work.TheVariants.{Out}
 use Rattle.hx_replicas.specs.Participants.{Participant, Slot, new_participant, slot_of, is_out, any_out, finish}
 use Rattle.hx_replicas.specs.Layout.{AreDistinct}
 use Rattle.hx_worlds.specs.World.{State, Job, participant_of}
-use Rattle.hx_worlds.specs.Jobs.{is_job, is_job_of, job_before, end_job, end_jobs, jobs_of}
+use Rattle.hx_worlds.specs.Jobs.{is_job, is_job_of, job_before, end_job}
 use Rattle.hx_safe.proofs.Counting.{and-first, and-second, and-both, any-append, none-from-all, count-filter}
 use Rattle.hx_safe.proofs.Ends.{same-self, find-filter_kept}
 use Rattle.hx_safe.proofs.Ideals.{length-put}
@@ -22,7 +22,7 @@ use Rattle.hx_agreed.specs.InStep.{Each, of_instance, IsHeldJob}
 use Rattle.hx_agreed.proofs.Lists.{each-le, each-filter, in_range}
 use Rattle.hx_agreed.proofs.Slots.{all_slots}
 use Rattle.hx_agreed.proofs.Replicas.{others_put}
-use Rattle.hx_agreed.proofs.Fetching.{distinct_left, of_instance_all}
+use Rattle.hx_agreed.proofs.Fetching.{distinct_left}
 use Rattle.hx_agreed.proofs.DoingTurns.{Stands}
 use Rattle.hx_agreed.proofs.Operations.{IsOutOf, each_mid, one_out, was_out, finished_here, others_out, jobs_out, job_of_part}
 
@@ -201,10 +201,11 @@ find_mid {X} p (y ∷ before) after x here few = one (p y) refl (find_mid p befo
 
 found_from : (before js : List Job) → Each (λ j. count (is_same_job j) (before ++ js) ≡ 1) js → Each (λ j. find (is_same_job j) (before ++ js) ≡ Some j) js
 found_from before [] all = tt
-found_from before (j ∷ js) all =
-    (find_mid (is_same_job j) before js j (self_same j) (let e = all.0 in omega (arith, e)),
-    subst (λ (ks : List Job). Each (λ k. find (is_same_job k) ks ≡ Some k) js) (append_assoc before (j ∷ []) js)
-    (found_from (before ++ j ∷ []) js (subst (λ (ks : List Job). Each (λ k. count (is_same_job k) ks ≡ 1) js) (sym (append_assoc before (j ∷ []) js)) all.1)))
+found_from before (j ∷ js) all = (
+  find_mid (is_same_job j) before js j (self_same j) (let e = all.0 in omega (arith, e)),
+  subst (λ (ks : List Job). Each (λ k. find (is_same_job k) ks ≡ Some k) js) (append_assoc before (j ∷ []) js)
+      (found_from (before ++ j ∷ []) js (subst (λ (ks : List Job). Each (λ k. count (is_same_job k) ks ≡ 1) js) (sym (append_assoc before (j ∷ []) js)) all.1)),
+)
 
 none-counted : {X : Type 0} (p : X → Bool) (xs : List X) → count p xs ≤ 0 → list_any p xs ≡ false
 none-counted p [] e = refl
@@ -212,9 +213,10 @@ none-counted p (x ∷ xs) e = grind (arith, e, none-counted p xs)
 
 apart_from : (js : List Job) → Each (λ j. count (is_same_job j) js ≤ 1) js → Apart js
 apart_from [] all = tt
-apart_from (j ∷ js) all =
-    (none-counted (is_same_job j) js (let e = all.0 in let here = self_same j in grind (arith, e, here)),
-    apart_from js (each-le (λ m. count (is_same_job m) (j ∷ js) ≤ 1) (λ m. count (is_same_job m) js ≤ 1) (λ m few. fewer m few (is_same_job m j) refl) js all.1))
+apart_from (j ∷ js) all = (
+  none-counted (is_same_job j) js (let e = all.0 in let here = self_same j in grind (arith, e, here)),
+  apart_from js (each-le (λ m. count (is_same_job m) (j ∷ js) ≤ 1) (λ m. count (is_same_job m) js ≤ 1) (λ m few. fewer m few (is_same_job m j) refl) js all.1),
+)
   where
     fewer : (m : Job) → count (is_same_job m) (j ∷ js) ≤ 1 → (b : Bool) → is_same_job m j ≡ b → count (is_same_job m) js ≤ 1
     fewer m few true e = let less : count (is_same_job m) (j ∷ js) ≡ suc (count (is_same_job m) js) = rw e refl in omega (arith, few, less)
@@ -250,6 +252,7 @@ left_next i j js jobs l = record { mine = l.mine.1; found = keep js l.found.1 l.
 
     keep : (ks : List Job) → Each (λ k. find (is_same_job k) jobs ≡ Some k) ks → list_any (is_same_job j) ks ≡ false → Each (λ k. find (is_same_job k) (filter (λ k. not (is_same_job j k)) jobs) ≡ Some k) ks
     keep [] all none = tt
-    keep (k ∷ ks) all none =
-        (find-filter_kept (is_same_job k) (λ y. not (is_same_job j y)) (λ y same. apart j k y (first (is_same_job j k) (list_any (is_same_job j) ks) none) same) jobs ∙ all.0,
-        keep ks all.1 (second (is_same_job j k) (list_any (is_same_job j) ks) none))
+    keep (k ∷ ks) all none = (
+      find-filter_kept (is_same_job k) (λ y. not (is_same_job j y)) (λ y same. apart j k y (first (is_same_job j k) (list_any (is_same_job j) ks) none) same) jobs ∙ all.0,
+      keep ks all.1 (second (is_same_job j k) (list_any (is_same_job j) ks) none),
+    )

@@ -1,5 +1,5 @@
 -- How open jobs end: what is needed of them, and what becomes of the jobs and the participants.
-use Rattle.std.specs.Prelude.{◌≡◌, ◌<◌, ℕ, true, false, List, map, length, Option, Some, is_some, slice_set, slice_index_or}
+use Rattle.std.specs.Prelude.{◌≡◌, ◌<◌, ℕ, false, List, map, length, Option, Some, is_some, slice_set, slice_index_or, if◌then◌else◌}
 use Rattle.std.specs.List.{All}
 use Rattle.std.specs.Option.{ForSome}
 use Rattle.hx_ids.specs.declared.InstanceId.{InstanceId}
@@ -8,8 +8,8 @@ use Rattle.hx_cluster.specs.declared.description.Failure.{Failure}
 use Rattle.hx_replicas.specs.declared.slots.Work.TheVariants.{Out}
 use Rattle.hx_replicas.specs.Participants.{Participant, slot_of, any_out, finish}
 use Rattle.hx_replicas.specs.Jobs.{ParticipantState, runs_of}
-use Rattle.hx_worlds.specs.World.{State}
-use Rattle.hx_worlds.specs.Jobs.{adopt_in}
+use Rattle.hx_worlds.specs.World.{State, participant_of}
+use Rattle.hx_worlds.specs.Jobs.{adopt_in, same_session}
 use Rattle.hx_scene.specs.Scenes.{SceneState, OpenState, plain_job, new_staff}
 use Rattle.hx_scene.specs.Doing.{IsBelow, IsRunsBelow}
 use Rattle.hx_scene.specs.Kept.{IsListed, IsScene}
@@ -52,6 +52,13 @@ with_parts jobs staff x = record x { world = record x.world { participants = pla
 
 abbrev pub Adopts : InstanceId → Option SessionId → List OpenState → List OpenState → List ParticipantState → List ParticipantState → Type 0
 Adopts i session jobs later staff after = (x : State) → adopt_in i session (with_parts jobs staff x) ≡ with_parts later after x
+
+-- where it is another one than the participant's
+abbrev pub Follows : InstanceId → Option SessionId → List OpenState → List OpenState → List ParticipantState → List ParticipantState → Type 0
+Follows i session jobs later staff after =
+    (x : State)
+    → (if same_session (participant_of (with_parts jobs staff x).world i).session session then with_parts jobs staff x else adopt_in i session (with_parts jobs staff x))
+    ≡ with_parts later after x
 
 -- no job is out
 abbrev pub IsAtRest : ParticipantState → Type 0

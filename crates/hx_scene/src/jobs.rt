@@ -6,7 +6,7 @@ ghost use Rattle.std.specs.List.{All};
 ghost use Rattle.hx_lists.specs.Lists.{sort_by};
 ghost use Rattle.hx_worlds.specs.Jobs.{is_job, is_job_of, job_before};
 ghost use Rattle.hx_scene.specs.Scenes.{OpenState, plain_job, world_of};
-ghost use Rattle.hx_scene.specs.Ending.{CanEnd, AreOfScene, KeepsParts, Adopts, IsAtRest};
+ghost use Rattle.hx_scene.specs.Ending.{CanEnd, AreOfScene, KeepsParts, Adopts, Follows, IsAtRest};
 ghost use Rattle.hx_scene.specs.Ending.{ended_staff, plain_staff, staff_in};
 
 use crate::Scene;
@@ -139,6 +139,30 @@ pub(crate) fn adopt<F: Factory>(
         end_at(jobs, participants, place);
     }
     participants[instance.0 as usize].adopt(session);
+}
+
+/// Gives an instance's participant a session, as `adopt` does, where it has another one. It takes
+/// no memory.
+pub(crate) fn follow<F: Factory>(
+    jobs: &mut Vec<OpenJob<F::H>>,
+    participants: &mut Vec<Participant<F>>,
+    instance: InstanceId,
+    session: Option<SessionId>,
+    numbers: &[MsgId],
+)
+    requires parts { AreOfScene jobs.old.items participants.old.items }
+    requires instance { instance.0 < length participants.old.items }
+    requires numbers { numbers.now ≡ map (λ j. j.message.id)
+        (sort_by job_before (filter (is_job_of instance) (map plain_job jobs.old.items))) }
+    ensures follows { Follows instance session jobs.old.items jobs.new.items
+        participants.old.items participants.new.items }
+    ensures kept { KeepsParts jobs.old.items jobs.new.items
+        participants.old.items participants.new.items }
+{
+    if participants[instance.0 as usize].session() == session {
+        return;
+    }
+    adopt(jobs, participants, instance, session, numbers);
 }
 
 /// The numbers of an instance's jobs, rising.

@@ -10,7 +10,7 @@ ghost use Rattle.hx_scene.specs.Scenes.{IsBagged};
 
 use crate::Scene;
 use crate::bag::put_all;
-use crate::jobs::adopt;
+use crate::jobs::follow;
 use hx_board::RoomFault;
 use hx_cluster::Message;
 use hx_handler::Factory;
@@ -44,16 +44,15 @@ impl<F: Factory> Scene<F> {
     {
         let open = self.open_jobs(instance)?;
         let mail = self.board.fetch(instance)?;
+        self.board.history();
         self.bag.reserve(mail.messages.len())?;
-        if self.participants[instance.0 as usize].session() != mail.session {
-            adopt(
-                &mut self.jobs,
-                &mut self.participants,
-                instance,
-                mail.session,
-                &open,
-            );
-        }
+        follow(
+            &mut self.jobs,
+            &mut self.participants,
+            instance,
+            mail.session,
+            &open,
+        );
         put_all(&mut self.bag, mail.messages.as_slice());
         self.print_last(&self.no_roll(), out)?;
         Ok(mail.messages.into_vec())

@@ -63,7 +63,9 @@ impl<F: Factory> Scene<F> {
 
     /// Notes why a line, or a part of one, was not done.
     pub fn note(&mut self, voice: Voice, note: &Note, out: &mut Page) -> Result<(), RoomFault>
-        ensures { DoesDeed (λ x. noted voice note.now x) self.old out.old self.new out.new result }
+        ensures does { DoesDeed (λ x. noted voice note.now x)
+            self.old out.old self.new out.new result }
+        ensures bag { self.new.bag ≡ self.old.bag }
     {
         let Voice::Loud(line) = voice else {
             return Ok(());
@@ -81,8 +83,9 @@ impl<F: Factory> Scene<F> {
         id: MsgId,
         out: &mut Page,
     ) -> Result<(), RoomFault>
-        ensures { DoesDeed (λ x. say_if_loud voice 1 (accept_text x.world.spec instance id) x)
+        ensures does { DoesDeed (λ x. say_if_loud voice 1 (accept_text x.world.spec instance id) x)
             self.old out.old self.new out.new result }
+        ensures bag { self.new.bag ≡ self.old.bag }
     {
         let Voice::Loud(_) = voice else {
             return Ok(());

@@ -1,4 +1,4 @@
-use Rattle.std.proofs.Common.{◌≡◌, Some, None, ◌∙◌}
+use Rattle.std.proofs.Common.{◌∙◌}
 use Rattle.hx_scene.proofs.Bags.{put_over, put_behind}
 use Rattle.hx_scene.proofs.bag.put.Goals as goal
 

@@ -1,4 +1,4 @@
-use Rattle.std.proofs.Common.{◌≡◌, ◌<◌, length, take, get_or, arith, sym, ap, ◌∙◌, false}
+use Rattle.std.proofs.Common.{◌<◌, length, get_or, arith, sym, ap, ◌∙◌, false}
 use Rattle.hx_cluster.specs.declared.state.Message.{Message}
 use Rattle.hx_worlds.specs.Jobs.{put_in_bag}
 use Rattle.hx_scene.proofs.Bags.{put_more}

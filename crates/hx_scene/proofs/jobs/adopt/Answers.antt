@@ -1,10 +1,10 @@
-use Rattle.std.proofs.Common.{◌≡◌, ◌<◌, ◌≤◌, ◌+◌, List, length, map, get_or, Some, None, arith, refl, sym, ap, ◌∙◌, subst, true, false}
+use Rattle.std.proofs.Common.{◌≡◌, ◌<◌, List, length, get_or, Some, None, arith, sym, ◌∙◌, subst, true, false}
 use Rattle.std.specs.List.{position}
 use Rattle.hx_ids.specs.declared.MsgId.{MsgId}
 use Rattle.hx_worlds.specs.World.{Missing}
 use Rattle.hx_worlds.specs.Jobs.{is_job}
 use Rattle.hx_scene.specs.Scenes.{OpenState, plain_job, at}
-use Rattle.hx_scene.proofs.Adopting.{IsAdopting, those, no_job, many_numbers, number_at, adopting_first, adopting_next, never_none, next_place, next_can, rests, adopts, adopted_keeps}
+use Rattle.hx_scene.proofs.Adopting.{those, no_job, many_numbers, number_at, adopting_first, adopting_next, never_none, next_place, next_can, rests, adopts, adopted_keeps}
 use Rattle.hx_scene.proofs.jobs.adopt.Goals as goal
 
 pub loop-id-init : goal.loop-id-init

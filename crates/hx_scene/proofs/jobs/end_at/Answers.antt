@@ -1,12 +1,11 @@
-use Rattle.std.proofs.Common.{◌≡◌, ◌<◌, List, length, Some, refl, sym, ap, ◌∙◌, subst, arith, rules}
-use Rattle.std.specs.Prelude.{is_some, slice_get, slice_index_or}
+use Rattle.std.proofs.Common.{◌≡◌, sym, ap, ◌∙◌, subst, arith}
+use Rattle.std.specs.Prelude.{is_some, slice_index_or}
 use Rattle.std.specs.Option.{ForSome}
 use Rattle.hx_replicas.specs.declared.slots.Work.TheVariants.{Out}
 use Rattle.hx_replicas.specs.Participants.{slot_of, finish}
-use Rattle.hx_replicas.specs.Jobs.{ParticipantState, Done, runs_of}
-use Rattle.hx_scene.specs.Scenes.{OpenState, new_staff}
-use Rattle.hx_scene.specs.Ending.{CanEnd, KeepsParts}
-use Rattle.hx_scene.proofs.Ending.{GoesBack, at_place, staff_is, back_plain, back_keeps, can_out, can_listed}
+use Rattle.hx_replicas.specs.Jobs.{Done, runs_of}
+use Rattle.hx_scene.specs.Scenes.{OpenState}
+use Rattle.hx_scene.proofs.Ending.{GoesBack, at_place, back_plain, back_keeps, can_out, can_listed}
 use Rattle.hx_scene.proofs.jobs.end_at.Goals as goal
 
 pub index_mut-requires : goal.index_mut-requires

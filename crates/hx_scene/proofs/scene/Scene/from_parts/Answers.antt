@@ -1,4 +1,4 @@
-use Rattle.std.proofs.Common.{◌≡◌, [], rules, refl}
+use Rattle.std.proofs.Common.{rules, refl}
 use Rattle.hx_scene.proofs.Standing.{all_at_rest}
 use Rattle.hx_scene.proofs.scene.Scene.from_parts.Goals as goal
 

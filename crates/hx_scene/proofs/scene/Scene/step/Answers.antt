@@ -26,7 +26,7 @@ pub returns-in-Err-Step : goal.returns-in-Err-Step
 returns-in-Err-Step g c =
     rw (← c.self.view_is)
     (step_noted c.args.voice c.args.step.now c.in-Err-Step.fault _ c.note.new.self c.admin.new.self c.args.out.now c.note.new.out c.note.result
-    (rw c.in-Err-Step.field-0-is at c.in-Err-Step.ensures.refused) c.in-Err-Step.ensures.err c.note.ensures)
+    (rw c.in-Err-Step.field-0-is at c.in-Err-Step.ensures.refused) c.in-Err-Step.ensures.err c.note.ensures.does)
 
 pub returns-in-Err-HistoryFull : goal.returns-in-Err-HistoryFull
 returns-in-Err-HistoryFull g c =
