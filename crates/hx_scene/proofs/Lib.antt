@@ -3,6 +3,7 @@ pub mod Advancing
 pub mod Charging
 pub mod Saying
 pub mod Happening
+pub mod Turning
 pub mod Standing
 pub mod Ending
 pub mod Bags
