@@ -1,12 +1,16 @@
 -- A controller takes a step of its turn in a scene: the scene stays one, and what is done is the operation.
-use Rattle.std.proofs.Common.{◌≡◌, ℕ, ◌⊎◌, inl, inr, Bool, true, false, List, [], ◌∷◌, ◌++◌, length, Option, None, Some, refl, sym, ap, subst, ◌∙◌}
+use Rattle.std.proofs.Common.{◌≡◌, ℕ, ◌⊎◌, inl, inr, not, Bool, true, false, List, [], ◌∷◌, ◌++◌, length, Option, None, Some, refl, sym, ap, subst, ◌∙◌}
 use Rattle.std.specs.Prelude.{if◌then◌else◌, nat_lt, slice_index_or, slice_set, Result, Ok, Err, IsErrAnd}
 use Rattle.std.proofs.lemmas.List.{append-nil, set-get_or, get_or_read}
 use Rattle.hx_ids.specs.declared.ControllerId.{ControllerId}
 use Rattle.hx_cluster.specs.declared.description.Spec.{Spec}
 use Rattle.hx_cluster.specs.declared.state.Cluster.{Cluster}
 use Rattle.hx_cluster.specs.declared.happenings.Event.{Event}
-use Rattle.hx_cluster.specs.Steps.{has_controller}
+use Rattle.hx_cluster.specs.declared.happenings.Event.TheVariants as events
+use Rattle.hx_cluster.specs.Steps.{has_controller, is_leader}
+use Rattle.hx_cluster.specs.Reads.{pass_of}
+use Rattle.hx_cluster.specs.Events.{begun_of, dispatched_of, is_epoch, is_pass}
+use Rattle.hx_pass.specs.Plans.{plan}
 use Rattle.hx_cluster.specs.Weight.{weight_of}
 use Rattle.hx_text.specs.Texts.{Prints, PutsFront}
 use Rattle.hx_print.specs.declared.roll.Roll.{Roll}
@@ -15,14 +19,14 @@ use Rattle.hx_board.specs.declared.faults.RoomFault.{RoomFault}
 use Rattle.hx_board.specs.declared.faults.RoomFault.TheVariants as rooms
 use Rattle.hx_board.specs.Board.{Held, HasHistory, weight_at}
 use Rattle.hx_board.specs.Board.{happened as on_board}
-use Rattle.hx_pass.specs.Turns.{Call, Live, Mail, States, Ideals, Send, Post}
+use Rattle.hx_pass.specs.Turns.{Call, Live, Mail, States, Ideals, Send, Post, posted_of}
 use Rattle.hx_cluster.specs.declared.planning.Plan.{Plan}
 use Rattle.hx_control.specs.declared.PassOutcome.{PassOutcome}
 use Rattle.hx_control.specs.declared.ControlFault.{ControlFault}
 use Rattle.hx_control.specs.declared.ControlFault.TheVariants as faults
 use Rattle.hx_control.specs.Controllers.{Controller, idle_controller}
 use Rattle.hx_control.specs.OfBoard.{IsPlanOf}
-use Rattle.hx_control.specs.Steps.{Step, Calls, Plans, Refuses, step_at, step_of, planned_step, of_cluster, after_step}
+use Rattle.hx_control.specs.Steps.{Step, Calls, Plans, Refuses, outcome_of, is_of_cluster, read_step, planned_step, post_step, of_cluster, step_at, step_of, after_step}
 use Rattle.hx_control.specs.Made.{step_fault, board_after, ends_turn, after_fault, IsMade, Takes}
 use Rattle.hx_worlds.specs.World.{State, Answers, Missing, controller_of, with_controller}
 use Rattle.hx_worlds.specs.Runs.{Run, Stops, items_of, gives, and_then, happen}
@@ -234,18 +238,33 @@ own_cluster : (t : Bool) (a : Step) → IsOwn a → IsOwn (of_cluster t a)
 own_cluster true a x = x
 own_cluster false a x = own_refusal faults.OtherBoard refl
 
+own_or : (t : Bool) (e : Event) (fault : ControlFault) → ends_turn fault ≡ true → IsOwn (if t then Calls e None else Refuses fault)
+own_or t e fault ends = own_if t (Calls e None) (Refuses fault) (own_call e None) (own_refusal fault ends)
+
+own_dispatch : (a b : Bool) (e : Event) (o : Option PassOutcome) (fenced old : ControlFault) → ends_turn fenced ≡ true → ends_turn old ≡ true → IsOwn (if a then Refuses fenced else if b then Refuses old else Calls e o)
+own_dispatch a b e o fenced old x y = own_if a (Refuses fenced) (if b then Refuses old else Calls e o) (own_refusal fenced x) (own_if b (Refuses old) (Calls e o) (own_refusal old y) (own_call e o))
+
 own_planned : (spec : Spec) (c : Cluster) (x : Controller) (o : Option Plan) → IsOwn (planned_step spec c x o)
-own_planned spec c x None = own_plan _
-own_planned spec c x (Some p) = own_if _ _ _ (own_refusal _ refl) (own_if _ _ _ (own_refusal _ refl) (own_call _ _))
+own_planned spec c x None = own_plan (plan spec.models spec.rules x.turn.view)
+own_planned spec c x (Some p) =
+    let d = dispatched_of c x.id p.proposals in
+    own_dispatch (not (is_epoch c x.turn.begun.epoch)) (not (is_pass c x.id x.turn.begun.pass)) (events.Dispatch x.id x.turn.begun.epoch x.turn.begun.pass p.proposals d) (Some (outcome_of x.turn p d))
+    (faults.Fenced c.epoch) (faults.OldPass (pass_of c x.id)) refl refl
+
+own_read : (c : Cluster) (x : Controller) (e : Event) → IsOwn (read_step c x e)
+own_read c x e = own_or (is_pass c x.id x.turn.begun.pass) e (faults.OldPass (pass_of c x.id)) refl
+
+own_post : (c : Cluster) (x : Controller) → IsOwn (post_step c x)
+own_post c x = own_or (is_epoch c x.turn.begun.epoch) (events.Post x.id x.turn.begun.epoch (posted_of x.turn.view)) (faults.Fenced c.epoch) refl
 
 own_step : (spec : Spec) (c : Cluster) (x : Controller) (calls : List Call) → IsOwn (step_at spec c x calls)
-own_step spec c x [] = own_if _ _ _ (own_call _ _) (own_refusal _ refl)
-own_step spec c x (Live ∷ rest) = own_if _ _ _ (own_call _ _) (own_refusal _ refl)
-own_step spec c x (Mail s ∷ rest) = own_if _ _ _ (own_call _ _) (own_refusal _ refl)
-own_step spec c x (States s ∷ rest) = own_if _ _ _ (own_call _ _) (own_refusal _ refl)
-own_step spec c x (Ideals ∷ rest) = own_if _ _ _ (own_call _ _) (own_refusal _ refl)
-own_step spec c x (Send ∷ rest) = own_cluster _ _ (own_planned spec c x x.plan)
-own_step spec c x (Post ∷ rest) = own_cluster _ _ (own_if _ _ _ (own_call _ _) (own_refusal _ refl))
+own_step spec c x [] = own_or (is_leader x.id c.leader) (events.Begin x.id (begun_of c x.id)) (faults.NotLeader c.leader) refl
+own_step spec c x (Live ∷ rest) = own_read c x (events.Live x.id x.turn.begun.pass)
+own_step spec c x (Mail s ∷ rest) = own_read c x (events.Mail x.id x.turn.begun.pass s)
+own_step spec c x (States s ∷ rest) = own_read c x (events.States x.id x.turn.begun.pass s)
+own_step spec c x (Ideals ∷ rest) = own_read c x (events.Ideals x.id x.turn.begun.pass)
+own_step spec c x (Send ∷ rest) = own_cluster (is_of_cluster spec c x.turn.view) (planned_step spec c x x.plan) (own_planned spec c x x.plan)
+own_step spec c x (Post ∷ rest) = own_cluster (is_of_cluster spec c x.turn.view) (post_step c x) (own_post c x)
 
 own_fault : (s : SceneState) (k : ControllerId) (f : ControlFault) → next_in s k ≡ Refuses f → ends_turn f ≡ true
 own_fault s k f next = (own_step s.spec s.board.cluster (turn_in s k) (turn_in s k).turn.left).own f next

@@ -64,6 +64,7 @@ impl<F: Factory> Scene<F> {
         let open = self.open_jobs(instance)?;
         match self.board.admin(&Admin::End { instance }) {
             Ok(_) => {
+                self.board.history();
                 adopt(
                     &mut self.jobs,
                     &mut self.participants,

@@ -70,9 +70,11 @@ impl<F: Factory> Scene<F> {
                 self.print_grown(before, &roll, out)?;
                 Ok(Ok(outcome))
             }
-            Err(ControlFault::HistoryFull { weight }) => Err(RoomFault::HistoryFull { weight }),
-            Err(ControlFault::OutOfMemory) => Err(RoomFault::OutOfMemory),
-            Err(fault) => Ok(Err(fault)),
+            Err(fault) => match fault {
+                ControlFault::HistoryFull { weight } => Err(RoomFault::HistoryFull { weight }),
+                ControlFault::OutOfMemory => Err(RoomFault::OutOfMemory),
+                _ => Ok(Err(fault)),
+            },
         }
     }
 }
