@@ -4,6 +4,7 @@ pub mod Charging
 pub mod Saying
 pub mod Happening
 pub mod Turning
+pub mod Dying
 pub mod Standing
 pub mod Ending
 pub mod Bags

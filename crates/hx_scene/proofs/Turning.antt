@@ -124,10 +124,10 @@ fault_ends {s} k fault p is next =
     (changed_gives (λ x. with_controller z x) (Err fault) s p (with_turn s c.id s.board z) (λ a. refl) refl refl (keeps_same s c.id z)))
 
 -- printed whole or by a front, after what was printed before
-printed_after : {A : Type 0} {f : State → Run A} {s u : SceneState} {answer : A} {text : List ℕ} (p q : List ℕ) → Ends f s [] answer u text → q ≡ p ++ text → Ends f s p answer u q
+pub printed_after : {A : Type 0} {f : State → Run A} {s u : SceneState} {answer : A} {text : List ℕ} (p q : List ℕ) → Ends f s [] answer u text → q ≡ p ++ text → Ends f s p answer u q
 printed_after p q e printed = record { asked = e.asked; items = e.items; goes = e.goes; brings = e.brings; text = printed ∙ ap (λ t. p ++ t) e.text; keeps = e.keeps }
 
-front_after : {A : Type 0} {f : State → Run A} {s u : SceneState} {answer : A} {text : List ℕ} (p q : List ℕ) → Ends f s [] answer u text → PutsFront text p q → IsCut f s p u q
+pub front_after : {A : Type 0} {f : State → Run A} {s u : SceneState} {answer : A} {text : List ℕ} (p q : List ℕ) → Ends f s [] answer u text → PutsFront text p q → IsCut f s p u q
 front_after p q e front = record {
   asked = e.asked;
   items = e.items;
