@@ -32,17 +32,16 @@ returns-in-Ok g c =
     (died_printed c.args.voice c.args.instance _ c.admin.new.self c.adopt.new.jobs.items c.adopt.new.participants.items c.args.out.now c.print_last.new.out c.in_ok-print_last-in-Ok.field-0
     c.in-Ok.ensures.refused c.in-Ok.ensures.ok c.adopt.ensures.adopts c.adopt.ensures.kept (rw (← c.self.view_is) at c.in_ok-roll.ensures) c.in_ok-print_last-in-Ok.ensures)
 
-pub returns-in-Err-Step : goal.returns-in-Err-Step
-returns-in-Err-Step g c =
+pub returns-in-Step : goal.returns-in-Step
+returns-in-Step g c =
     rw (← c.self.view_is)
-    (die_noted c.args.voice c.args.instance c.in-Err-Step.fault _ c.note.new.self c.admin.new.self c.args.out.now c.note.new.out c.note.result
-    (rw c.in-Err-Step.field-0-is at c.in-Err-Step.ensures.refused) c.in-Err-Step.ensures.err c.note.ensures)
+    (die_noted c.args.voice c.args.instance c.in-Step.fault _ c.note.new.self c.admin.new.self c.args.out.now c.note.new.out c.note.result
+    (rw c.in-Step.is at c.in-Err.ensures.refused) c.in-Err.ensures.err c.note.ensures)
 
-pub returns-in-Err-HistoryFull : goal.returns-in-Err-HistoryFull
-returns-in-Err-HistoryFull g c =
+pub returns-in-HistoryFull : goal.returns-in-HistoryFull
+returns-in-HistoryFull g c =
     rw (← c.self.view_is)
-    (die_none c.args.voice c.args.instance _ c.admin.new.self c.args.out.now c.in-Err-HistoryFull.weight (rw c.in-Err-HistoryFull.field-0-is at c.in-Err-HistoryFull.ensures.refused)
-    c.in-Err-HistoryFull.ensures.err)
+    (die_none c.args.voice c.args.instance _ c.admin.new.self c.args.out.now c.in-HistoryFull.weight (rw c.in-HistoryFull.is at c.in-Err.ensures.refused) c.in-Err.ensures.err)
 
 pub returns : goal.returns
-returns g c = rw (← c.self.view_is) (no_memory _ _ c.admin.new.self c.args.out.now c.in-Err-OutOfMemory.ensures.err)
+returns g c = rw (← c.self.view_is) (no_memory _ _ c.admin.new.self c.args.out.now c.in-Err.ensures.err)
