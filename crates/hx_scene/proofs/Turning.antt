@@ -274,7 +274,7 @@ stayed : {s u : SceneState} {k : ControllerId} {fault : ControlFault} → (stepp
 stayed {s} {u} {k} {fault} stepped stays =
     stepped.left
     ∙ turn_same s k k stepped.board s.board stepped.turn (turn_in s k) refl stepped.takes.kept.0
-      (stepped.takes.kept.1 ∙ ap (λ (t : Bool). if t then idle_controller (turn_in s k).id else turn_in s k) stays)
+    (stepped.takes.kept.1 ∙ ap (λ (t : Bool). if t then idle_controller (turn_in s k).id else turn_in s k) stays)
     ∙ turn_kept s k
 
 full_at : {s : SceneState} (k : ControllerId) (weight : ℕ) (p : List ℕ) (step : Step) → next_in s k ≡ step → step_fault s.board step ≡ Some (faults.HistoryFull weight)
@@ -329,7 +329,7 @@ advance_fault {s} {u} {k} {fault} p is stepped full memory =
     (sym
     (stepped.left
     ∙ turn_same s k k stepped.board s.board stepped.turn (idle_controller (turn_in s k).id) refl stepped.takes.kept.0
-      (stepped.takes.kept.1 ∙ ap (λ (t : Bool). if t then idle_controller (turn_in s k).id else turn_in s k) (ends_for fault full memory)))) (fault_ends k fault p is (one stepped.takes.refused))
+    (stepped.takes.kept.1 ∙ ap (λ (t : Bool). if t then idle_controller (turn_in s k).id else turn_in s k) (ends_for fault full memory)))) (fault_ends k fault p is (one stepped.takes.refused))
   where
     one : (fault ≡ faults.OutOfMemory) ⊎ (step_fault s.board (next_in s k) ≡ Some fault) → next_in s k ≡ Refuses fault
     one (inl out) = absurd (memory out)

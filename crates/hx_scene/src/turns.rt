@@ -39,10 +39,7 @@ impl<F: Factory> Scene<F> {
     }
 
     /// Takes the next step of a controller's turn.
-    fn take_step(
-        &mut self,
-        controller: ControllerId,
-    ) -> Result<Option<PassOutcome>, ControlFault>
+    fn take_step(&mut self, controller: ControllerId) -> Result<Option<PassOutcome>, ControlFault>
         requires { has_controller self.old.board.cluster controller ≡ true }
         ensures { IsStepped self.old self.new controller result }
     {
