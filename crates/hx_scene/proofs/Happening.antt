@@ -203,7 +203,7 @@ step_made s v step a free =
     let f = step_free s.board step free in
     ap (λ (o : Option StepFault). stepped v step o (at s a)) f.none ∙ made_here (events.Admin step (did_of s.board.cluster step)) (at s a) f.room
 
-same_roll : {roll : Roll} (s : SceneState) (e : Event) → roll ≡ roll_of s.board.cluster → event_text s.spec roll e ≡ entry_text s.spec s.board.cluster e
+pub same_roll : {roll : Roll} (s : SceneState) (e : Event) → roll ≡ roll_of s.board.cluster → event_text s.spec roll e ≡ entry_text s.spec s.board.cluster e
 same_roll s e is = ap (λ r. event_text s.spec r e) is
 
 pub step_printed : {T E : Type 0} {roll : Roll} (v : Voice) (step : Admin) (s : SceneState) (b : Held) (p q : List ℕ) (t : T) → step_refusal s.board step ≡ None

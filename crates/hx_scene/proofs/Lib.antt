@@ -3,6 +3,8 @@ pub mod Advancing
 pub mod Charging
 pub mod Saying
 pub mod Happening
+pub mod Turning
+pub mod Dying
 pub mod Standing
 pub mod Ending
 pub mod Bags

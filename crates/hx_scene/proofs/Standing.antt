@@ -1,6 +1,6 @@
 -- What a scene has between operations.
 use Rattle.std.proofs.Common.{◌≡◌, ℕ, ◌<◌, true, false, List, [], length, map, refl, sym, ap, subst, ◌∙◌, arith}
-use Rattle.std.specs.Prelude.{slice_index_or}
+use Rattle.std.specs.Prelude.{slice_get, slice_index_or}
 use Rattle.std.specs.List.{All, list_any}
 use Rattle.std.proofs.lemmas.List.{length-map, get_or-map}
 use Rattle.std.proofs.lemmas.Option.{slice_get_read, get_or_from_slice_get}
@@ -11,7 +11,7 @@ use Rattle.hx_cluster.specs.Steps.{has_instance, has_controller}
 use Rattle.hx_cluster.specs.Valid.{IsValid}
 use Rattle.hx_replicas.specs.Participants.{Participant, new_participant, any_out}
 use Rattle.hx_replicas.specs.Jobs.{ParticipantState}
-use Rattle.hx_worlds.specs.World.{Answers, Missing}
+use Rattle.hx_worlds.specs.World.{Answers, Missing, Job, participant_of}
 use Rattle.hx_worlds.specs.Jobs.{is_job_of}
 use Rattle.hx_safe.proofs.Whole.{length-replicate}
 use Rattle.hx_scripted.proofs.Standing.{fixed_there}

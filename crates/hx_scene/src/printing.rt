@@ -1,6 +1,6 @@
 //! How events are printed.
 
-ghost use Rattle.std.specs.Prelude.{◌≡◌, [], ◌∷◌, ◌++◌, List, IfOk};
+ghost use Rattle.std.specs.Prelude.{◌≡◌, [], ◌∷◌, ◌++◌, List, length, IfOk};
 ghost use Rattle.hx_cluster.specs.declared.happenings.Event.{Event as Happening};
 ghost use Rattle.hx_text.specs.Texts.{Prints};
 ghost use Rattle.hx_print.specs.Texts.{event_text, names_of, roll_of};
@@ -50,6 +50,24 @@ impl<F: Factory> Scene<F> {
         match self.board.history().entries.as_slice().last() {
             Some(event) => print_event(event, roll, &self.spec, out),
             None => Ok(()),
+        }
+    }
+
+    /// Prints the last event, with the roll before it, if there are more than so many.
+    pub(crate) fn print_grown(
+        &self,
+        before: usize,
+        roll: &Roll,
+        out: &mut Page,
+    ) -> Result<(), AllocError>
+        ensures more { (h : List Happening) (e : Happening) → self.now.board.history ≡ h ++ e ∷ []
+            → length h ≡ before → Prints (event_text self.now.spec roll.now e) out.old result out.new }
+        ensures same { length self.now.board.history ≡ before → Prints [] out.old result out.new }
+    {
+        if self.board.history().entries.len() > before {
+            self.print_last(roll, out)
+        } else {
+            Ok(())
         }
     }
 }

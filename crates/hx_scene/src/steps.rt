@@ -64,6 +64,7 @@ impl<F: Factory> Scene<F> {
         let open = self.open_jobs(instance)?;
         match self.board.admin(&Admin::End { instance }) {
             Ok(_) => {
+                self.board.history();
                 adopt(
                     &mut self.jobs,
                     &mut self.participants,
@@ -74,9 +75,11 @@ impl<F: Factory> Scene<F> {
                 self.print_last(&roll, out)?;
                 Ok(())
             }
-            Err(BoardFault::Step(fault)) => self.note(voice, &Note::Step(fault), out),
-            Err(BoardFault::HistoryFull { weight }) => Err(RoomFault::HistoryFull { weight }),
-            Err(BoardFault::OutOfMemory) => Err(RoomFault::OutOfMemory),
+            Err(fault) => match fault {
+                BoardFault::Step(fault) => self.note(voice, &Note::Step(fault), out),
+                BoardFault::HistoryFull { weight } => Err(RoomFault::HistoryFull { weight }),
+                BoardFault::OutOfMemory => Err(RoomFault::OutOfMemory),
+            },
         }
     }
 }

@@ -3,7 +3,7 @@
 ghost use Rattle.std.specs.Prelude.{◌≡◌, true, slice_set, IfOk};
 ghost use Rattle.hx_cluster.specs.Steps.{has_controller};
 ghost use Rattle.hx_control.specs.Controllers.{idle_controller};
-ghost use Rattle.hx_scene.specs.Advances.{advance as advances, IsRollFor};
+ghost use Rattle.hx_scene.specs.Advances.{advance as advances, IsRollFor, IsStepped};
 ghost use Rattle.hx_scene.specs.Doing.{Does};
 
 use crate::Scene;
@@ -38,6 +38,17 @@ impl<F: Factory> Scene<F> {
         }
     }
 
+    /// Takes the next step of a controller's turn.
+    fn take_step(&mut self, controller: ControllerId) -> Result<Option<PassOutcome>, ControlFault>
+        requires { has_controller self.old.board.cluster controller ≡ true }
+        ensures { IsStepped self.old self.new controller result }
+    {
+        let turn = &mut self.controllers[controller.0 as usize];
+        let result = turn.step(&self.spec, &self.hops, &mut self.board);
+        self.board.history();
+        result
+    }
+
     /// Makes the next step of a controller's turn. It answers the outcome of a dispatch, or why the
     /// step was refused.
     pub fn advance(
@@ -51,17 +62,16 @@ impl<F: Factory> Scene<F> {
     {
         let roll = self.roll_for(controller)?;
         let before = self.board.history().entries.len();
-        let turn = &mut self.controllers[controller.0 as usize];
-        match turn.step(&self.spec, &self.hops, &mut self.board) {
+        match self.take_step(controller) {
             Ok(outcome) => {
-                if self.board.history().entries.len() > before {
-                    self.print_last(&roll, out)?;
-                }
+                self.print_grown(before, &roll, out)?;
                 Ok(Ok(outcome))
             }
-            Err(ControlFault::HistoryFull { weight }) => Err(RoomFault::HistoryFull { weight }),
-            Err(ControlFault::OutOfMemory) => Err(RoomFault::OutOfMemory),
-            Err(fault) => Ok(Err(fault)),
+            Err(fault) => match fault {
+                ControlFault::HistoryFull { weight } => Err(RoomFault::HistoryFull { weight }),
+                ControlFault::OutOfMemory => Err(RoomFault::OutOfMemory),
+                _ => Ok(Err(fault)),
+            },
         }
     }
 }

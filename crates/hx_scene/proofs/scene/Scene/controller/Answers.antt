@@ -1,4 +1,4 @@
-use Rattle.std.proofs.Common.{arith}
+use Rattle.std.proofs.Common.{◌≡◌, ◌<◌, length, refl, sym, ap, subst, ◌∙◌, arith}
 use Rattle.hx_scene.proofs.Standing.{has_turn, reads}
 use Rattle.hx_scene.proofs.scene.Scene.controller.Goals as goal
 
