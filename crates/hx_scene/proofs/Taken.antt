@@ -1,5 +1,6 @@
 -- What a taking of a message comes to in a scene, and that it keeps it.
 use Rattle.std.proofs.Common.{◌≡◌, ℕ, ◌+◌, ◌≤◌, ◌<◌, ◌^◌, not, Bool, true, false, List, [], ◌∷◌, ◌++◌, map, length, Option, None, Some, refl, sym, ap, subst, ◌∙◌, arith}
+use Rattle.std.proofs.lemmas.List.{length-map}
 use Rattle.std.specs.Prelude.{if◌then◌else◌, ◌==◌, is_none, is_some, slice_set, slice_index_or, Result, Ok, Err, IsErrAnd, IfSome, OnOk, OnErr}
 use Rattle.std.specs.List.{All}
 use Rattle.std.specs.Option.{option_map, ForSome}
@@ -45,7 +46,7 @@ use Rattle.hx_scene.specs.Scenes.{SceneState, OpenState, plain_job, world_of, at
 use Rattle.hx_scene.specs.Doing.{Asked, Gives, left, IsToldBy, AreTold, IsRunsBelow, IsBelow, IsCounted, Keeps, Reaches, Ends, IsCut, Does}
 use Rattle.hx_scene.specs.Kept.{IsScene, IsListed}
 use Rattle.hx_scene.specs.Taking.{HandsOut, IsStill}
-use Rattle.hx_scene.proofs.Reaching.{told_both, gives_first, gives_rest, left_both, at_happened, event_cut, event_ends, nothing_yet, one_step, kept_going}
+use Rattle.hx_scene.proofs.Reaching.{listed_there, told_both, gives_first, gives_rest, left_both, at_happened, event_cut, event_ends, nothing_yet, one_step, kept_going}
 use Rattle.hx_scene.proofs.Standing.{valid_in}
 use Rattle.hx_scene.proofs.Handing.{runs_more, below_more, below_handed, below_still, runs_ready, all_put}
 use Rattle.hx_scene.proofs.Taking.{participant_at, list_at, asked_if, making, running, making_for, running_for, with_staff, with_open, opened, world_with, take_at, ran_at}
@@ -91,9 +92,12 @@ told_of : (o : Option (List Failure)) (x : Asked) (f : Bool) → x.outcome ≡ t
 told_of None x f e t = tt
 told_of (Some failures) x f e t = e ∙ ap told_outcome t
 
-told_if : (lists : List (Option (List Failure))) (b : Bool) (x : Asked) → (b ≡ true → IsToldBy (slice_index_or lists x.instance.0 None) x) → AreTold lists (asked_if b x)
-told_if lists true x t = (t refl, tt)
-told_if lists false x t = tt
+told_if : (lists : List (Option (List Failure))) (b : Bool) (x : Asked) → x.instance.0 < length lists → (b ≡ true → IsToldBy (slice_index_or lists x.instance.0 None) x) → AreTold lists (asked_if b x)
+told_if lists true x lt t = (subst (λ (o : Option (List Failure)). IsToldBy o x) (sym (listed_there lists x.instance.0 (Some []) lt)) (t refl), tt)
+told_if lists false x lt t = tt
+
+has_list : (s : SceneState) (i : InstanceId) → i.0 < length s.staff → i.0 < length (lists_of s)
+has_list s i lt = let many = length-map s.staff (λ (p : ParticipantState). p.listed) in omega (arith, many, lt)
 
 as_told : (o : Outcome) → o ≡ told_outcome (is_failed o)
 as_told outcomes.Ok = refl
@@ -157,7 +161,7 @@ module _ {s : SceneState} {i : InstanceId} {id : MsgId} {b : ParticipantState} {
       let below = below_at s i h.instance c.staff in
       let made : b.made ≤ s.handed + 1 = let was = below.made in let now = h.hands.made in omega (arith, was, now) in
       let tried : tried_of a.plain.tried m.part ≤ s.handed + 1 = let was = below.tried m.part in omega (arith, was) in
-      told_if (lists_of s) (makes (slot_of a.plain m.part) m) (making i m (tried_of a.plain.tried m.part) (is_none job.handler))
+      told_if (lists_of s) (makes (slot_of a.plain m.part) m) (making i m (tried_of a.plain.tried m.part) (is_none job.handler)) (has_list s i h.instance)
       (λ e. subst (λ (o : Option (List Failure)). IsToldBy o (making i m (tried_of a.plain.tried m.part) (is_none job.handler))) (sym (list_at s i h.instance))
       (told_of a.listed (making i m (tried_of a.plain.tried m.part) (is_none job.handler)) (is_none job.handler) refl
       ((h.hands.handed.answer e).told (counts_on s.handed b.made h.few made) (counts_on s.handed (tried_of a.plain.tried m.part) h.few tried))))
@@ -178,7 +182,7 @@ module _ {s : SceneState} {i : InstanceId} {id : MsgId} {b : ParticipantState} {
           subst (λ (z : Option Held). RunsWith job.message (Some x) z (is_failed r.outcome)) e' (subst (λ (z : Option Held). RunsWith job.message z r.handler (is_failed r.outcome)) e k.runs) in
           let few : x.runs ≤ s.handed = subst (λ (z : Option Held). IsRunsBelow s.handed (runs_of z)) e (handler_below c) in
           let list : x.listed ≡ slice_index_or (lists_of s) i.0 None = h.hands.handed.listed x e ∙ sym (list_at s i h.instance) in
-          told_if (lists_of s) (not (leaves_error job.message)) (running i job.message x.runs r.outcome)
+          told_if (lists_of s) (not (leaves_error job.message)) (running i job.message x.runs r.outcome) (has_list s i h.instance)
           (λ t. subst (λ (o : Option (List Failure)). IsToldBy o (running i job.message x.runs r.outcome)) list
           (told_of x.listed (running i job.message x.runs r.outcome) (is_failed r.outcome) (as_told r.outcome)
           ((runs.1 (not_true (leaves_error job.message) t)).told (counts_on s.handed x.runs h.few (omega (arith, few))))))

@@ -22,7 +22,7 @@ returns-in_default g c =
     let s : SceneState = record { spec = c.self.inside.spec; board = c.self.inside.board; controllers = c.self.inside.controllers.items; staff = c.self.inside.participants.items; jobs = c.self.inside.jobs.items; bag = c.self.inside.bag.items; handed = c.self.inside.handed } in
     let none = Written.place_is s.jobs c.args.instance c.args.id c.deref.result.now None c.place_of.result c.deref.ensures.value c.place_of.ensures c.in_default.is in
     does_after (subst (λ (z : SceneState). Reaches (λ x. do_ack c.args.voice c.args.instance c.args.id x) z c.args.out.now (λ x. note c.args.voice notes.NoJob x) z c.args.out.now) c.self.view_is
-    (Acked.ack_none s c.args.instance c.args.id c.args.voice c.args.out.now none)) _ c.note.new.self c.note.new.out c.note.result c.note.ensures
+    (Acked.ack_none s c.args.instance c.args.id c.args.voice c.args.out.now none)) _ c.note.new.self c.note.new.out c.note.result c.note.ensures.does
 
 pub index-job-requires : goal.index-job-requires
 index-job-requires g c =
@@ -39,7 +39,7 @@ returns-then-not-job g c =
     let h : Written.StandsAt s c.args.instance c.args.id c.in-Some.place j = record { scene = c.self.invariant.0; place = place; here = c.index-job.ensures } in
     let marked : j.is_written ≡ false = ap (λ (z : OpenState). z.is_written) (sym {A = OpenState} c.job.view_is) ∙ c.if-not-job.true in
     does_after (subst (λ (z : SceneState). Reaches (λ x. do_ack c.args.voice c.args.instance c.args.id x) z c.args.out.now (λ x. note c.args.voice notes.NoJob x) z c.args.out.now) c.self.view_is
-    (Acked.ack_before h c.args.voice c.args.out.now marked)) _ c.note-then-not-job.new.self c.note-then-not-job.new.out c.note-then-not-job.result c.note-then-not-job.ensures
+    (Acked.ack_before h c.args.voice c.args.out.now marked)) _ c.note-then-not-job.new.self c.note-then-not-job.new.out c.note-then-not-job.result c.note-then-not-job.ensures.does
 
 pub end_at-requires-clause-place : goal.end_at-requires-clause-place
 end_at-requires-clause-place g c κs within =
@@ -120,4 +120,4 @@ returns-in-Err g c =
     let ended : Acked.IsEnded s c.in-Some.place j c.end_at.new.jobs.items c.end_at.new.participants.items = record { jobs = c.end_at.ensures.jobs; plain = c.end_at.ensures.plain j (Written.got h); kept = c.end_at.ensures.kept } in
     rw (← c.self.view_is)
     (does_after (subst (λ (z : Held). Reaches (λ x. do_ack c.args.voice c.args.instance c.args.id x) s c.args.out.now (λ x. note c.args.voice notes.SessionEnded x) (Acked.ended_scene s z c.end_at.new.jobs.items c.end_at.new.participants.items) c.args.out.now) (sym {A = Held} c.in-Err.ensures.err)
-    (Acked.ack_reaches h ended c.args.voice c.in-Err.field-0 c.args.out.now marked full)) _ c.note-in-Err.new.self c.note-in-Err.new.out c.note-in-Err.result c.note-in-Err.ensures)
+    (Acked.ack_reaches h ended c.args.voice c.in-Err.field-0 c.args.out.now marked full)) _ c.note-in-Err.new.self c.note-in-Err.new.out c.note-in-Err.result c.note-in-Err.ensures.does)

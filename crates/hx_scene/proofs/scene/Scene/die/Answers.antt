@@ -36,7 +36,7 @@ pub returns-in-Step : goal.returns-in-Step
 returns-in-Step g c =
     rw (← c.self.view_is)
     (die_noted c.args.voice c.args.instance c.in-Step.fault _ c.note.new.self c.admin.new.self c.args.out.now c.note.new.out c.note.result
-    (rw c.in-Step.is at c.in-Err.ensures.refused) c.in-Err.ensures.err c.note.ensures)
+    (rw c.in-Step.is at c.in-Err.ensures.refused) c.in-Err.ensures.err c.note.ensures.does)
 
 pub returns-in-HistoryFull : goal.returns-in-HistoryFull
 returns-in-HistoryFull g c =

@@ -72,7 +72,7 @@ returns-in_default g c =
     let none = Taken.none_of s c.args.instance c.args.id c.index_mut.result.now c.in_ok-job.field-0 lt c.index_mut.ensures.value c.in_ok-job.ensures.asked c.in_default.is in
     rw (← c.self.view_is)
     (does_after (subst (λ (js : List OpenState). Reaches (λ x. do_take c.args.voice c.args.instance c.args.id x) s c.args.out.now (λ x. note c.args.voice notes.NoJob x) (record s { staff = slice_set s.staff c.args.instance.0 c.hand_out.new.participant; jobs = js }) c.args.out.now) (sym {A = List OpenState} c.reserve.ensures.items)
-    (Taken.none_reaches c.self.invariant.0 lt still c.args.voice c.args.id c.args.out.now none)) _ c.note.new.self c.note.new.out c.note.result c.note.ensures)
+    (Taken.none_reaches c.self.invariant.0 lt still c.args.voice c.args.id c.args.out.now none)) _ c.note.new.self c.note.new.out c.note.result c.note.ensures.does)
 
 pub invariant_of-self-in-Ok : goal.invariant_of-self-in-Ok
 invariant_of-self-in-Ok g c =
@@ -163,4 +163,4 @@ returns-in-Err g c =
     rw (← c.self.view_is)
     (does_after (Taken.with_parts_is (λ u. Reaches (λ x. do_take c.args.voice c.args.instance c.args.id x) s c.args.out.now (λ x. note c.args.voice notes.SessionEnded x) u c.args.out.now)
     (Taken.back_scene s c.args.instance c.hand_out.new.participant c.finish.new.self) c.take-taken.new.self c.reserve.new.self.items c.in-Err.ensures.err c.reserve.ensures.items
-    (Taken.back_reaches h c.args.voice c.finish.new.self c.in-Err.field-0 back full c.args.out.now)) _ c.note-in-Err.new.self c.note-in-Err.new.out c.note-in-Err.result c.note-in-Err.ensures)
+    (Taken.back_reaches h c.args.voice c.finish.new.self c.in-Err.field-0 back full c.args.out.now)) _ c.note-in-Err.new.self c.note-in-Err.new.out c.note-in-Err.result c.note-in-Err.ensures.does)

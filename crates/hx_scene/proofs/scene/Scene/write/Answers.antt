@@ -22,7 +22,7 @@ returns-in_default g c =
     let s : SceneState = record { spec = c.self.inside.spec; board = c.self.inside.board; controllers = c.self.inside.controllers.items; staff = c.self.inside.participants.items; jobs = c.self.inside.jobs.items; bag = c.self.inside.bag.items; handed = c.self.inside.handed } in
     let none = Written.place_is s.jobs c.args.instance c.args.id c.deref.result.now None c.place_of.result c.deref.ensures.value c.place_of.ensures c.in_default.is in
     does_after (subst (λ (z : SceneState). Reaches (λ x. do_write c.args.voice c.args.instance c.args.id x) z c.args.out.now (λ x. note c.args.voice notes.NoJob x) z c.args.out.now) c.self.view_is
-    (Written.write_none s c.args.instance c.args.id c.args.voice c.args.out.now none)) _ c.note.new.self c.note.new.out c.note.result c.note.ensures
+    (Written.write_none s c.args.instance c.args.id c.args.voice c.args.out.now none)) _ c.note.new.self c.note.new.out c.note.result c.note.ensures.does
 
 pub index-job-requires : goal.index-job-requires
 index-job-requires g c =
@@ -39,7 +39,7 @@ returns-then-job g c =
     let h : Written.StandsAt s c.args.instance c.args.id c.in-Some.place j = record { scene = c.self.invariant.0; place = place; here = c.index-job.ensures } in
     let marked : j.is_written ≡ true = ap (λ (z : OpenState). z.is_written) (sym {A = OpenState} c.job.view_is) ∙ c.if-job.true in
     does_after (subst (λ (z : SceneState). Reaches (λ x. do_write c.args.voice c.args.instance c.args.id x) z c.args.out.now (λ x. note c.args.voice notes.NoJob x) z c.args.out.now) c.self.view_is
-    (Written.written_before h c.args.voice c.args.out.now marked)) _ c.note-then-job.new.self c.note-then-job.new.out c.note-then-job.result c.note-then-job.ensures
+    (Written.written_before h c.args.voice c.args.out.now marked)) _ c.note-then-job.new.self c.note-then-job.new.out c.note-then-job.result c.note-then-job.ensures.does
 
 pub index_mut-requires : goal.index_mut-requires
 index_mut-requires g c =
@@ -130,4 +130,4 @@ returns-in-Err g c =
     let ended : Acked.IsEnded s c.in-Some.place j c.end_at.new.jobs.items c.end_at.new.participants.items = record { jobs = c.end_at.ensures.jobs; plain = c.end_at.ensures.plain j (Written.got h); kept = c.end_at.ensures.kept } in
     rw (← c.self.view_is)
     (does_after (subst (λ (z : Held). Reaches (λ x. do_write c.args.voice c.args.instance c.args.id x) s c.args.out.now (λ x. note c.args.voice notes.SessionEnded x) (Acked.ended_scene s z c.end_at.new.jobs.items c.end_at.new.participants.items) c.args.out.now) (sym {A = Held} c.in-Err.ensures.err)
-    (Acked.write_reaches h ended c.args.voice c.in-Err.field-0 c.args.out.now marked full)) _ c.note-in-Err.new.self c.note-in-Err.new.out c.note-in-Err.result c.note-in-Err.ensures)
+    (Acked.write_reaches h ended c.args.voice c.in-Err.field-0 c.args.out.now marked full)) _ c.note-in-Err.new.self c.note-in-Err.new.out c.note-in-Err.result c.note-in-Err.ensures.does)
