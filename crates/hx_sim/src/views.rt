@@ -47,8 +47,24 @@ fn holders(
         .collect(alloc)
 }
 
-/// Adds the parts of a resource that a view shows: those of a dropped one only where somebody has a
-/// replica.
+/// Whether a view shows a part: one of a dropped resource only where somebody has a replica.
+fn is_viewed(
+    alloc: Global,
+    board: &Board,
+    shown: &[(SessionId, InstanceId)],
+    dropped: bool,
+    part: PartId,
+) -> Result<bool, AllocError>
+    requires { shown.now ≡ live_shown board.now.cluster }
+    ensures { IfOk result (λ is. is ≡ is_viewed board.now.cluster dropped part) }
+{
+    if !dropped {
+        return Ok(true);
+    }
+    Ok(!holders(alloc, board, shown, part)?.is_empty())
+}
+
+/// Adds the parts of a resource that a view shows.
 fn add_viewed(
     alloc: Global,
     board: &Board,
@@ -64,7 +80,7 @@ fn add_viewed(
 {
     for index in 0..found.ideal.parts() {
         let part = PartId { resource, index };
-        if !found.dropped || !holders(alloc, board, shown, part)?.is_empty() {
+        if is_viewed(alloc, board, shown, found.dropped, part)? {
             parts.push(part)?;
         }
     }
@@ -80,6 +96,7 @@ fn viewed_parts(
     requires { shown.now ≡ live_shown board.now.cluster }
     ensures { IfOk result (λ parts. parts.items ≡ viewed_parts board.now.cluster) }
 {
+    board.history();
     let mut parts = Vec::new(alloc);
     for (number, resource) in board.resources().iter().enumerate() {
         let id = ResourceId(number as u32);

@@ -1,0 +1,5 @@
+pub mod Lasting
+pub mod Standing
+pub mod Viewing
+pub mod Each
+pub mod Bare

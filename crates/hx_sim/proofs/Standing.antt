@@ -1,0 +1,47 @@
+-- What stands in a scene: its cluster is in range, and has what the description has.
+use Rattle.std.proofs.Common.{◌≡◌, ◌≤◌, Bool, List, [], ◌∷◌, true, length, sym, ap, ◌∙◌, subst}
+use Rattle.std.specs.List.{list_all, All, AllByRecursion}
+use Rattle.std.proofs.lemmas.List.Elements.{All-same, All-from_recursion}
+use Rattle.hx_ids.specs.declared.SessionId.{SessionId}
+use Rattle.hx_ids.specs.declared.InstanceId.{InstanceId}
+use Rattle.hx_ids.specs.declared.Live.{Live}
+use Rattle.hx_cluster.specs.declared.state.Cluster.{Cluster}
+use Rattle.hx_cluster.specs.Ends.{shown_of}
+use Rattle.hx_cluster.specs.Reads.{live_shown, instance_before}
+use Rattle.hx_cluster.specs.Ranged.{IsRanged}
+use Rattle.hx_cluster.specs.Steps.{opening, has_instance}
+use Rattle.hx_safe.proofs.Counting.{all-map, and-first, and-second}
+use Rattle.hx_safe.proofs.Fixed.{IsFixed}
+use Rattle.hx_safe.proofs.Whole.{reached_ranged}
+use Rattle.hx_covers.proofs.Sorting.{all-sort}
+use Rattle.hx_covers.proofs.Whole.{fixed_along}
+use Rattle.hx_board.specs.Board.{Held, HasHistory}
+use Rattle.hx_scene.specs.Scenes.{SceneState}
+use Rattle.hx_scene.specs.Kept.{IsScene}
+
+pub board_ranged : (b : Held) → HasHistory b → IsRanged b.cluster
+board_ranged b told = subst IsRanged told.replays (reached_ranged b.spec told.valid b.history told.legal)
+
+pub few_resources : (b : Held) → HasHistory b → length b.cluster.resources ≤ 256
+few_resources b told = (board_ranged b told).few_resources
+
+-- the cluster has what the description has
+pub fixed_there : (s : SceneState) → IsScene s → IsFixed (opening s.spec) s.board.cluster
+fixed_there s h = subst (λ (c : Cluster). IsFixed (opening s.spec) c) (sym h.of_history.cluster) (fixed_along (opening s.spec) s.board.history)
+
+-- the live instances are some of its instances
+all_shown : (c : Cluster) → IsRanged c → list_all (λ e. has_instance c e.1) (live_shown c) ≡ true
+all_shown c ranged =
+    all-sort (λ (e : SessionId × InstanceId). has_instance c e.1) instance_before (shown_of c.live)
+    ∙ all-map (λ (e : SessionId × InstanceId). has_instance c e.1) (λ (l : Live). (l.session, l.instance)) c.live
+    ∙ ranged.live
+
+each : {X : Type 0} (p : X → Bool) (xs : List X) → list_all p xs ≡ true → AllByRecursion (λ x. p x ≡ true) xs
+each p [] all = tt
+each p (x ∷ xs) all = (and-first (p x) (list_all p xs) all, each p xs (and-second (p x) (list_all p xs) all))
+
+pub shown_there : (s : SceneState) → IsScene s → (shown : List (SessionId × InstanceId)) → shown ≡ live_shown s.board.cluster → All (λ e. has_instance s.board.cluster e.1 ≡ true) shown
+shown_there s h shown same =
+    let there = λ (e : SessionId × InstanceId). has_instance s.board.cluster e.1 in
+    All-same (λ e. there e ≡ true) shown (live_shown s.board.cluster) same
+    (All-from_recursion (λ e. there e ≡ true) (live_shown s.board.cluster) (each there (live_shown s.board.cluster) (all_shown s.board.cluster (board_ranged s.board h.history))))
