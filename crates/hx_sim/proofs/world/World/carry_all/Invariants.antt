@@ -7,6 +7,6 @@ use Rattle.hx_sim.proofs.world.World.carry_all.Given as goal
 
 abbrev pub invariant-loop-id : goal.invariant-loop-id
 invariant-loop-id g l = record {
-  reaches : Reaches (λ x. carry_jobs l.instance x) l.fn.self l.fn.out (λ x. for_each (λ id y. carry l.instance id y) (drop l.id-index l.open.items) x) l.self-inside.scene l.out;
-  there : has_instance l.self-inside.scene.board.cluster l.instance ≡ true;
+  reaches : Reaches (λ x. carry_jobs l.instance x) l.fn.self l.fn.out (λ x. for_each (λ id y. carry l.instance id y) (drop l.id-index l.id-items) x) l.self l.out;
+  there : has_instance l.self.board.cluster l.instance ≡ true;
 }

@@ -7,6 +7,6 @@ use Rattle.hx_sim.proofs.world.World.run_accepted.Given as goal
 
 abbrev pub invariant-loop-message : goal.invariant-loop-message
 invariant-loop-message g l = record {
-  reaches : Reaches (λ x. run_accepted l.instance x) l.fn.self l.fn.out (λ x. for_each (run_message l.instance) (drop l.message-index l.accepted.items) x) l.self-inside.scene l.out;
-  there : has_instance l.self-inside.scene.board.cluster l.instance ≡ true;
+  reaches : Reaches (λ x. run_accepted l.instance x) l.fn.self l.fn.out (λ x. for_each (run_message l.instance) (drop l.message-index l.message-items) x) l.self l.out;
+  there : has_instance l.self.board.cluster l.instance ≡ true;
 }
