@@ -1,6 +1,6 @@
 -- The ideal state of a resource that a line adds has no fault.
-use Rattle.std.proofs.Common.{◌≡◌, ℕ, zero, suc, ◌<◌, ◌≤◌, ◌==◌, Bool, true, false, List, [], ◌∷◌, ◌++◌, length, Option, Some, None, refl, sym, ap, ◌∙◌, arith}
-use Rattle.std.specs.Prelude.{nat_lt, replicate, if◌then◌else◌}
+use Rattle.std.proofs.Common.{◌≡◌, ℕ, zero, suc, ◌-◌, ◌<◌, ◌≤◌, ◌==◌, Bool, true, false, List, [], ◌∷◌, ◌++◌, length, Option, Some, None, refl, sym, ap, ◌∙◌, arith}
+use Rattle.std.specs.Prelude.{◌^◌, min, nat_lt, replicate, if◌then◌else◌}
 use Rattle.std.specs.Option.{option_or}
 use Rattle.std.proofs.lemmas.Bool.Decides.{nat_tests}
 use Rattle.hx_lists.specs.First.{answer_behind}
@@ -25,7 +25,7 @@ no_answer ask x (suc n) before none =
 
 counted : (X : Type 0) (n : ℕ) → part_count_fault n (Some (length (replicate {A = List X} n []))) ≡ None
 counted X n =
-    ap (λ (k : ℕ). part_count_fault n (Some k)) (length-replicate n []) ∙ ap (λ (b : Bool). if b then None else Some (faults.PartCount _ n)) (same-self n)
+    ap (λ (k : ℕ). part_count_fault n (Some k)) (length-replicate n []) ∙ ap (λ (b : Bool). if b then None else Some (faults.PartCount (min n (2 ^ 32 - 1)) n)) (same-self n)
 
 either : (o p : Option IdealFault) → o ≡ None → p ≡ None → option_or o p ≡ None
 either o p one two = ap (λ z. option_or z p) one ∙ two
@@ -54,5 +54,13 @@ within : (replicas parts : ℕ) (rest : Option IdealFault) → 1 ≤ replicas �
     else rest) ≡ None
 within replicas parts rest a b c d e = grind (arith, nat_tests, e)
 
-pub bare_without_fault : (o : Option ModeKind) (replicas parts : ℕ) → 1 ≤ replicas → replicas ≤ 64 → 1 ≤ parts → parts ≤ 1024 → fault_of replicas parts (bare_mode o parts) 0 [] ≡ None
+bare_without_fault : (o : Option ModeKind) (replicas parts : ℕ) → 1 ≤ replicas → replicas ≤ 64 → 1 ≤ parts → parts ≤ 1024 → fault_of replicas parts (bare_mode o parts) 0 [] ≡ None
 bare_without_fault o replicas parts a b c d = within replicas parts _ a b c d (mode_bare o parts)
+
+apart : {X : Type 0} (o : Option X) (x : X) → o ≡ None → o ≡ Some x → ⊥
+apart o x none some = cc
+
+pub no_fault : (o : Option ModeKind) (replicas parts : ℕ) (m : Mode) (fault : IdealFault) → 1 ≤ replicas → replicas ≤ 64 → 1 ≤ parts → parts ≤ 1024 → m ≡ bare_mode o parts
+    → fault_of replicas parts m 0 [] ≡ Some fault → ⊥
+no_fault o replicas parts m fault a b c d bare is =
+    apart (fault_of replicas parts m 0 []) fault (ap (λ (n : Mode). fault_of replicas parts n 0 []) bare ∙ bare_without_fault o replicas parts a b c d) is

@@ -3,3 +3,4 @@ pub mod Standing
 pub mod Viewing
 pub mod Each
 pub mod Bare
+pub mod Saying

@@ -1,5 +1,5 @@
 -- What stands in a scene: its cluster is in range, and has what the description has.
-use Rattle.std.proofs.Common.{◌≡◌, ◌≤◌, Bool, List, [], ◌∷◌, true, length, sym, ap, ◌∙◌, subst}
+use Rattle.std.proofs.Common.{◌≡◌, ◌≤◌, Bool, List, [], ◌∷◌, true, length, Option, Some, sym, ap, ◌∙◌, subst}
 use Rattle.std.specs.List.{list_all, All, AllByRecursion}
 use Rattle.std.proofs.lemmas.List.Elements.{All-same, All-from_recursion}
 use Rattle.hx_ids.specs.declared.SessionId.{SessionId}
@@ -7,9 +7,16 @@ use Rattle.hx_ids.specs.declared.InstanceId.{InstanceId}
 use Rattle.hx_ids.specs.declared.Live.{Live}
 use Rattle.hx_cluster.specs.declared.state.Cluster.{Cluster}
 use Rattle.hx_cluster.specs.Ends.{shown_of}
+use Rattle.hx_ids.specs.declared.ControllerId.{ControllerId}
+use Rattle.hx_cluster.specs.declared.happenings.Admin.{Admin}
+use Rattle.hx_cluster.specs.Valid.{IsValid}
+use Rattle.hx_script.specs.declared.What.{What}
+use Rattle.hx_script.specs.Asked.{step_asked}
+use Rattle.hx_script.specs.Ranges as Ranges
+use Rattle.hx_scripted.proofs.Asked.{IsAskedWell, asked_well, instance_there, controller_there}
 use Rattle.hx_cluster.specs.Reads.{live_shown, instance_before}
 use Rattle.hx_cluster.specs.Ranged.{IsRanged}
-use Rattle.hx_cluster.specs.Steps.{opening, has_instance}
+use Rattle.hx_cluster.specs.Steps.{opening, has_instance, has_controller, is_in_range}
 use Rattle.hx_safe.proofs.Counting.{all-map, and-first, and-second}
 use Rattle.hx_safe.proofs.Fixed.{IsFixed}
 use Rattle.hx_safe.proofs.Whole.{reached_ranged}
@@ -45,3 +52,17 @@ shown_there s h shown same =
     let there = λ (e : SessionId × InstanceId). has_instance s.board.cluster e.1 in
     All-same (λ e. there e ≡ true) shown (live_shown s.board.cluster) same
     (All-from_recursion (λ e. there e ≡ true) (live_shown s.board.cluster) (each there (live_shown s.board.cluster) (all_shown s.board.cluster (board_ranged s.board h.history))))
+
+-- what a line names is there
+pub instance_in : (s : SceneState) → IsScene s → (i : InstanceId) → Ranges.has_instance s.spec i ≡ true → has_instance s.board.cluster i ≡ true
+instance_in s h i is = instance_there s.spec s.board.cluster i (fixed_there s h) is
+
+pub controller_in : (s : SceneState) → IsScene s → (k : ControllerId) → Ranges.has_controller s.spec k ≡ true → has_controller s.board.cluster k ≡ true
+controller_in s h k is = controller_there s.spec s.board.cluster k (fixed_there s h) is
+
+-- the step that it asks for is in range
+pub step_in : (s : SceneState) → IsScene s → (what : What) (step : Admin) → Ranges.is_in_range s.spec what ≡ true → Some step ≡ step_asked s.board.cluster what
+    → is_in_range s.board.cluster step ≡ true
+step_in s h what step is same =
+    let valid : IsValid s.spec = subst IsValid h.own h.history.valid in
+    subst (λ (o : Option Admin). IsAskedWell s.board.cluster o) (sym same) (asked_well s.spec s.board.cluster what valid (fixed_there s h) is)

@@ -4,7 +4,7 @@ ghost use Rattle.std.specs.Prelude.{◌≡◌, ◌++◌, OnOk, IfOk, filter};
 ghost use Rattle.hx_cluster.specs.Reads.{live_shown};
 ghost use Rattle.hx_print.specs.Texts.{row_seen, view_of_part, is_viewed, parts_at, viewed_parts};
 ghost use Rattle.hx_worlds.specs.Runs.{for_each};
-ghost use Rattle.hx_worlds.specs.Scripts.{do_view, say_view_of, do_route, routed};
+ghost use Rattle.hx_worlds.specs.Scripts.{do_view, say_view_of, do_route, say_route, routed};
 ghost use Rattle.hx_scene.specs.Doing.{DoesDeed};
 
 use crate::World;
@@ -162,12 +162,24 @@ impl<F: Factory> World<F> {
         ensures { DoesDeed (λ x. do_route voice name index state x)
             self.old out.old self.new out.new result }
     {
-        let board = self.scene.board();
-        let Some(resource) = board.newest(name) else {
-            return self.scene.note(voice, &Note::NoResource, out);
-        };
-        let part = PartId { resource, index };
-        let instances = routed(self.scene.alloc(), board.posted(), part, state)?;
+        match self.scene.board().newest(name) {
+            Some(resource) => self.route_of(PartId { resource, index }, state, out),
+            None => self.scene.note(voice, &Note::NoResource, out),
+        }
+    }
+
+    /// Prints the instances in a state of a part, as they were posted last.
+    fn route_of(
+        &mut self,
+        part: PartId,
+        state: StateId,
+        out: &mut Page,
+    ) -> Result<(), RoomFault>
+        ensures { DoesDeed (λ x. say_route part state (routed x.world.cluster.posted part state) x)
+            self.old out.old self.new out.new result }
+    {
+        let rows = self.scene.board().posted();
+        let instances = routed(self.scene.alloc(), rows, part, state)?;
         self.scene.say_route(part, state, &instances, out)
     }
 }
