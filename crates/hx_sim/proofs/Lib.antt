@@ -4,3 +4,4 @@ pub mod Viewing
 pub mod Each
 pub mod Bare
 pub mod Saying
+pub mod Bags

@@ -30,6 +30,7 @@ impl<F: Factory> World<F> {
         ensures { DoesDeed (λ x. do_what voice what.now x)
             self.old out.old self.new out.new result }
     {
+        self.scene.board();
         match what {
             What::Die(i) => self.scene.die(voice, *i, out),
             What::Begin(k) => self.begin(voice, *k, out),
@@ -68,6 +69,7 @@ impl<F: Factory> World<F> {
         ensures { DoesDeed (λ x. do_asked voice (step_asked x.world.cluster what.now) x)
             self.old out.old self.new out.new result }
     {
+        self.scene.board();
         match self.step_asked(what)? {
             Some(step) => self.scene.step(voice, &step, out),
             None => self.scene.note(voice, &Note::NoResource, out),
