@@ -5,3 +5,5 @@ pub mod Each
 pub mod Bare
 pub mod Saying
 pub mod Bags
+pub mod Beginning
+pub mod Asking

@@ -1,5 +1,6 @@
 -- What stands in a scene: its cluster is in range, and has what the description has.
-use Rattle.std.proofs.Common.{◌≡◌, ◌≤◌, Bool, List, [], ◌∷◌, true, length, Option, Some, sym, ap, ◌∙◌, subst}
+use Rattle.std.proofs.Common.{◌≡◌, ◌≤◌, ◌&&◌, Bool, List, [], ◌∷◌, true, length, Option, sym, ap, ◌∙◌, subst}
+use Rattle.std.specs.Option.{ForSome}
 use Rattle.std.specs.List.{list_all, All, AllByRecursion}
 use Rattle.std.proofs.lemmas.List.Elements.{All-same, All-from_recursion}
 use Rattle.hx_ids.specs.declared.SessionId.{SessionId}
@@ -57,12 +58,23 @@ shown_there s h shown same =
 pub instance_in : (s : SceneState) → IsScene s → (i : InstanceId) → Ranges.has_instance s.spec i ≡ true → has_instance s.board.cluster i ≡ true
 instance_in s h i is = instance_there s.spec s.board.cluster i (fixed_there s h) is
 
+pub instance_and : (s : SceneState) → IsScene s → (i : InstanceId) (more : Bool) → (Ranges.has_instance s.spec i && more) ≡ true → has_instance s.board.cluster i ≡ true
+instance_and s h i more is = instance_in s h i (and-first (Ranges.has_instance s.spec i) more is)
+
 pub controller_in : (s : SceneState) → IsScene s → (k : ControllerId) → Ranges.has_controller s.spec k ≡ true → has_controller s.board.cluster k ≡ true
 controller_in s h k is = controller_there s.spec s.board.cluster k (fixed_there s h) is
 
 -- the step that it asks for is in range
-pub step_in : (s : SceneState) → IsScene s → (what : What) (step : Admin) → Ranges.is_in_range s.spec what ≡ true → Some step ≡ step_asked s.board.cluster what
-    → is_in_range s.board.cluster step ≡ true
-step_in s h what step is same =
+for_some : (c : Cluster) (o : Option Admin) → IsAskedWell c o → ForSome o (λ step. is_in_range c step ≡ true)
+for_some c o well = λ step is. subst (λ (p : Option Admin). IsAskedWell c p) is well
+
+pub step_in : (s : SceneState) → IsScene s → (what : What) (o : Option Admin) → Ranges.is_in_range s.spec what ≡ true → o ≡ step_asked s.board.cluster what
+    → ForSome o (λ step. is_in_range s.board.cluster step ≡ true)
+step_in s h what o is same =
     let valid : IsValid s.spec = subst IsValid h.own h.history.valid in
-    subst (λ (o : Option Admin). IsAskedWell s.board.cluster o) (sym same) (asked_well s.spec s.board.cluster what valid (fixed_there s h) is)
+    for_some s.board.cluster o
+    (subst (λ (p : Option Admin). IsAskedWell s.board.cluster p) (sym same) (asked_well s.spec s.board.cluster what valid (fixed_there s h) is))
+
+-- a line that is another one
+pub same_in : (s : SceneState) {w what : What} → Ranges.is_in_range s.spec w ≡ true → w ≡ what → Ranges.is_in_range s.spec what ≡ true
+same_in s is same = subst (λ (v : What). Ranges.is_in_range s.spec v ≡ true) same is
