@@ -1,7 +1,8 @@
 use Rattle.std.proofs.Common.{◌≡◌, ap, refl}
+use Rattle.hx_worlds.specs.Runs.{done}
 use Rattle.hx_worlds.specs.Scripts.{do_what}
 use Rattle.hx_scene.specs.Scenes.{at}
-use Rattle.hx_scene.proofs.Reaching.{does_as}
+use Rattle.hx_scene.proofs.Reaching.{does_as, does_err, fails_as, fails_inside, reaches_as, then_on}
 use Rattle.hx_sim.proofs.Asking.{IsAsking, asks_alone}
 use Rattle.hx_sim.proofs.Standing.{instance_in, instance_and, controller_in, same_in}
 use Rattle.hx_sim.proofs.world.World.what.Goals as goal
@@ -113,16 +114,27 @@ returns-in-Summary g c =
     does_as _ _ s (λ a. ap (λ w. do_what c.args.voice w (at s a)) c.in-Summary.is) _ _ _ _ _ c.summary.ensures
 
 pub returns-in_err-pass-in-Pass : goal.returns-in_err-pass-in-Pass
-returns-in_err-pass-in-Pass g c = ?
+returns-in_err-pass-in-Pass g c =
+    let s = c.args.self.now in
+    does_err _ _ _ _ _ _ _ _ c.from_residual.ensures.1
+    (fails_as _ _ s (λ a. ap (λ w. do_what c.args.voice w (at s a)) c.in-Pass.is) _ _ _ _ (fails_inside _ _ _ _ _ _ c.in_err-pass-in-Pass.ensures (λ _ z. done z)))
 
 pub returns-in_ok-pass-in-Pass : goal.returns-in_ok-pass-in-Pass
-returns-in_ok-pass-in-Pass g c = ?
+returns-in_ok-pass-in-Pass g c =
+    let s = c.args.self.now in
+    reaches_as (λ a. ap (λ w. do_what c.args.voice w (at s a)) c.in-Pass.is) (then_on c.in_ok-pass-in-Pass.ensures (λ _ z. done z))
 
 pub returns-in_err-fetch-in-Fetch : goal.returns-in_err-fetch-in-Fetch
-returns-in_err-fetch-in-Fetch g c = ?
+returns-in_err-fetch-in-Fetch g c =
+    let s = c.self.inside.scene in
+    rw (← c.self.view_is)
+    (does_err _ _ _ _ _ _ _ _ c.from_residual-in_err-fetch-in-Fetch.ensures.1
+    (fails_as _ _ s (λ a. ap (λ w. do_what c.args.voice w (at s a)) c.in-Fetch.is) _ _ _ _ c.in_err-fetch-in-Fetch.ensures.does))
 
 pub returns-in_ok-fetch-in-Fetch : goal.returns-in_ok-fetch-in-Fetch
-returns-in_ok-fetch-in-Fetch g c = ?
+returns-in_ok-fetch-in-Fetch g c =
+    let s = c.self.inside.scene in
+    rw (← c.self.view_is) (reaches_as (λ a. ap (λ w. do_what c.args.voice w (at s a)) c.in-Fetch.is) c.in_ok-fetch-in-Fetch.ensures.does)
 
 pub returns-in_default : goal.returns-in_default
 returns-in_default g c =
