@@ -1,10 +1,9 @@
 -- A turn that is given up, and begun anew.
-use Rattle.std.proofs.Common.{◌≡◌, ℕ, List, [], true, refl, sym, ap, subst}
+use Rattle.std.proofs.Common.{◌≡◌, ℕ, List, [], refl, sym, ap, subst}
 use Rattle.std.specs.Prelude.{slice_set}
 use Rattle.hx_ids.specs.declared.ControllerId.{ControllerId}
 use Rattle.hx_control.specs.Controllers.{idle_controller}
 use Rattle.hx_worlds.specs.declared.Voice.{Voice}
-use Rattle.hx_worlds.specs.World.{Answers, State}
 use Rattle.hx_worlds.specs.Turns.{step, do_begin, without_outcome}
 use Rattle.hx_scene.specs.Scenes.{SceneState, at}
 use Rattle.hx_scene.specs.Doing.{Keeps, Reaches}

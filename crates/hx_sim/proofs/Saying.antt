@@ -3,8 +3,7 @@ use Rattle.std.proofs.Common.{◌≡◌, ℕ, Bool, true, false, List, [], ◌�
 use Rattle.std.specs.Prelude.{nat_lt, ◌+◌, if◌then◌else◌}
 use Rattle.hx_worlds.specs.World.{Answers, State}
 use Rattle.hx_worlds.specs.Items.{Says}
-use Rattle.hx_worlds.specs.Runs.{Deed, GoesOn, Stops, charged, state_of, say}
-use Rattle.hx_scripted.proofs.Keeping.{Keeps}
+use Rattle.hx_worlds.specs.Runs.{GoesOn, Stops, charged, state_of, say}
 use Rattle.hx_scene.specs.Scenes.{SceneState, at}
 use Rattle.hx_scene.specs.Doing.{Ends}
 use Rattle.hx_scene.proofs.Reaching.{kept}

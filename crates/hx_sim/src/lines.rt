@@ -62,12 +62,7 @@ impl<F: Factory> World<F> {
     }
 
     /// Makes the step that a line asks for, or notes that it names no resource.
-    fn asked_step(
-        &mut self,
-        voice: Voice,
-        what: &What,
-        out: &mut Page,
-    ) -> Result<(), RoomFault>
+    fn asked_step(&mut self, voice: Voice, what: &What, out: &mut Page) -> Result<(), RoomFault>
         requires { is_in_range self.old.spec what.now ≡ true }
         ensures { DoesDeed (λ x. do_asked voice (step_asked x.world.cluster what.now) x)
             self.old out.old self.new out.new result }

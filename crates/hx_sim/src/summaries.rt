@@ -28,7 +28,11 @@ fn is_sent(placed: &Placed) -> bool
 fn sent_by(answer: &Dispatched) -> u64
     ensures { result ≡ count is_sent answer.now.placed }
 {
-    answer.placed.iter().filter(|placed| is_sent(placed)).count() as u64
+    answer
+        .placed
+        .iter()
+        .filter(|placed| is_sent(placed))
+        .count() as u64
 }
 
 /// How many messages an event sent.
@@ -108,7 +112,10 @@ fn ended(events: &[Event]) -> Option<u64>
 fn written(events: &[Event], outcome: Outcome) -> u64
     ensures { result ≡ count (is_write (has_outcome outcome)) events.now }
 {
-    events.iter().filter(|event| is_write(event, outcome)).count() as u64
+    events
+        .iter()
+        .filter(|event| is_write(event, outcome))
+        .count() as u64
 }
 
 /// What happened in a history. A number past 64 bits is want of memory.

@@ -169,12 +169,7 @@ impl<F: Factory> World<F> {
     }
 
     /// Prints the instances in a state of a part, as they were posted last.
-    fn route_of(
-        &mut self,
-        part: PartId,
-        state: StateId,
-        out: &mut Page,
-    ) -> Result<(), RoomFault>
+    fn route_of(&mut self, part: PartId, state: StateId, out: &mut Page) -> Result<(), RoomFault>
         ensures { DoesDeed (λ x. say_route part state (routed x.world.cluster.posted part state) x)
             self.old out.old self.new out.new result }
     {

@@ -1,4 +1,4 @@
-use Rattle.std.proofs.Common.{◌≡◌, ◌<◌, List, length, ap, arith}
+use Rattle.std.proofs.Common.{List, length, ap, arith}
 use Rattle.hx_cluster.specs.declared.description.Resource.{Resource}
 use Rattle.hx_sim.proofs.Standing.{few_resources}
 use Rattle.hx_sim.proofs.views.viewed_parts.Goals as goal

@@ -1,4 +1,4 @@
-use Rattle.std.proofs.Common.{◌≡◌, ap, sym, ◌∙◌}
+use Rattle.std.proofs.Common.{ap, sym, ◌∙◌}
 use Rattle.hx_script.specs.Asked.{step_asked}
 use Rattle.hx_worlds.specs.Scripts.{do_asked}
 use Rattle.hx_scene.specs.Scenes.{SceneState, at}

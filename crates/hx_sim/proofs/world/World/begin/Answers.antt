@@ -1,4 +1,4 @@
-use Rattle.std.proofs.Common.{◌≡◌, ap, ◌∙◌}
+use Rattle.std.proofs.Common.{ap, ◌∙◌}
 use Rattle.hx_cluster.specs.Steps.{has_controller}
 use Rattle.hx_worlds.specs.Runs.{done}
 use Rattle.hx_worlds.specs.Turns.{step}

@@ -1,4 +1,3 @@
-use Rattle.std.proofs.Common.{◌≡◌}
 use Rattle.hx_worlds.specs.declared.Voice.TheVariants.{Quiet}
 use Rattle.hx_worlds.specs.Jobs.{do_ack}
 use Rattle.hx_scene.proofs.Reaching.{does_err, does_then_deed, fails_inside_deed}

@@ -1,4 +1,4 @@
-use Rattle.std.proofs.Common.{◌≡◌, ap, sym, ◌∙◌}
+use Rattle.std.proofs.Common.{ap, sym, ◌∙◌}
 use Rattle.hx_worlds.specs.Jobs.{deliver_from_bag}
 use Rattle.hx_scene.specs.Scenes.{at}
 use Rattle.hx_scene.proofs.Reaching.{does_as}

@@ -1,4 +1,4 @@
-use Rattle.std.proofs.Common.{◌≡◌, ap, ◌∙◌}
+use Rattle.std.proofs.Common.{ap, ◌∙◌}
 use Rattle.hx_worlds.specs.declared.Voice.TheVariants.{Quiet}
 use Rattle.hx_worlds.specs.Jobs.{deliver}
 use Rattle.hx_scene.specs.Scenes.{SceneState}

@@ -1,4 +1,4 @@
-use Rattle.std.proofs.Common.{◌≡◌, ap}
+use Rattle.std.proofs.Common.{ap}
 use Rattle.hx_worlds.specs.Turns.{do_read}
 use Rattle.hx_scene.specs.Scenes.{at}
 use Rattle.hx_scene.proofs.Reaching.{does_as}

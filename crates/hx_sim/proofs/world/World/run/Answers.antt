@@ -1,4 +1,3 @@
-use Rattle.std.proofs.Common.{◌≡◌}
 use Rattle.hx_worlds.specs.Jobs.{carry}
 use Rattle.hx_scene.proofs.Reaching.{does_err, does_then_deed, fails_inside_deed}
 use Rattle.hx_sim.proofs.Lasting.{instance_lasts}

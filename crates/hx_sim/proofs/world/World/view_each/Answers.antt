@@ -1,6 +1,5 @@
 use Rattle.std.proofs.Common.{◌≡◌, ap, sym, ◌∙◌}
 use Rattle.std.specs.Prelude.{slice_index_or}
-use Rattle.hx_cluster.specs.declared.state.Cluster.{Cluster}
 use Rattle.hx_cluster.specs.Reads.{live_shown}
 use Rattle.hx_board.specs.Board.{Held}
 use Rattle.hx_board.specs.declared.faults.RoomFault.TheVariants as rooms

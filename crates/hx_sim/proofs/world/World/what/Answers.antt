@@ -1,4 +1,4 @@
-use Rattle.std.proofs.Common.{◌≡◌, ap, refl}
+use Rattle.std.proofs.Common.{ap}
 use Rattle.hx_worlds.specs.Runs.{done}
 use Rattle.hx_worlds.specs.Scripts.{do_what}
 use Rattle.hx_scene.specs.Scenes.{at}
