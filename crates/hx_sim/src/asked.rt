@@ -20,7 +20,7 @@ fn empty_lists<T: Drop>(alloc: Global, count: u32) -> Result<Seq<Seq<T>>, AllocE
     ensures { IfOk result (λ lists. lists ≡ replicate count []) }
 {
     let mut lists = Vec::with_capacity(alloc, count as usize)?;
-    for _ in 0..count {
+    for made in 0..count {
         lists.push_reserved(Seq::new(alloc));
     }
     Ok(Seq::from_vec(lists))

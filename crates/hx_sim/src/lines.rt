@@ -1,7 +1,9 @@
 //! What a script line does.
 
 ghost use Rattle.std.specs.Prelude.{◌≡◌, true};
+ghost use Rattle.std.specs.Option.{ForSome};
 ghost use Rattle.hx_cluster.specs.Steps.{has_instance, has_controller};
+ghost use Rattle.hx_cluster.specs.Steps.{is_in_range as is_step_in_range};
 ghost use Rattle.hx_script.specs.Asked.{step_asked};
 ghost use Rattle.hx_script.specs.Ranges.{is_in_range};
 ghost use Rattle.hx_worlds.specs.Jobs.{do_deliver};
@@ -11,6 +13,7 @@ ghost use Rattle.hx_scene.specs.Doing.{DoesDeed};
 
 use crate::World;
 use hx_board::RoomFault;
+use hx_cluster::Admin;
 use hx_handler::Factory;
 use hx_ids::{ControllerId, InstanceId, MsgId};
 use hx_print::Note;
@@ -30,6 +33,7 @@ impl<F: Factory> World<F> {
         ensures { DoesDeed (λ x. do_what voice what.now x)
             self.old out.old self.new out.new result }
     {
+        self.scene.board();
         match what {
             What::Die(i) => self.scene.die(voice, *i, out),
             What::Begin(k) => self.begin(voice, *k, out),
@@ -58,18 +62,29 @@ impl<F: Factory> World<F> {
     }
 
     /// Makes the step that a line asks for, or notes that it names no resource.
-    fn asked_step(
-        &mut self,
-        voice: Voice,
-        what: &What,
-        out: &mut Page,
-    ) -> Result<(), RoomFault>
+    fn asked_step(&mut self, voice: Voice, what: &What, out: &mut Page) -> Result<(), RoomFault>
         requires { is_in_range self.old.spec what.now ≡ true }
         ensures { DoesDeed (λ x. do_asked voice (step_asked x.world.cluster what.now) x)
             self.old out.old self.new out.new result }
     {
-        match self.step_asked(what)? {
-            Some(step) => self.scene.step(voice, &step, out),
+        self.scene.board();
+        let asked = self.step_asked(what)?;
+        self.step_if_asked(voice, &asked, out)
+    }
+
+    /// Makes a step, or notes that a line names no resource.
+    fn step_if_asked(
+        &mut self,
+        voice: Voice,
+        asked: &Option<Admin>,
+        out: &mut Page,
+    ) -> Result<(), RoomFault>
+        requires { ForSome asked.now (λ step. is_step_in_range self.old.board.cluster step ≡ true) }
+        ensures { DoesDeed (λ x. do_asked voice asked.now x)
+            self.old out.old self.new out.new result }
+    {
+        match asked {
+            Some(step) => self.scene.step(voice, step, out),
             None => self.scene.note(voice, &Note::NoResource, out),
         }
     }

@@ -12,7 +12,7 @@ ghost use Rattle.hx_sim.specs.Counting.{has_outcome};
 
 use crate::World;
 use hx_board::RoomFault;
-use hx_cluster::{Admin, Did, Event, Outcome, Placed};
+use hx_cluster::{Admin, Did, Dispatched, Event, Outcome, Placed};
 use hx_handler::Factory;
 use hx_scene::Summary;
 use hx_text::Page;
@@ -24,14 +24,23 @@ fn is_sent(placed: &Placed) -> bool
     matches!(placed, Placed::Sent(_))
 }
 
+/// How many messages a dispatch sent.
+fn sent_by(answer: &Dispatched) -> u64
+    ensures { result ≡ count is_sent answer.now.placed }
+{
+    answer
+        .placed
+        .iter()
+        .filter(|placed| is_sent(placed))
+        .count() as u64
+}
+
 /// How many messages an event sent.
 fn sent_in(event: &Event) -> u64
     ensures { result ≡ sent_in event.now }
 {
     match event {
-        Event::Dispatch { answer, .. } => {
-            answer.placed.iter().filter(|placed| is_sent(placed)).count() as u64
-        }
+        Event::Dispatch { answer, .. } => sent_by(answer),
         _ => 0,
     }
 }
@@ -103,7 +112,10 @@ fn ended(events: &[Event]) -> Option<u64>
 fn written(events: &[Event], outcome: Outcome) -> u64
     ensures { result ≡ count (is_write (has_outcome outcome)) events.now }
 {
-    events.iter().filter(|event| is_write(event, outcome)).count() as u64
+    events
+        .iter()
+        .filter(|event| is_write(event, outcome))
+        .count() as u64
 }
 
 /// What happened in a history. A number past 64 bits is want of memory.

@@ -4,7 +4,7 @@ ghost use Rattle.std.specs.Prelude.{◌≡◌, ◌++◌, OnOk, IfOk, filter};
 ghost use Rattle.hx_cluster.specs.Reads.{live_shown};
 ghost use Rattle.hx_print.specs.Texts.{row_seen, view_of_part, is_viewed, parts_at, viewed_parts};
 ghost use Rattle.hx_worlds.specs.Runs.{for_each};
-ghost use Rattle.hx_worlds.specs.Scripts.{do_view, say_view_of, do_route, routed};
+ghost use Rattle.hx_worlds.specs.Scripts.{do_view, say_view_of, do_route, say_route, routed};
 ghost use Rattle.hx_scene.specs.Doing.{DoesDeed};
 
 use crate::World;
@@ -47,8 +47,24 @@ fn holders(
         .collect(alloc)
 }
 
-/// Adds the parts of a resource that a view shows: those of a dropped one only where somebody has a
-/// replica.
+/// Whether a view shows a part: one of a dropped resource only where somebody has a replica.
+fn is_viewed(
+    alloc: Global,
+    board: &Board,
+    shown: &[(SessionId, InstanceId)],
+    dropped: bool,
+    part: PartId,
+) -> Result<bool, AllocError>
+    requires { shown.now ≡ live_shown board.now.cluster }
+    ensures { IfOk result (λ is. is ≡ is_viewed board.now.cluster dropped part) }
+{
+    if !dropped {
+        return Ok(true);
+    }
+    Ok(!holders(alloc, board, shown, part)?.is_empty())
+}
+
+/// Adds the parts of a resource that a view shows.
 fn add_viewed(
     alloc: Global,
     board: &Board,
@@ -64,7 +80,7 @@ fn add_viewed(
 {
     for index in 0..found.ideal.parts() {
         let part = PartId { resource, index };
-        if !found.dropped || !holders(alloc, board, shown, part)?.is_empty() {
+        if is_viewed(alloc, board, shown, found.dropped, part)? {
             parts.push(part)?;
         }
     }
@@ -80,6 +96,7 @@ fn viewed_parts(
     requires { shown.now ≡ live_shown board.now.cluster }
     ensures { IfOk result (λ parts. parts.items ≡ viewed_parts board.now.cluster) }
 {
+    board.history();
     let mut parts = Vec::new(alloc);
     for (number, resource) in board.resources().iter().enumerate() {
         let id = ResourceId(number as u32);
@@ -145,12 +162,19 @@ impl<F: Factory> World<F> {
         ensures { DoesDeed (λ x. do_route voice name index state x)
             self.old out.old self.new out.new result }
     {
-        let board = self.scene.board();
-        let Some(resource) = board.newest(name) else {
-            return self.scene.note(voice, &Note::NoResource, out);
-        };
-        let part = PartId { resource, index };
-        let instances = routed(self.scene.alloc(), board.posted(), part, state)?;
+        match self.scene.board().newest(name) {
+            Some(resource) => self.route_of(PartId { resource, index }, state, out),
+            None => self.scene.note(voice, &Note::NoResource, out),
+        }
+    }
+
+    /// Prints the instances in a state of a part, as they were posted last.
+    fn route_of(&mut self, part: PartId, state: StateId, out: &mut Page) -> Result<(), RoomFault>
+        ensures { DoesDeed (λ x. say_route part state (routed x.world.cluster.posted part state) x)
+            self.old out.old self.new out.new result }
+    {
+        let rows = self.scene.board().posted();
+        let instances = routed(self.scene.alloc(), rows, part, state)?;
         self.scene.say_route(part, state, &instances, out)
     }
 }

@@ -20,12 +20,7 @@ use hx_worlds::Voice;
 
 impl<F: Factory> World<F> {
     /// Carries an open job to its end.
-    fn carry(
-        &mut self,
-        instance: InstanceId,
-        id: MsgId,
-        out: &mut Page,
-    ) -> Result<(), RoomFault>
+    fn carry(&mut self, instance: InstanceId, id: MsgId, out: &mut Page) -> Result<(), RoomFault>
         requires { has_instance self.old.board.cluster instance ≡ true }
         ensures { DoesDeed (λ x. carry instance id x)
             self.old out.old self.new out.new result }
@@ -66,11 +61,7 @@ impl<F: Factory> World<F> {
     }
 
     /// Fetches, and delivers what was fetched.
-    fn fetch_and_deliver(
-        &mut self,
-        instance: InstanceId,
-        out: &mut Page,
-    ) -> Result<(), RoomFault>
+    fn fetch_and_deliver(&mut self, instance: InstanceId, out: &mut Page) -> Result<(), RoomFault>
         requires { has_instance self.old.board.cluster instance ≡ true }
         ensures { DoesDeed (λ x. fetch_and_deliver instance (fetched x.world.cluster instance) x)
             self.old out.old self.new out.new result }

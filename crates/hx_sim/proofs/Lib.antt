@@ -1,0 +1,9 @@
+pub mod Lasting
+pub mod Standing
+pub mod Viewing
+pub mod Each
+pub mod Bare
+pub mod Saying
+pub mod Bags
+pub mod Beginning
+pub mod Asking
