@@ -7,7 +7,7 @@ ghost use Rattle.hx_control.specs.Controllers.{stage as stage_of};
 ghost use Rattle.hx_pass.specs.Turns.{Call};
 ghost use Rattle.hx_worlds.specs.World.{controller_of};
 ghost use Rattle.hx_worlds.specs.Turns.{do_call, do_calls, do_rest, do_pass, do_word, do_read, do_send};
-ghost use Rattle.hx_worlds.specs.Turns.{do_post, out_of_turn, pass_over};
+ghost use Rattle.hx_worlds.specs.Turns.{do_post, out_of_turn, pass_over, left_of, begin_if_idle};
 ghost use Rattle.hx_scene.specs.Scenes.{world_of};
 ghost use Rattle.hx_scene.specs.Doing.{Does, DoesDeed};
 ghost use Rattle.hx_sim.specs.Words.{word_for, IsNextOf};
@@ -56,11 +56,12 @@ impl<F: Factory> World<F> {
         ensures { Does (λ x. do_call voice controller x) (λ o. o)
             self.old out.old self.new out.new result }
     {
-        if self.stage(controller) == Stage::Plan {
-            self.step(voice, controller, out)?;
-            if self.stage(controller) == Stage::Idle {
-                return Ok(None);
-            }
+        if self.stage(controller) != Stage::Plan {
+            return self.step(voice, controller, out);
+        }
+        self.step(voice, controller, out)?;
+        if self.stage(controller) == Stage::Idle {
+            return Ok(None);
         }
         self.step(voice, controller, out)
     }
@@ -79,11 +80,10 @@ impl<F: Factory> World<F> {
     {
         let mut outcome = None;
         for _ in 0..count {
-            if let Some(later) = self.call(voice, controller, out)? {
-                outcome = Some(later);
-            }
+            let later = self.call(voice, controller, out)?;
+            outcome = later.or(outcome);
             if self.stage(controller) == Stage::Idle {
-                break;
+                return Ok(outcome);
             }
         }
         Ok(outcome)
@@ -104,6 +104,23 @@ impl<F: Factory> World<F> {
         self.calls(voice, controller, count, out)
     }
 
+    /// Begins a turn, unless one is under way.
+    fn begin_if_idle(
+        &mut self,
+        voice: Voice,
+        controller: ControllerId,
+        out: &mut Page,
+    ) -> Result<Option<PassOutcome>, RoomFault>
+        requires { has_controller self.old.board.cluster controller ≡ true }
+        ensures { Does (λ x. begin_if_idle voice controller (left_of x controller) x) (λ o. o)
+            self.old out.old self.new out.new result }
+    {
+        if self.stage(controller) != Stage::Idle {
+            return Ok(None);
+        }
+        self.step(voice, controller, out)
+    }
+
     /// Makes the rest of a turn, a whole one where it is idle. Which calls come after the live
     /// sessions are read is known only then.
     pub(crate) fn pass(
@@ -116,9 +133,7 @@ impl<F: Factory> World<F> {
         ensures { Does (λ x. do_pass voice controller x) (λ o. o)
             self.old out.old self.new out.new result }
     {
-        if self.stage(controller) == Stage::Idle {
-            self.step(voice, controller, out)?;
-        }
+        self.begin_if_idle(voice, controller, out)?;
         let earlier = self.rest(voice, controller, out)?;
         let later = self.rest(voice, controller, out)?;
         Ok(later.or(earlier))
