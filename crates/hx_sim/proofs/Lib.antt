@@ -1,3 +1,4 @@
 pub mod Staying
 pub mod Said
 pub mod Stages
+pub mod Calling
