@@ -45,7 +45,7 @@ after_both_outcomes a b (Stops is x) = refl
 abbrev pub calls_left : Voice → ControllerId → ℕ → Option PassOutcome → State → Run (Option PassOutcome)
 calls_left v k n earlier x = after_outcome earlier (do_calls v k n x)
 
-pub calls_begin : (v : Voice) (k : ControllerId) (n : ℕ) (s : SceneState) (p : List ℕ) → Reaches (do_calls v k n) s p (calls_left v k n None) s p
+calls_begin : (v : Voice) (k : ControllerId) (n : ℕ) (s : SceneState) (p : List ℕ) → Reaches (do_calls v k n) s p (calls_left v k n None) s p
 calls_begin v k n s p = reaches_as (λ a. after_no_outcome (do_calls v k n (at s a))) (here (calls_left v k n None) s p)
 
 one_call : (v : Voice) (k : ControllerId) (n m : ℕ) (earlier : Option PassOutcome) (x : State) → n ≡ suc m
@@ -137,3 +137,6 @@ loop_fails v k n i earlier {f} {s} {u} {p} {q} lt e fault w r c = fails_after e 
 pub loop_over : (v : Voice) (k : ControllerId) (n i : ℕ) (earlier : Option PassOutcome) {f : State → Run (Option PassOutcome)} {s u : SceneState} {p q : List ℕ} → n ≤ i
     → Reaches f s p (calls_left v k (n - i) earlier) u q → Ends f s p earlier u q
 loop_over v k n i earlier past e = calls_end v k (n - i) earlier (omega arith) e
+
+pub loop_begins : (v : Voice) (k : ControllerId) (n m : ℕ) (s : SceneState) (p : List ℕ) → m ≡ n → Reaches (do_calls v k n) s p (calls_left v k m None) s p
+loop_begins v k n m s p is = subst (λ i. Reaches (do_calls v k n) s p (calls_left v k i None) s p) (sym is) (calls_begin v k n s p)

@@ -2,3 +2,4 @@ pub mod Staying
 pub mod Said
 pub mod Stages
 pub mod Calling
+pub mod Words

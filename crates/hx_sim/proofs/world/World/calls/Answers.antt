@@ -1,11 +1,11 @@
-use Rattle.std.proofs.Common.{rules, ◌≡◌, ◌-◌, true, false, refl, sym, ap, ◌∙◌}
+use Rattle.std.proofs.Common.{rules, arith, ◌≡◌, ◌-◌, true, false, refl, sym, ap, ◌∙◌}
 use Rattle.hx_scene.proofs.Reaching.{does_err}
 use Rattle.hx_sim.proofs.Staying.{still_controller, reached_controller}
-use Rattle.hx_sim.proofs.Calling.{calls_begin, loop_on, loop_ends, loop_fails, loop_over}
+use Rattle.hx_sim.proofs.Calling.{loop_begins, loop_on, loop_ends, loop_fails, loop_over}
 use Rattle.hx_sim.proofs.world.World.calls.Goals as goal
 
 pub loop-init : goal.loop-init
-loop-init g c = calls_begin c.args.voice c.args.controller c.args.count c.args.self.now c.args.out.now
+loop-init g c = loop_begins c.args.voice c.args.controller c.args.count (c.args.count - 0) c.args.self.now c.args.out.now (omega arith)
 
 pub call-requires-after_bounds : goal.call-requires-after_bounds
 call-requires-after_bounds g c κs within = reached_controller c.loop.invariant c.args.controller c.requires
