@@ -3,3 +3,4 @@ pub mod Said
 pub mod Stages
 pub mod Calling
 pub mod Words
+pub mod Settling

@@ -30,7 +30,7 @@ told v k (Ok outcome) x = and_then (tell_outcome v k outcome x) (λ y. gives y o
 told v k (Err fault) x = and_then (note_fault v fault x) (λ y. gives y None)
 
 -- an operation, a pure change with an answer, and what is done by that answer
-changed_on : {A B : Type 0} (r : Deed) (change : State → State) (answer : A) (f : A → State → Run B)
+pub changed_on : {A B : Type 0} (r : Deed) (change : State → State) (answer : A) (f : A → State → Run B)
     → and_then r (λ y. f answer (change y)) ≡ go_on (and_then r (λ y. gives (change y) answer)) f
 changed_on (GoesOn is y a) change answer f = ap (λ l. after_items l (f answer (change y))) (sym (append-nil is))
 changed_on (Stops is y) change answer f = refl
