@@ -7,3 +7,9 @@ pub mod Saying
 pub mod Bags
 pub mod Beginning
 pub mod Asking
+pub mod Staying
+pub mod Said
+pub mod Stages
+pub mod Calling
+pub mod Words
+pub mod Settling

@@ -7,10 +7,11 @@ ghost use Rattle.hx_control.specs.Controllers.{stage as stage_of};
 ghost use Rattle.hx_pass.specs.Turns.{Call};
 ghost use Rattle.hx_worlds.specs.World.{controller_of};
 ghost use Rattle.hx_worlds.specs.Turns.{do_call, do_calls, do_rest, do_pass, do_word, do_read, do_send};
-ghost use Rattle.hx_worlds.specs.Turns.{do_post, out_of_turn, pass_over};
+ghost use Rattle.hx_worlds.specs.Turns.{do_post, out_of_turn, is_passed_over, pass_over, left_of, begin_if_idle};
 ghost use Rattle.hx_scene.specs.Scenes.{world_of};
 ghost use Rattle.hx_scene.specs.Doing.{Does, DoesDeed};
-ghost use Rattle.hx_sim.specs.Words.{word_for, IsNextOf};
+ghost use Rattle.hx_sim.specs.Words.{word_for, IsNextOf, step_on, plan_and_send};
+ghost use Rattle.hx_sim.specs.Words.{is_live_stage, is_mail_stage, is_states_stage, is_ideals_stage, is_send_stage, is_post_stage};
 
 use crate::World;
 use hx_board::RoomFault;
@@ -37,12 +38,80 @@ fn word_of(stage: Stage) -> Word
     }
 }
 
+fn is_live(stage: Stage) -> bool
+    ensures { result ≡ is_live_stage stage }
+{
+    matches!(stage, Stage::Live)
+}
+
+fn is_mail(stage: Stage) -> bool
+    ensures { result ≡ is_mail_stage stage }
+{
+    matches!(stage, Stage::Mail(_))
+}
+
+fn is_states(stage: Stage) -> bool
+    ensures { result ≡ is_states_stage stage }
+{
+    matches!(stage, Stage::States(_))
+}
+
+fn is_ideals(stage: Stage) -> bool
+    ensures { result ≡ is_ideals_stage stage }
+{
+    matches!(stage, Stage::Ideals)
+}
+
+fn is_send(stage: Stage) -> bool
+    ensures { result ≡ is_send_stage stage }
+{
+    matches!(stage, Stage::Plan | Stage::Send)
+}
+
+fn is_post(stage: Stage) -> bool
+    ensures { result ≡ is_post_stage stage }
+{
+    matches!(stage, Stage::Post)
+}
+
 impl<F: Factory> World<F> {
     fn stage(&self, controller: ControllerId) -> Stage
         requires { has_controller self.now.board.cluster controller ≡ true }
         ensures { result ≡ stage_of (controller_of (world_of self.now) controller) }
     {
         self.scene.controller(controller).stage()
+    }
+
+    /// Makes a step of a turn that is under way.
+    fn step_on(
+        &mut self,
+        voice: Voice,
+        controller: ControllerId,
+        out: &mut Page,
+    ) -> Result<Option<PassOutcome>, RoomFault>
+        requires { has_controller self.old.board.cluster controller ≡ true }
+        ensures { Does (λ x. step_on voice controller x) (λ o. o)
+            self.old out.old self.new out.new result }
+    {
+        match self.stage(controller) {
+            Stage::Idle => Ok(None),
+            _ => self.step(voice, controller, out),
+        }
+    }
+
+    /// Makes the plan of a turn, and its dispatch.
+    fn plan_and_send(
+        &mut self,
+        voice: Voice,
+        controller: ControllerId,
+        out: &mut Page,
+    ) -> Result<Option<PassOutcome>, RoomFault>
+        requires { has_controller self.old.board.cluster controller ≡ true }
+        ensures { Does (λ x. plan_and_send voice controller x) (λ o. o)
+            self.old out.old self.new out.new result }
+    {
+        self.step(voice, controller, out)?;
+        self.step_on(voice, controller, out)
     }
 
     /// Makes a call of a turn. Before a dispatch the plan is made, where it wasn't made before.
@@ -56,13 +125,10 @@ impl<F: Factory> World<F> {
         ensures { Does (λ x. do_call voice controller x) (λ o. o)
             self.old out.old self.new out.new result }
     {
-        if self.stage(controller) == Stage::Plan {
-            self.step(voice, controller, out)?;
-            if self.stage(controller) == Stage::Idle {
-                return Ok(None);
-            }
+        match self.stage(controller) {
+            Stage::Plan => self.plan_and_send(voice, controller, out),
+            _ => self.step(voice, controller, out),
         }
-        self.step(voice, controller, out)
     }
 
     /// Makes so many calls of a turn, up to one that is refused.
@@ -79,11 +145,10 @@ impl<F: Factory> World<F> {
     {
         let mut outcome = None;
         for _ in 0..count {
-            if let Some(later) = self.call(voice, controller, out)? {
-                outcome = Some(later);
-            }
-            if self.stage(controller) == Stage::Idle {
-                break;
+            let later = self.call(voice, controller, out)?;
+            outcome = later.or(outcome);
+            if let Stage::Idle = self.stage(controller) {
+                return Ok(outcome);
             }
         }
         Ok(outcome)
@@ -104,6 +169,23 @@ impl<F: Factory> World<F> {
         self.calls(voice, controller, count, out)
     }
 
+    /// Begins a turn, unless one is under way.
+    fn begin_if_idle(
+        &mut self,
+        voice: Voice,
+        controller: ControllerId,
+        out: &mut Page,
+    ) -> Result<Option<PassOutcome>, RoomFault>
+        requires { has_controller self.old.board.cluster controller ≡ true }
+        ensures { Does (λ x. begin_if_idle voice controller (left_of x controller) x) (λ o. o)
+            self.old out.old self.new out.new result }
+    {
+        match self.stage(controller) {
+            Stage::Idle => self.step(voice, controller, out),
+            _ => Ok(None),
+        }
+    }
+
     /// Makes the rest of a turn, a whole one where it is idle. Which calls come after the live
     /// sessions are read is known only then.
     pub(crate) fn pass(
@@ -116,9 +198,7 @@ impl<F: Factory> World<F> {
         ensures { Does (λ x. do_pass voice controller x) (λ o. o)
             self.old out.old self.new out.new result }
     {
-        if self.stage(controller) == Stage::Idle {
-            self.step(voice, controller, out)?;
-        }
+        self.begin_if_idle(voice, controller, out)?;
         let earlier = self.rest(voice, controller, out)?;
         let later = self.rest(voice, controller, out)?;
         Ok(later.or(earlier))
@@ -152,11 +232,12 @@ impl<F: Factory> World<F> {
             → DoesDeed (λ x. do_word voice controller is_of x)
             self.old out.old self.new out.new result }
     {
-        if !is_next {
-            return self.out_of_turn(voice, controller, out);
+        if is_next {
+            self.call(voice, controller, out)?;
+            Ok(())
+        } else {
+            self.out_of_turn(voice, controller, out)
         }
-        self.call(voice, controller, out)?;
-        Ok(())
     }
 
     pub(crate) fn read_live(
@@ -169,7 +250,7 @@ impl<F: Factory> World<F> {
         ensures { DoesDeed (λ x. do_read voice controller ReadKind.Live x)
             self.old out.old self.new out.new result }
     {
-        let is_next = self.stage(controller) == Stage::Live;
+        let is_next = is_live(self.stage(controller));
         self.call_if(is_next, voice, controller, out)
     }
 
@@ -183,7 +264,7 @@ impl<F: Factory> World<F> {
         ensures { DoesDeed (λ x. do_read voice controller ReadKind.Ideals x)
             self.old out.old self.new out.new result }
     {
-        let is_next = self.stage(controller) == Stage::Ideals;
+        let is_next = is_ideals(self.stage(controller));
         self.call_if(is_next, voice, controller, out)
     }
 
@@ -197,7 +278,7 @@ impl<F: Factory> World<F> {
         ensures { DoesDeed (λ x. do_send voice controller x)
             self.old out.old self.new out.new result }
     {
-        let is_next = matches!(self.stage(controller), Stage::Plan | Stage::Send);
+        let is_next = is_send(self.stage(controller));
         self.call_if(is_next, voice, controller, out)
     }
 
@@ -211,8 +292,20 @@ impl<F: Factory> World<F> {
         ensures { DoesDeed (λ x. do_post voice controller x)
             self.old out.old self.new out.new result }
     {
-        let is_next = self.stage(controller) == Stage::Post;
+        let is_next = is_post(self.stage(controller));
         self.call_if(is_next, voice, controller, out)
+    }
+
+    /// Whether no session was shown and the ideals come next.
+    fn is_passed_over(&self, controller: ControllerId) -> bool
+        requires { has_controller self.now.board.cluster controller ≡ true }
+        ensures { result ≡ is_passed_over (controller_of (world_of self.now) controller) }
+    {
+        let turn = self.scene.controller(controller);
+        match turn.stage() {
+            Stage::Ideals => turn.shown() == 0,
+            _ => false,
+        }
     }
 
     /// Does nothing where no session was shown and the ideals come next, and notes else which step
@@ -227,11 +320,11 @@ impl<F: Factory> World<F> {
         ensures { DoesDeed (λ x. pass_over voice controller x)
             self.old out.old self.new out.new result }
     {
-        let turn = self.scene.controller(controller);
-        if turn.stage() == Stage::Ideals && turn.shown() == 0 {
-            return Ok(());
+        if self.is_passed_over(controller) {
+            Ok(())
+        } else {
+            self.out_of_turn(voice, controller, out)
         }
-        self.out_of_turn(voice, controller, out)
     }
 
     pub(crate) fn read_mail(
@@ -245,12 +338,13 @@ impl<F: Factory> World<F> {
             self.old out.old self.new out.new result }
     {
         let turn = self.scene.controller(controller);
-        let Stage::Mail(_) = turn.stage() else {
-            return self.pass_over(voice, controller, out);
-        };
-        let count = turn.mail_left();
-        self.calls(voice, controller, count, out)?;
-        Ok(())
+        if is_mail(turn.stage()) {
+            let count = turn.mail_left();
+            self.calls(voice, controller, count, out)?;
+            Ok(())
+        } else {
+            self.pass_over(voice, controller, out)
+        }
     }
 
     pub(crate) fn read_states(
@@ -264,11 +358,12 @@ impl<F: Factory> World<F> {
             self.old out.old self.new out.new result }
     {
         let turn = self.scene.controller(controller);
-        let Stage::States(_) = turn.stage() else {
-            return self.pass_over(voice, controller, out);
-        };
-        let count = turn.states_left();
-        self.calls(voice, controller, count, out)?;
-        Ok(())
+        if is_states(turn.stage()) {
+            let count = turn.states_left();
+            self.calls(voice, controller, count, out)?;
+            Ok(())
+        } else {
+            self.pass_over(voice, controller, out)
+        }
     }
 }

@@ -113,6 +113,7 @@ impl<F: Factory> World<F> {
         ensures { Does (λ x. step voice controller x) (λ o. o)
             self.old out.old self.new out.new result }
     {
+        self.scene.board();
         match self.scene.advance(controller, out)? {
             Ok(outcome) => {
                 self.tell_outcome(voice, controller, &outcome, out)?;

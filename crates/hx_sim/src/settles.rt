@@ -4,7 +4,7 @@ ghost use Rattle.std.specs.Prelude.{◌≡◌, true, ℕ, ◌+◌, ◌*◌, Opti
 ghost use Rattle.hx_cluster.specs.Steps.{has_controller};
 ghost use Rattle.hx_worlds.specs.Settles.{all_parts, most_states, enough_rounds, rounds, settle, say_settled, do_settle};
 ghost use Rattle.hx_scene.specs.Doing.{Does, DoesDeed};
-ghost use Rattle.hx_sim.specs.Rounds.{round};
+ghost use Rattle.hx_sim.specs.Rounds.{round, report_of};
 
 use crate::World;
 use hx_board::RoomFault;
@@ -51,6 +51,16 @@ fn rounds_for(live: u64, parts: u64, states: u64) -> Option<u64>
     budget.checked_mul(moves)
 }
 
+/// The report of a turn that settled.
+fn report_of(outcome: Option<PassOutcome>) -> Option<Report>
+    ensures { result ≡ report_of outcome }
+{
+    match outcome {
+        Some(PassOutcome::Settled(report)) => Some(report),
+        _ => None,
+    }
+}
+
 impl<F: Factory> World<F> {
     /// How many rounds are enough. More than a number of 64 bits are want of memory.
     fn enough_rounds(&self) -> Result<u64, AllocError>
@@ -73,11 +83,13 @@ impl<F: Factory> World<F> {
         ensures { Does (λ x. round controller x) (λ r. r)
             self.old out.old self.new out.new result }
     {
-        if let Some(PassOutcome::Settled(report)) = self.pass(Voice::Quiet, controller, out)? {
-            return Ok(Some(report));
+        match report_of(self.pass(Voice::Quiet, controller, out)?) {
+            Some(report) => Ok(Some(report)),
+            None => {
+                self.work_all(out)?;
+                Ok(None)
+            }
         }
-        self.work_all(out)?;
-        Ok(None)
     }
 
     /// Makes rounds up to the one that settles, so many at most.
