@@ -48,7 +48,7 @@ impl<F: Factory> World<F> {
           board = board;
           controllers = controllers.items;
           staff = participants.items;
-          open = [];
+          jobs = [];
           bag = [];
           handed = 0;
         }) }
@@ -57,7 +57,7 @@ impl<F: Factory> World<F> {
           board = board;
           controllers = controllers.items;
           staff = participants.items;
-          open = [];
+          jobs = [];
           bag = [];
           handed = 0;
         }) }

@@ -18,4 +18,4 @@ pub returns-in-None : goal.returns-in-None
 returns-in-None g c =
     let s = c.self.inside.scene in
     rw (← c.self.view_is)
-    (does_as _ _ s (λ a. ap (λ o. deliver_from_bag c.args.voice c.args.instance o (at s a)) (sym c.fetched.ensures ∙ c.in-None.is)) _ _ _ _ _ c.note.ensures)
+    (does_as _ _ s (λ a. ap (λ o. deliver_from_bag c.args.voice c.args.instance o (at s a)) (sym c.fetched.ensures ∙ c.in-None.is)) _ _ _ _ _ c.note.ensures.does)

@@ -15,4 +15,4 @@ returns g c =
     let x = controller_of (world_of c.args.self.now) c.args.controller in
     does_as (out_of_turn c.args.voice c.args.controller) (note c.args.voice (notes.OutOfTurn c.word_of-word.result)) c.args.self.now
     (λ a. ap (λ (w : Word). note c.args.voice (notes.OutOfTurn w) (at c.args.self.now a)) (sym (c.word_of-word.ensures ∙ ap word_for c.stage.ensures ∙ word_at x x.turn.left)))
-    (λ r. tt) c.args.out.now _ _ _ (rw (← c.self.view_is) c.note.ensures)
+    (λ r. tt) c.args.out.now _ _ _ (rw (← c.self.view_is) c.note.ensures.does)

@@ -19,4 +19,4 @@ returns-in-None g c =
     let s = c.self.inside.scene in
     let name = c.args.name in
     let found : newest s.board.cluster name ≡ None = sym (ap (λ (b : Held). newest b.cluster name) c.board.ensures.board) ∙ sym c.newest.ensures ∙ c.in-None.is in
-    rw (← c.self.view_is) (does_as _ _ s (λ a. ap (λ o. route_on c.args.voice c.args.index c.args.state o (at s a)) found) _ _ _ _ _ c.note.ensures)
+    rw (← c.self.view_is) (does_as _ _ s (λ a. ap (λ o. route_on c.args.voice c.args.index c.args.state o (at s a)) found) _ _ _ _ _ c.note.ensures.does)

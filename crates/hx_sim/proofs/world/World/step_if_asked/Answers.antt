@@ -12,4 +12,4 @@ returns-in-Some g c =
 pub returns-in-None : goal.returns-in-None
 returns-in-None g c =
     let s = c.self.inside.scene in
-    rw (← c.self.view_is) (does_as _ _ s (λ a. ap (λ o. do_asked c.args.voice o (at s a)) c.in-None.is) _ _ _ _ _ c.note.ensures)
+    rw (← c.self.view_is) (does_as _ _ s (λ a. ap (λ o. do_asked c.args.voice o (at s a)) c.in-None.is) _ _ _ _ _ c.note.ensures.does)
