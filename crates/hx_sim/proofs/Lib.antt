@@ -13,3 +13,4 @@ pub mod Stages
 pub mod Calling
 pub mod Words
 pub mod Settling
+pub mod Enough

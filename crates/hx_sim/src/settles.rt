@@ -67,10 +67,16 @@ impl<F: Factory> World<F> {
         ensures { IfOk result (λ rounds. rounds ≡ enough_rounds self.now.board.cluster) }
     {
         let board = self.scene.board();
-        let live = board.roster()?.len() as u64;
-        let parts = all_parts(board.resources()).ok_or(AllocError)?;
+        let shown = board.roster()?;
+        let live = shown.as_slice().len() as u64;
+        let Some(parts) = all_parts(board.resources()) else {
+            return Err(AllocError);
+        };
         let states = most_states(self.scene.spec().models.as_slice());
-        rounds_for(live, parts, states).ok_or(AllocError)
+        let Some(rounds) = rounds_for(live, parts, states) else {
+            return Err(AllocError);
+        };
+        Ok(rounds)
     }
 
     /// Makes a round: the rest of the leader's turn, then work, unless that turn settled.
