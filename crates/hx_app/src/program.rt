@@ -8,8 +8,8 @@ ghost use Rattle.hx_app.specs.Writes.{Writes};
 ghost use Rattle.hx_app.specs.Runs.{Runs, RunsWords, HoldsOfTold, untold_by};
 
 use hx_io::{ReadFault, Sink, Source, read_all, write_all};
-use hx_replies::{MOST_BYTES, Status, answer, generated};
-use hx_words::{RunMode, Task, Words, WordsFault, read_words, usage, version};
+use hx_replies::{MOST_BYTES, Status, answer};
+use hx_words::{Task, Words, WordsFault, read_words, usage, version};
 use std::alloc::{AllocError, Global};
 use std::io;
 use std::io::ErrorKind;
@@ -39,12 +39,6 @@ pub fn run_script<S: Source, K: Sink>(alloc: Global, task: Task, src: &mut S, ou
         (record { got = K.got out.new; faults = K.faults out.new })
         result.0 }
 {
-    if task.mode == RunMode::Gen {
-        return match generated(alloc, task) {
-            Ok(reply) => write(reply.status, reply.text.as_bytes(), out),
-            Err(AllocError) => Status::NO_MEMORY,
-        };
-    }
     let bytes = match read_all(alloc, src, MOST_BYTES) {
         Ok(bytes) => bytes,
         Err(ReadFault::Failed) => return write(Status::READ_FAULT, b"read fault\n", out),

@@ -1,6 +1,10 @@
 pub mod Constants
+pub mod Demo
+pub mod DemoPlan
+pub mod FirstPath
 pub mod Input
 pub mod KindNames
 pub mod History
 pub mod Answers
 pub mod Refusals
+pub mod Brings

@@ -2,11 +2,13 @@
 #![tactic(auto)]
 
 mod constants;
+mod demo_plan;
 mod input;
 mod kind_names;
 pub mod laws;
 mod reply;
-mod simulation;
+mod script;
+mod world;
 
 pub use constants::{MOST_BYTES, Status};
-pub use reply::{Reply, answer, generated};
+pub use reply::{Reply, answer};

@@ -4,14 +4,11 @@ ghost use Rattle.hx_replies.specs.Constants.{most_bytes};
 ghost use Rattle.hx_replies.specs.Answers.{AnswersAs, fault_answer, answer_in, answer_of};
 
 use crate::constants::Status;
-use crate::input::{InputFault, InputRefusal, Scenario, read_scenario};
+use crate::input::{InputFault, InputRefusal, NotBuilt, read_scenario};
 use crate::kind_names::{desc_kind_name, script_kind_name};
-use crate::simulation::{print_full, simulate};
+use crate::script::script_page;
 use hx_desc::DescFault;
 use hx_script::ScriptFault;
-use hx_genwork::make;
-use hx_scene::print_counts;
-use hx_sim::summary_of;
 use hx_text::{Page, Piece};
 use hx_words::{RunMode, Task};
 use std::alloc::{AllocError, Global};
@@ -30,6 +27,7 @@ fn refused(alloc: Global, fault: &InputFault) -> Result<Reply, AllocError>
     match fault {
         InputFault::Description(fault) => description_refused(alloc, fault),
         InputFault::Script(fault) => script_refused(alloc, fault),
+        InputFault::NotBuilt(part) => not_built(alloc, *part),
     }
 }
 
@@ -67,68 +65,53 @@ fn script_refused(alloc: Global, fault: &ScriptFault) -> Result<Reply, AllocErro
     })
 }
 
-/// The answer to a script that is run line by line.
-fn simulated(alloc: Global, scenario: Scenario) -> Result<Reply, AllocError> {
-    let run = simulate(alloc, scenario)?;
-    let mut text = run.page;
-    match run.full {
-        None => Ok(Reply {
-            status: Status::DONE,
-            text,
-        }),
-        Some(weight) => {
-            print_full(weight, &mut text)?;
-            Ok(Reply {
-                status: Status::HISTORY_FULL,
-                text,
-            })
-        }
-    }
-}
-
-/// The answer to a generated script: its summary alone.
-fn summarized(alloc: Global, scenario: Scenario) -> Result<Reply, AllocError> {
-    let run = simulate(alloc, scenario)?;
+fn not_built(alloc: Global, part: NotBuilt) -> Result<Reply, AllocError>
+    ensures { IfOk result (AnswersAs (fault_answer (InputFault.NotBuilt part))) }
+{
     let mut text = Page::new(alloc);
-    match run.full {
-        None => {
-            let summary = summary_of(run.board.history().entries.as_slice())?;
-            print_counts(&summary, &mut text)?;
+    match part {
+        NotBuilt::Description => {
+            text.push_str("description not-built $\n")?;
             Ok(Reply {
-                status: Status::DONE,
+                status: Status::DESCRIPTION_REFUSED,
                 text,
             })
         }
-        Some(weight) => {
-            print_full(weight, &mut text)?;
+        NotBuilt::Line(line) => {
+            text.push_all(&[
+                Piece::Text("script "),
+                Piece::Number(line as u64),
+                Piece::Text(" not-built\n"),
+            ])?;
             Ok(Reply {
-                status: Status::HISTORY_FULL,
+                status: Status::SCRIPT_REFUSED,
                 text,
             })
         }
     }
 }
 
-/// The answer to an input in a mode that reads one.
-fn answer_sim(alloc: Global, bytes: &[u8]) -> Result<Reply, AllocError> {
+/// The answer to an input whose script is run line by line.
+fn simulated(alloc: Global, bytes: &[u8]) -> Result<Reply, AllocError>
+    requires { length bytes.now ≤ most_bytes }
+    ensures { IfOk result (AnswersAs (answer_in RunMode.Sim bytes.now)) }
+{
     match read_scenario(alloc, bytes) {
-        Ok(scenario) => simulated(alloc, scenario),
-        Err(InputRefusal::Fault(fault)) => refused(alloc, &fault),
-        Err(InputRefusal::OutOfMemory) => Err(AllocError),
-    }
-}
-
-/// The answer to no input: that of the one which is generated.
-pub fn generated(alloc: Global, task: Task) -> Result<Reply, AllocError> {
-    let input = make(alloc, task.seed, task.size)?;
-    match read_scenario(alloc, input.as_bytes()) {
-        Ok(scenario) => summarized(alloc, scenario),
+        Ok(scenario) => Ok(Reply {
+            status: Status::DONE,
+            text: script_page(alloc, &scenario.spec, scenario.lines.as_slice())?,
+        }),
         Err(InputRefusal::Fault(fault)) => refused(alloc, &fault),
         Err(InputRefusal::OutOfMemory) => Err(AllocError),
     }
 }
 
 /// The answer to an input, as the task asks.
-pub fn answer(alloc: Global, task: Task, bytes: &[u8]) -> Result<Reply, AllocError> {
-    answer_sim(alloc, bytes)
+pub fn answer(alloc: Global, task: Task, bytes: &[u8]) -> Result<Reply, AllocError>
+    requires { length bytes.now ≤ most_bytes }
+    ensures { IfOk result (AnswersAs (answer_of task bytes.now)) }
+{
+    match task.mode {
+        RunMode::Sim => simulated(alloc, bytes),
+    }
 }
