@@ -47,7 +47,9 @@ fn rounds_for(live: u64, parts: u64, states: u64) -> Option<u64>
 {
     let replicas = live.checked_mul(parts)?;
     let budget = replicas.checked_mul(2)?.checked_add(2)?;
-    let moves = replicas.checked_mul(states.checked_add(2)?)?.checked_add(2)?;
+    let moves = replicas
+        .checked_mul(states.checked_add(2)?)?
+        .checked_add(2)?;
     budget.checked_mul(moves)
 }
 

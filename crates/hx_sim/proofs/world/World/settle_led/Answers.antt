@@ -1,4 +1,4 @@
-use Rattle.std.proofs.Common.{rules, ◌≡◌, refl, sym, ap, ◌∙◌}
+use Rattle.std.proofs.Common.{refl}
 use Rattle.hx_scene.proofs.Reaching.{does_err, cut_here}
 use Rattle.hx_sim.proofs.Settling.{leader_read, leader_in, nobody_led, led_ends, led_fails}
 use Rattle.hx_sim.proofs.world.World.settle_led.Goals as goal
@@ -20,7 +20,7 @@ pub returns-in_err-settled : goal.returns-in_err-settled
 returns-in_err-settled g c =
     does_err _ _ _ _ _ _ _ _ c.from_residual-in_err-settled.ensures.1
     (led_fails c.args.self.now c.in-Some.controller c.in_ok-most.most
-        (leader_read c.args.self.now c.self.inside.scene _ _ _ c.self.view_is c.board.ensures.board c.leader.ensures c.in-Some.is) c.in_ok-most.ensures _ _ _ _ c.in_err-settled.ensures)
+    (leader_read c.args.self.now c.self.inside.scene _ _ _ c.self.view_is c.board.ensures.board c.leader.ensures c.in-Some.is) c.in_ok-most.ensures _ _ _ _ c.in_err-settled.ensures)
 
 pub returns : goal.returns
 returns g c =
