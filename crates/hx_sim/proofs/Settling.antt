@@ -1,22 +1,29 @@
 -- Rounds of a settle, one after another.
-use Rattle.std.proofs.Common.{◌≡◌, ℕ, zero, suc, ◌+◌, ◌-◌, ◌<◌, ◌≤◌, List, [], ◌++◌, Option, Some, None, refl, sym, ap, subst, ◌∙◌, arith}
+use Rattle.std.proofs.Common.{◌≡◌, true, ℕ, zero, suc, ◌+◌, ◌-◌, ◌<◌, ◌≤◌, List, [], ◌++◌, Option, Some, None, refl, sym, ap, subst, ◌∙◌, arith}
+use Rattle.std.specs.Prelude.{Result}
+use Rattle.std.specs.Option.{option_map_or}
 use Rattle.std.proofs.lemmas.List.{append-nil}
 use Rattle.hx_ids.specs.declared.ControllerId.{ControllerId}
 use Rattle.hx_cluster.specs.declared.planning.Report.{Report}
+use Rattle.hx_cluster.specs.Steps.{has_controller}
 use Rattle.hx_control.specs.declared.PassOutcome.{PassOutcome}
 use Rattle.hx_control.specs.declared.PassOutcome.TheVariants as ends
+use Rattle.hx_board.specs.Board.{Held, HasHistory}
 use Rattle.hx_board.specs.declared.faults.RoomFault.{RoomFault}
 use Rattle.hx_worlds.specs.declared.Settled.{Settled}
+use Rattle.hx_worlds.specs.declared.Voice.{Voice}
 use Rattle.hx_worlds.specs.declared.Voice.TheVariants.{Quiet}
 use Rattle.hx_worlds.specs.World.{Answers, State}
-use Rattle.hx_worlds.specs.Runs.{Run, GoesOn, Stops, gives, go_on, after_items}
+use Rattle.hx_worlds.specs.Runs.{Run, Deed, GoesOn, Stops, gives, go_on, after_items}
 use Rattle.hx_worlds.specs.Turns.{do_pass}
-use Rattle.hx_worlds.specs.Settles.{work_all, unless_settled, rounds}
+use Rattle.hx_worlds.specs.Settles.{work_all, unless_settled, enough_rounds, rounds, settle_led, settle, tell_settle, do_settle}
 use Rattle.hx_scene.specs.Scenes.{SceneState, at}
-use Rattle.hx_scene.specs.Doing.{Reaches, Ends, Fails}
-use Rattle.hx_scene.proofs.Reaching.{there, then_on, then_do, fails_inside_deed, reaches_as, reaches_to, fails_inside, fails_as, fails_after, on_after}
+use Rattle.hx_scene.specs.Kept.{IsScene}
+use Rattle.hx_scene.specs.Doing.{Reaches, Ends, Fails, DoesDeed}
+use Rattle.hx_scene.proofs.Reaching.{there, then_on, then_do, fails_inside_deed, reaches_as, reaches_to, fails_inside, fails_as, fails_after, on_after, does_as, does_then, nothing_done}
 use Rattle.hx_sim.specs.Rounds.{report_of, round_after, round}
 use Rattle.hx_sim.proofs.Said.{changed_on}
+use Rattle.hx_sim.proofs.Standing.{board_ranged}
 
 -- what follows a round, of which m are left after n
 abbrev pub rounds_after : ℕ → ControllerId → ℕ → Option Report → State → Run Settled
@@ -89,3 +96,50 @@ pass_work_fails k outcome {s} {u} {p} {q} e is fault w r f = fails_after (round_
 
 pub pass_stops : (k : ControllerId) (s : SceneState) (p : List ℕ) (fault : RoomFault) (u : SceneState) (q : List ℕ) → Fails (do_pass Quiet k) s p fault u q → Fails (round k) s p fault u q
 pass_stops k s p fault u q e = fails_inside (do_pass Quiet k) s p fault u q e (λ o y. round_after (report_of o) y)
+
+-- who leads is read off the board, and is there
+pub leader_read : (s inside : SceneState) (b : Held) (read l : Option ControllerId) → inside ≡ s → b ≡ inside.board → read ≡ b.cluster.leader → read ≡ l → s.board.cluster.leader ≡ l
+leader_read s inside b read l seen shown reads is =
+    ap (λ (x : SceneState). x.board.cluster.leader) (sym seen) ∙ ap (λ (x : Held). x.cluster.leader) (sym shown) ∙ sym reads ∙ is
+
+leader_on : (b : Held) → HasHistory b → (k : ControllerId) → b.cluster.leader ≡ Some k → has_controller b.cluster k ≡ true
+leader_on b told k is = ap (λ (l : Option ControllerId). option_map_or (has_controller b.cluster) l true) (sym is) ∙ (board_ranged b told).leader
+
+pub leader_in : (s inside : SceneState) → IsScene inside → inside ≡ s → (k : ControllerId) → s.board.cluster.leader ≡ Some k → has_controller s.board.cluster k ≡ true
+leader_in s inside h seen k is = leader_on s.board (subst (λ (x : SceneState). HasHistory x.board) seen h.history) k is
+
+-- a settle, by who leads
+pub nobody_led : (s : SceneState) (p : List ℕ) → s.board.cluster.leader ≡ None → Ends settle s p None s p
+nobody_led s p is = nothing_done settle None s p (λ a. ap (λ (l : Option ControllerId). settle_led l (at s a)) is)
+
+abbrev pub led : ℕ → ControllerId → State → Run (Option Settled)
+led most k x = go_on (rounds most k 0 x) (λ settled y. gives y (Some settled))
+
+led_as : (s : SceneState) (k : ControllerId) (most : ℕ) → s.board.cluster.leader ≡ Some k → most ≡ enough_rounds s.board.cluster → (a : Answers) → settle (at s a) ≡ led most k (at s a)
+led_as s k most is enough a = ap (λ (l : Option ControllerId). settle_led l (at s a)) is ∙ ap (λ (n : ℕ). led n k (at s a)) (sym enough)
+
+pub led_ends : (s : SceneState) (k : ControllerId) (most : ℕ) → s.board.cluster.leader ≡ Some k → most ≡ enough_rounds s.board.cluster
+    → {p q : List ℕ} {u : SceneState} {settled : Settled} → Ends (rounds most k 0) s p settled u q → Ends settle s p (Some settled) u q
+led_ends s k most is enough e = reaches_as (led_as s k most is enough) (then_on e (λ settled y. gives y (Some settled)))
+
+pub led_fails : (s : SceneState) (k : ControllerId) (most : ℕ) → s.board.cluster.leader ≡ Some k → most ≡ enough_rounds s.board.cluster
+    → (p : List ℕ) (fault : RoomFault) (u : SceneState) (q : List ℕ) → Fails (rounds most k 0) s p fault u q → Fails settle s p fault u q
+led_fails s k most is enough p fault u q e =
+    fails_as settle (led most k) s (led_as s k most is enough) p fault u q (fails_inside (rounds most k 0) s p fault u q e (λ settled y. gives y (Some settled)))
+
+-- a settle and what is said of it
+abbrev pub settle_and_tell : Voice → Option ControllerId → State → Deed
+settle_and_tell v l x = go_on (settle x) (λ settled y. tell_settle v l settled y)
+
+aloud_as : (v : Voice) (s : SceneState) (l : Option ControllerId) → s.board.cluster.leader ≡ l → (a : Answers) → do_settle v (at s a) ≡ settle_and_tell v l (at s a)
+aloud_as v s l is a = ap (λ (o : Option ControllerId). settle_and_tell v o (at s a)) is
+
+pub aloud_does : {R : Type 0} (v : Voice) (s : SceneState) (l : Option ControllerId) → s.board.cluster.leader ≡ l → {p q : List ℕ} {u : SceneState} {settled : Option Settled} → Ends settle s p settled u q
+    → (w : SceneState) (r : List ℕ) (result : Result R RoomFault) → DoesDeed (tell_settle v l settled) u q w r result → DoesDeed (do_settle v) s p w r result
+aloud_does v s l is {p} e w r result d =
+    does_as (do_settle v) (settle_and_tell v l) s (aloud_as v s l is) (λ _. tt) p w r result (does_then e (λ settled y. tell_settle v l settled y) (λ _. tt) w r result d)
+
+pub aloud_fails : (v : Voice) (s : SceneState) (l : Option ControllerId) → s.board.cluster.leader ≡ l → (p : List ℕ) (fault : RoomFault) (u : SceneState) (q : List ℕ) → Fails settle s p fault u q
+    → Fails (do_settle v) s p fault u q
+aloud_fails v s l is p fault u q e =
+    fails_as (do_settle v) (settle_and_tell v l) s (aloud_as v s l is) p fault u q (fails_inside settle s p fault u q e (λ settled y. tell_settle v l settled y))

@@ -34,11 +34,7 @@ impl<F: Factory> World<F> {
     }
 
     /// Says which replicas failed, and which a bound holds back.
-    pub(crate) fn say_entries(
-        &mut self,
-        entries: &[Entry],
-        out: &mut Page,
-    ) -> Result<(), RoomFault>
+    pub(crate) fn say_entries(&mut self, entries: &[Entry], out: &mut Page) -> Result<(), RoomFault>
         ensures { DoesDeed (λ x. say_entries entries.now x)
             self.old out.old self.new out.new result }
     {

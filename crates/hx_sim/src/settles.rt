@@ -2,7 +2,7 @@
 
 ghost use Rattle.std.specs.Prelude.{◌≡◌, true, ℕ, ◌+◌, ◌*◌, Option, IfOk, IfSome};
 ghost use Rattle.hx_cluster.specs.Steps.{has_controller};
-ghost use Rattle.hx_worlds.specs.Settles.{all_parts, most_states, enough_rounds, rounds, settle, say_settled, do_settle};
+ghost use Rattle.hx_worlds.specs.Settles.{all_parts, most_states, enough_rounds, rounds, settle, say_settled, tell_settle, do_settle};
 ghost use Rattle.hx_scene.specs.Doing.{Does, DoesDeed};
 ghost use Rattle.hx_sim.specs.Rounds.{round, report_of};
 
@@ -47,7 +47,9 @@ fn rounds_for(live: u64, parts: u64, states: u64) -> Option<u64>
 {
     let replicas = live.checked_mul(parts)?;
     let budget = replicas.checked_mul(2)?.checked_add(2)?;
-    let moves = replicas.checked_mul(states.checked_add(2)?)?.checked_add(2)?;
+    let moves = replicas
+        .checked_mul(states.checked_add(2)?)?
+        .checked_add(2)?;
     budget.checked_mul(moves)
 }
 
@@ -152,6 +154,26 @@ impl<F: Factory> World<F> {
         }
     }
 
+    /// Says what came of a settle, or that nobody led.
+    fn tell_settle(
+        &mut self,
+        voice: Voice,
+        leader: Option<ControllerId>,
+        settled: &Option<Settled>,
+        out: &mut Page,
+    ) -> Result<(), RoomFault>
+        ensures { DoesDeed (λ x. tell_settle voice leader settled.now x)
+            self.old out.old self.new out.new result }
+    {
+        let Some(controller) = leader else {
+            return self.scene.note(voice, &Note::NoLeader, out);
+        };
+        match settled {
+            Some(settled) => self.say_settled(controller, settled, out),
+            None => self.scene.note(voice, &Note::NoLeader, out),
+        }
+    }
+
     /// Settles the cluster, and says what came of it.
     pub(crate) fn settle_aloud(&mut self, voice: Voice, out: &mut Page) -> Result<(), RoomFault>
         ensures { DoesDeed (λ x. do_settle voice x)
@@ -159,9 +181,6 @@ impl<F: Factory> World<F> {
     {
         let leader = self.scene.board().leader();
         let settled = self.settle_led(out)?;
-        match (leader, settled) {
-            (Some(controller), Some(settled)) => self.say_settled(controller, &settled, out),
-            _ => self.scene.note(voice, &Note::NoLeader, out),
-        }
+        self.tell_settle(voice, leader, &settled, out)
     }
 }

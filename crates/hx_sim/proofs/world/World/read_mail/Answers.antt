@@ -16,8 +16,8 @@ returns-in_err-calls g c =
     let e : x ≡ controller_of (world_of c.args.self.now) c.args.controller = c.controller-turn.ensures ∙ ap (λ s. controller_of (world_of s) c.args.controller) c.self.view_is in
     does_err _ _ _ _ _ _ _ _ c.from_residual.ensures.1
     (words_fail c.args.voice c.args.controller is_mail_call (pass_over c.args.voice c.args.controller) c.mail_left-count.result c.args.self.now c.args.out.now
-        (ap (λ (y : Controller). is_first_of is_mail_call y.turn.left) (sym e) ∙ mail_at x x.turn.left ∙ ap is_mail_stage (sym c.stage.ensures) ∙ sym c.is_mail.ensures ∙ c.if-is_mail.true)
-        (c.mail_left-count.ensures ∙ ap (λ (y : Controller). count is_mail_call y.turn.left) e) _ _ _ c.in_err-calls.ensures)
+    (ap (λ (y : Controller). is_first_of is_mail_call y.turn.left) (sym e) ∙ mail_at x x.turn.left ∙ ap is_mail_stage (sym c.stage.ensures) ∙ sym c.is_mail.ensures ∙ c.if-is_mail.true)
+    (c.mail_left-count.ensures ∙ ap (λ (y : Controller). count is_mail_call y.turn.left) e) _ _ _ c.in_err-calls.ensures)
 
 pub returns-in_ok-calls : goal.returns-in_ok-calls
 returns-in_ok-calls g c =
