@@ -158,7 +158,7 @@ none_accepted : (spec : Spec) (n : ℕ) → list_all (has_fetched spec []) (repl
 none_accepted spec zero = refl
 none_accepted spec (suc n) = none_accepted spec n
 
-opening_of : (spec : Spec) (limit : ℕ) → IsOfItsHistory spec (opening_world spec limit)
+pub opening_of : (spec : Spec) (limit : ℕ) → IsOfItsHistory spec (opening_world spec limit)
 opening_of spec limit = record {
   given = refl;
   lawful = (tt, tt);

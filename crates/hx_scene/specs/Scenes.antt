@@ -25,8 +25,9 @@ plain_job j = record {
   is_written = j.is_written;
 }
 
--- the board, the controllers by number, the participants by instance, the open jobs, and the bag of what was fetched. At most as many
--- makings of a part's handler were tried, and at most as many runs of a handler there were, as messages were handed out
+-- the board, the controllers by number, the participants by instance, the open jobs, and the bag of what was fetched. So many messages
+-- were handed out: in a scene that was put together of new participants, at most so many makings of a part's handler were tried, and at
+-- most so many runs of a handler there were
 pub record SceneState : Type 0 where
   pub spec : Spec
   pub board : Held

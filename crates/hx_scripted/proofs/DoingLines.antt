@@ -25,6 +25,7 @@ use Rattle.hx_cluster.specs.Ends.{shown_of}
 use Rattle.hx_cluster.specs.Steps.{opening, refusal_of, did_of, has_instance, is_in_range, session_of}
 use Rattle.hx_cluster.specs.Reads.{instance_before, live_shown, messages_for, fetched}
 use Rattle.hx_cluster.specs.Events.{replay, is_later, can_take, can_write, can_ack}
+use Rattle.hx_cluster.specs.Weight.{weight_of}
 use Rattle.hx_cluster.specs.Valid.{IsValid}
 use Rattle.hx_pass.specs.Lawful.{IsLawful}
 use Rattle.hx_print.specs.declared.Note.TheVariants as notes
@@ -43,7 +44,8 @@ use Rattle.hx_worlds.specs.World.{State, Job, participant_of, with_participant}
 use Rattle.hx_worlds.specs.declared.Settled.{Settled}
 use Rattle.hx_worlds.specs.declared.Voice.{Voice}
 use Rattle.hx_worlds.specs.declared.Voice.TheVariants.{Quiet, Loud}
-use Rattle.hx_worlds.specs.Runs.{Run, Deed, state_of, done, gives, and_then, happened, for_each}
+use Rattle.hx_worlds.specs.Items.{Item, Happens}
+use Rattle.hx_worlds.specs.Runs.{Run, Deed, GoesOn, Stops, state_of, done, gives, and_then, happened, make, for_each}
 use Rattle.hx_worlds.specs.Jobs
 use Rattle.hx_worlds.specs.Settles
 use Rattle.hx_worlds.specs.Scripts
@@ -383,6 +385,24 @@ line_left spec l x valid of next =
     let k = what_done spec valid (Some l.number) (Loud l.number) l.what (happened (events.Line l.number) x) ranged (line_happens spec last l x later s) in
     (happens_then (HasStood spec) (events.Line l.number) x (λ y. Scripts.do_what (Loud l.number) l.what y) (record { last = last; stands = s })
     (keeps_more (Stands spec (Some l.number)) (HasStood spec) (Scripts.do_what (Loud l.number) l.what (happened (events.Line l.number) x)) k (λ y there. record { last = Some l.number; stands = there }))).left.stands.of
+
+-- a line that is done is the last
+line_on : (spec : Spec) (n : ℕ) (stops : Bool) (e : Event) (x y : State) (is : List Item) (f : State → Deed) → Keeps (Stands spec (Some n)) (f (happened e x))
+    → and_then (if stops then Stops [] x else make e x) f ≡ GoesOn is y tt → y.world.cluster.line ≡ Some n
+line_on spec n true e x y is f keeps ends = cc
+line_on spec n false e x y is f keeps ends =
+    subst (λ (z : State). z.world.cluster.line ≡ Some n) (ap state_of ends) (keeps_after (Stands spec (Some n)) (Happens e ∷ []) (f (happened e x)) keeps).left.line
+
+pub line_done : (spec : Spec) (l : Line) (x y : State) (is : List Item) → IsValid spec → IsOfItsHistory spec x.world → Scripts.is_next_line spec x.world.cluster.line l ≡ true
+    → Scripts.do_line l x ≡ GoesOn is y tt → y.world.cluster.line ≡ Some l.number
+line_done spec l x y is valid of next ends =
+    let last = x.world.cluster.line in
+    let s : Stands spec last x = record { of = of; line = refl } in
+    let later = and-first (is_later last l.number) (Ranges.is_line_in_range spec l) next in
+    let ranged = and-second (is_later last l.number) (Ranges.is_line_in_range spec l) next in
+    let e : Event = events.Line l.number in
+    line_on spec l.number (nat_lt x.world.limit (x.world.weight + weight_of e)) e x y is (λ z. Scripts.do_what (Loud l.number) l.what z)
+    (what_done spec valid (Some l.number) (Loud l.number) l.what (happened e x) ranged (line_happens spec last l x later s)) ends
 
 pub settle_left : (spec : Spec) (x : State) → IsValid spec → IsOfItsHistory spec x.world → IsOfItsHistory spec (state_of (Settles.settle x)).world
 settle_left spec x valid of = (settled spec valid x.world.cluster.line x.world.cluster.leader x (record { of = of; line = refl })).left.of
