@@ -25,9 +25,10 @@ use Rattle.hx_worlds.specs.Agree
 use Rattle.hx_safe.proofs.Counting.{and-first, and-second, and-both, find-passes, find-any, find-single, none-find}
 use Rattle.hx_safe.proofs.Ends.{same-self, session_same}
 use Rattle.hx_runs.proofs.Waiting.{any-le}
-use Rattle.hx_agreed.specs.InStep.{of_instance, IsPending, is_lent_as, HasWork, IsAlong, IsUntouched, IsHeldJob, IsOldIn, IsInBag, AreInStep}
+use Rattle.hx_agreed.specs.InStep.{Each, of_instance, IsPending, is_lent_as, HasWork, HasSlot, IsAlong, IsUntouched, IsStale, IsHeldJob, IsOldIn, IsInBag, AreInStep}
 use Rattle.hx_agreed.proofs.Lists.{each-le, each-all, or-first, or-second, all_found, all_stationed, all_stationed_pass, any_stationed, in_range}
 use Rattle.hx_agreed.proofs.Slots.{all_slots, is_mine, mine_is}
+use Rattle.hx_agreed.proofs.Placed.{placed_work, placed_live}
 
 -- a session in which nothing was done has no row, and no message that is taken
 no_row : (o : Option Row) → option_map (λ r. r.state) o ≡ None → o ≡ None
@@ -159,9 +160,9 @@ module _ (c : Cluster) (safe : IsSafe c) where
     attached : (i : InstanceId) (t : SessionId) → (of_instance ws i).session ≡ Some t → is_live c.live t ≡ true → Agree.IsAttached c (record { instance = i; plain = of_instance ws i }) t
     attached i t mine live = record {
       own = (s.each i).own t mine live;
-      parts = λ q. ((s.each i).slots q).used;
-      numbers = λ q. ((s.each i).slots q).last;
-      initial = λ q. ((s.each i).slots q).initial;
+      parts = λ q. (placed_live c bag jobs i (of_instance ws i) (s.each i) t mine live q).used;
+      numbers = λ q. (placed_live c bag jobs i (of_instance ws i) (s.each i) t mine live q).last;
+      initial = λ q. (placed_live c bag jobs i (of_instance ws i) (s.each i) t mine live q).initial;
     }
 
     known : (i : InstanceId) (t : SessionId) → IsAlong c (of_instance ws i) t → list_all (Agree.is_known (of_instance ws i) t) c.mail ≡ true
@@ -179,6 +180,13 @@ module _ (c : Cluster) (safe : IsSafe c) where
         let a = (s.each i).along t mine live in
         record { attached = attached i t mine live; rows = a.rows; mail = known i t a }
 
+    -- a message of a participant's session is like those that it accepted
+    alike : (i : InstanceId) → IsStale c bag (of_instance ws i) ⊎ ((q : PartId) → HasSlot c bag jobs i (of_instance ws i).session q (slot_of (of_instance ws i) q)) → Each (Agree.LikeAccepted (of_instance ws i)) bag
+    alike i (inl stale) =
+        each-le (λ m. is_session (of_instance ws i).session m.session ≡ false) (Agree.LikeAccepted (of_instance ws i))
+        (λ m other mine t is. absurd (let z : true ≡ false = sym mine ∙ other in (cc))) bag stale.apart
+    alike i (inr each) = each-le (IsInBag c ws) (Agree.LikeAccepted (of_instance ws i)) (λ m b mine t is. (each m.part).initial t is ∙ sym b.initial) bag s.bagged
+
     -- all that AgreeOpen asks of participants, jobs and bag
     pub record IsAgreed : Type 0 where
       pub sessions : list_all (λ p. Agree.is_below c.next_session p.plain.session) (Agree.stationed_from 0 ws) ≡ true
@@ -194,11 +202,11 @@ module _ (c : Cluster) (safe : IsSafe c) where
     agreed = record {
       sessions = sessions;
       others = others;
-      accepted = slots_pass (λ i x. Agree.is_accepted_well c bag x.work) (λ i q. let w = of_instance ws i in accepted_well i w.session q (slot_of w q) (slot_of w q).work ((s.each i).slots q).work);
+      accepted = slots_pass (λ i x. Agree.is_accepted_well c bag x.work) (λ i q. let w = of_instance ws i in accepted_well i w.session q (slot_of w q) (slot_of w q).work (placed_work c bag jobs i w (s.each i) q));
       bagged = each-all (Agree.IsBagged c (Agree.stationed_from 0 ws)) bag (each-le (IsInBag c ws) (Agree.IsBagged c (Agree.stationed_from 0 ws)) bagged bag s.bagged);
       alike = at_place (λ p. All (Agree.LikeAccepted p.plain) bag)
-          (λ i. each-all (Agree.LikeAccepted (of_instance ws i)) bag (each-le (IsInBag c ws) (Agree.LikeAccepted (of_instance ws i)) (λ m b mine t is. ((s.each i).slots m.part).initial t is ∙ sym b.initial) bag s.bagged));
-      slots = slots_pass (λ i x. Agree.has_job jobs i x x.work) (λ i q. let w = of_instance ws i in job_there i w.session q (slot_of w q) (slot_of w q).work ((s.each i).slots q).work);
+          (λ i. each-all (Agree.LikeAccepted (of_instance ws i)) bag (alike i (s.each i).slots));
+      slots = slots_pass (λ i x. Agree.has_job jobs i x x.work) (λ i q. let w = of_instance ws i in job_there i w.session q (slot_of w q) (slot_of w q).work (placed_work c bag jobs i w (s.each i) q));
       each_job = each-all (Agree.IsOpenJob c (Agree.stationed_from 0 ws) jobs) jobs (each-le (IsHeldJob c ws jobs) (Agree.IsOpenJob c (Agree.stationed_from 0 ws) jobs) open_job jobs s.held);
       live = at_place (λ p. Agree.IfLive c p (Agree.IsOpenIn c p)) open_in;
     }

@@ -36,8 +36,9 @@ use Rattle.hx_safe.proofs.Beside.{IsBeside, beside_step, beside_pass}
 use Rattle.hx_safe.proofs.Whole.{IsWhole, whole_next}
 use Rattle.hx_runs.specs.Onward.{IsOn}
 use Rattle.hx_runs.proofs.On.{on_self, on_next}
-use Rattle.hx_agreed.specs.InStep.{of_instance, IsPending, IsUntouched, IsHeldJob, IsOldIn, IsInBag, IsSent, AreInStep}
+use Rattle.hx_agreed.specs.InStep.{of_instance, IsPending, IsUntouched, HasSlot, IsStale, IsHeldJob, IsOldIn, IsInBag, IsSent, AreInStep}
 use Rattle.hx_agreed.proofs.Lists.{each-le}
+use Rattle.hx_agreed.proofs.Placed.{placed_live}
 use Rattle.hx_agreed.proofs.Frames.{HasParts, new_known, work_like, slot_like, in_bag_like}
 use Rattle.hx_agreed.proofs.Quiet.{IsQuiet, quiet_in_step, beside_quiet, same_parts, live-within, found-without, back-without, without_quiet}
 
@@ -179,12 +180,10 @@ module _ (c : Cluster) (q : Proposal) (k : IsKept c) (ws : List Participant) (jo
       distinct = p.distinct;
       below = p.below;
       own = p.own;
-      slots = λ r. slot_like c d bag bag jobs jobs i w.session r (slot_of w r) parts (omega arith)
-          (work_like c d bag bag jobs jobs i w.session r (slot_of w r) (slot_of w r).work (λ n e. e) (λ n h e f. f)
-          (λ n mine of e u. let x = u e in record { now = x.now; found = before n.session n.part x.now x.found; same = x.same; untaken = x.untaken }) (p.slots r).work) (p.slots r);
+      slots = slots i w p.slots;
       along = λ t mine live. let a = p.along t mine live in record {
         rows = a.rows;
-        mail = λ r n e. known w t r n (a.mail r n) ((p.slots r).last) (sent_like c.mail m n t r e);
+        mail = λ r n e. known w t r n (a.mail r n) (placed_live c bag jobs i w p t mine live r).last (sent_like c.mail m n t r e);
       };
       free = λ t e. free w t (p.free t e);
     };
@@ -208,6 +207,13 @@ module _ (c : Cluster) (q : Proposal) (k : IsKept c) (ws : List Participant) (jo
 
       before : (t : SessionId) (r : PartId) (n : Message) → message_of c.mail t r ≡ Some n → message_of (c.mail ++ message_from c id q ∷ []) t r ≡ Some n
       before t r n e = find-before (is_message t r) c.mail (message_from c id q ∷ []) n e
+
+      slots : (i : InstanceId) (w : Participant) → IsStale c bag w ⊎ ((r : PartId) → HasSlot c bag jobs i w.session r (slot_of w r))
+          → IsStale (after_placed c q (placings.Sent id)) bag w ⊎ ((r : PartId) → HasSlot (after_placed c q (placings.Sent id)) bag jobs i w.session r (slot_of w r))
+      slots i w (inl stale) = inl (record { idle = stale.idle; dead = stale.dead; apart = stale.apart })
+      slots i w (inr each) = inr (λ r. slot_like c (after_placed c q (placings.Sent id)) bag bag jobs jobs i w.session r (slot_of w r) parts (omega arith)
+          (work_like c (after_placed c q (placings.Sent id)) bag bag jobs jobs i w.session r (slot_of w r) (slot_of w r).work (λ n e. e) (λ n h e f. f)
+          (λ n mine of e u. let x = u e in record { now = x.now; found = before n.session n.part x.now x.found; same = x.same; untaken = x.untaken }) (each r).work) (each r))
 
       number : id.0 ≡ c.next_msg
       number = ap (λ (x : MsgId). x.0) is

@@ -49,6 +49,7 @@ pub record IsChange (c d : Cluster) (ws ws' : List Participant) (jobs jobs' : Li
   pub others : (j : InstanceId) → (i.0 == j.0) ≡ false → of_instance ws' j ≡ of_instance ws j
   pub mine : (of_instance ws i).session ≡ Some s
   pub session : (of_instance ws' i).session ≡ Some s
+  pub active : (p : PartId) → HasSlot c bag jobs i (of_instance ws i).session p (slot_of (of_instance ws i) p)
   pub distinct : AreDistinct (map (λ x. x.part) (of_instance ws' i).slots)
   pub slots : (p : PartId) → part_eq q p ≡ false → slot_of (of_instance ws' i) p ≡ slot_of (of_instance ws i) p
   pub live : d.live ≡ c.live
@@ -111,14 +112,14 @@ module _ (c d : Cluster) (ws ws' : List Participant) (jobs jobs' : List Job) (ba
   placed_other j other =
       placed_like c d bag bag jobs jobs' j (of_instance ws j) k parts (let e = h.messages in omega arith) (let e = h.sessions in omega arith) (λ m is. is) (λ m is_held is. h.lent j m is_held other is)
       (λ t mine live. let l = live_before t live in (l, (λ is. sessions_same j ∙ is), other_like t (other_session j other t ((a.each j).own t mine l))))
-      (free_other j other) (a.each j)
+      (free_other j other) (λ stale. stale.apart) (a.each j)
 
   -- the participant itself
   slot_other : (p : PartId) → part_eq q p ≡ false → HasSlot d bag jobs' i (Some s) p (slot_of (of_instance ws i) p)
   slot_other p other =
       let w = of_instance ws i in
       let x = slot_of w p in
-      let old : HasSlot c bag jobs i (Some s) p x = subst (λ (o : Option SessionId). HasSlot c bag jobs i o p x) h.mine ((a.each i).slots p) in
+      let old : HasSlot c bag jobs i (Some s) p x = subst (λ (o : Option SessionId). HasSlot c bag jobs i o p x) h.mine (h.active p) in
       slot_like c d bag bag jobs jobs' i (Some s) p x parts (let e = h.messages in omega arith) (work x.work old.work) old
     where
       work : (w : Work) → HasWork c bag jobs i (Some s) p (slot_of (of_instance ws i) p) w → HasWork d bag jobs' i (Some s) p (slot_of (of_instance ws i) p) w
@@ -151,7 +152,7 @@ module _ (c d : Cluster) (ws ws' : List Participant) (jobs jobs' : List Job) (ba
           subst (λ (r : PartId). StandsAsRow d (of_instance ws' i) s r) same (h.row_here live (subst (λ (r : PartId). is_out (slot_of (of_instance ws' i) r).work ≡ false) (sym same) out))
       row false p is out =
           subst (λ (x : Slot). counts_as x (initial_of d p) ≡ unwrap_or (state_of d.rows s p) (initial_of d p)) (sym (h.slots p is))
-          (row_like c d (slot_of (of_instance ws i) p) s p k parts (h.rows s p (elsewhere p is)) ((a.each i).slots p).there
+          (row_like c d (slot_of (of_instance ws i) p) s p k parts (h.rows s p (elsewhere p is)) (h.active p).there
           (old.rows p (subst (λ (x : Slot). is_out x.work ≡ false) (h.slots p is) out)))
 
       known : (b : Bool) (p : PartId) → part_eq q p ≡ b → (n : Message) → message_of d.mail s p ≡ Some n → is_known_at (slot_of (of_instance ws' i) p) n ≡ true
@@ -177,7 +178,7 @@ module _ (c d : Cluster) (ws ws' : List Participant) (jobs jobs' : List Job) (ba
     distinct = h.distinct;
     below = subst (λ (n : ℕ). is_below n (of_instance ws' i).session ≡ true) (sym h.sessions) (subst (λ (o : Option SessionId). is_below c.next_session o ≡ true) (h.mine ∙ sym h.session) (a.each i).below);
     own = λ t is live. sessions_same i ∙ (a.each i).own t (h.mine ∙ sym h.session ∙ is) (live_before t live);
-    slots = λ p. subst (λ (o : Option SessionId). HasSlot d bag jobs' i o p (slot_of (of_instance ws' i) p)) (sym h.session) (slot_now p);
+    slots = inr (λ p. subst (λ (o : Option SessionId). HasSlot d bag jobs' i o p (slot_of (of_instance ws' i) p)) (sym h.session) (slot_now p));
     along = λ t is live. let same : s ≡ t = some_is s t (sym h.session ∙ is) in
         subst (λ (u : SessionId). IsAlong d (of_instance ws' i) u) same (along_now (subst (λ (u : SessionId). is_live c.live u ≡ true) (sym same) (live_before t live)));
     free = free_now;

@@ -31,7 +31,7 @@ use Rattle.hx_safe.proofs.Counting.{and-first, and-second, find-passes}
 use Rattle.hx_safe.proofs.Ideals.{length-put}
 use Rattle.hx_safe.proofs.Kept.{IsKept}
 use Rattle.hx_scripted.specs.OfHistory.{is_fetched}
-use Rattle.hx_scripted.proofs.Standing.{IsScripted, scripted_other}
+use Rattle.hx_scripted.proofs.Standing.{Last, IsScripted, scripted_other}
 use Rattle.hx_scripted.proofs.Lines.{write-line}
 use Rattle.hx_scripted.proofs.Keeping.{Keeps, keeps_then, makes_then, choice}
 use Rattle.hx_scripted.proofs.Taking.{jobs_there, job_ended, handed_there, put_back_there, accepted_fetched, participant_there}
@@ -106,7 +106,7 @@ module _ (c : Cluster) (k : IsKept c) (ws : List Participant) (jobs : List Job) 
 no_weight : (n : ℕ) (limit : ℕ) → n ≤ limit → n + 0 ≤ limit
 no_weight n limit e = omega arith
 
-module _ (spec : Spec) (valid : IsValid spec) (last : Option ℕ) where
+module _ (spec : Spec) (valid : IsValid spec) (last : Last) where
   kept_there : (x : State) → Stands spec last x → IsKept x.world.cluster
   kept_there x s = (whole_there spec last x.world valid s.scripted).kept
 
@@ -134,7 +134,7 @@ module _ (spec : Spec) (valid : IsValid spec) (last : Option ℕ) where
         let z = happened (events.Take m.session m.id) y in
         record {
           scripted = ran_scripted i m handler z z (Jobs.runs_handler m handler)
-              (scripted_other spec last last y.world (events.Take m.session m.id) z.world.weight out can fetched s.scripted.line (λ k. refl));
+              (scripted_other spec last last.line y.world (events.Take m.session m.id) z.world.weight out can fetched s.scripted.line (λ k. refl));
           in_step = ran_in_step (Jobs.job_run i m handler z) z (Jobs.runs_handler m handler) (record {
             parts = take_in_step x.world.cluster x.world.participants x.world.jobs x.world.bag (kept_there x s) s.in_step.parts i m work failed (Jobs.job_run i m handler z) can refl refl (handler_ran m handler ∙ held) refl;
             participants = length-put x.world.participants i.0 (hand_out (participant_of x.world i) m failed) ∙ s.in_step.participants;
@@ -208,7 +208,7 @@ module _ (spec : Spec) (valid : IsValid spec) (last : Option ℕ) where
       let y = happened e x in
       record {
         scripted = jobs_there spec last y.world (map (Jobs.as_written_job j.instance j.message.id) y.world.jobs)
-            (scripted_other spec last last x.world e y.world.weight s.scripted can tt (write-line x.world.cluster j.message.session j.message.id j.outcome ∙ s.scripted.line) (λ k. refl));
+            (scripted_other spec last last.line x.world e y.world.weight s.scripted can tt (write-line x.world.cluster j.message.session j.message.id j.outcome ∙ s.scripted.line) (λ k. refl));
         in_step = record {
           parts = write_in_step x.world.cluster x.world.participants x.world.jobs x.world.bag (kept_there x s) s.in_step.parts j h
               (h.taken (write_live x.world.cluster j.message.session j.message.id can)) (job_found i id j x is);
@@ -238,7 +238,7 @@ module _ (spec : Spec) (valid : IsValid spec) (last : Option ℕ) where
       let e : Event = events.Ack j.message.session j.message.id in
       let h = job_there i id j x s is in
       record {
-        scripted = job_ended spec last j (happened e x) (scripted_other spec last last x.world e (happened e x).world.weight s.scripted can tt s.scripted.line (λ k. refl));
+        scripted = job_ended spec last j (happened e x) (scripted_other spec last last.line x.world e (happened e x).world.weight s.scripted can tt s.scripted.line (λ k. refl));
         in_step = record {
           parts = ack_in_step x.world.cluster x.world.participants x.world.jobs x.world.bag (kept_there x s) s.in_step.parts j h written (ack_live x.world.cluster j.message.session j.message.id can);
           participants = length-put x.world.participants j.instance.0 (finish (participant_of x.world j.instance) j.message (Some j.outcome) j.handler) ∙ s.in_step.participants;

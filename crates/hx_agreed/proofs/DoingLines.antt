@@ -63,7 +63,7 @@ use Rattle.hx_safe.proofs.Kept.{IsKept}
 use Rattle.hx_runs.proofs.Calming.{same_self}
 use Rattle.hx_runs.proofs.On.{other-live}
 use Rattle.hx_scripted.specs.OfHistory.{is_fetched, IsOfItsHistory}
-use Rattle.hx_scripted.proofs.Standing.{ranged_there, fixed_there, scripted_other}
+use Rattle.hx_scripted.proofs.Standing.{Last, at_line, since, ranged_there, fixed_there, scripted_other, scripted_since}
 use Rattle.hx_scripted.proofs.Keeping.{Keeps, keeps_on, keeps_then, keeps_each, keeps_those, keeps_gives, keeps_more, keeps_after}
 use Rattle.hx_agreed.specs.InStep.{Each, of_instance, IsInBag, IsInStep}
 use Rattle.hx_agreed.proofs.Quiet.{back-without}
@@ -103,7 +103,7 @@ same_session_is : (a b : Option SessionId) (s : SessionId) → a ≡ Some s → 
 same_session_is a b s e f =
     ap (λ (o : Option SessionId). Jobs.same_session o b) e ∙ ap (λ (o : Option SessionId). Jobs.same_session (Some s) o) f ∙ same-self s.0
 
-module _ (spec : Spec) (valid : IsValid spec) (last : Option ℕ) where
+module _ (spec : Spec) (valid : IsValid spec) (last : Last) where
   pub kept_now : (x : State) → Stands spec last x → IsKept x.world.cluster
   kept_now x s = (whole_there spec last x.world valid s.scripted).kept
 
@@ -177,7 +177,7 @@ module _ (spec : Spec) (valid : IsValid spec) (last : Option ℕ) where
       let c = x.world.cluster in
       let e : Event = events.Fetch i (session_of c i) (length (messages_for c (session_of c i))) in
       record {
-        scripted = scripted_other spec last last x.world e (happened e x).world.weight s.scripted (instance_there spec c i (fixed_there spec last x.world s.scripted) there, refl, refl) tt s.scripted.line (λ k. refl);
+        scripted = scripted_other spec last last.line x.world e (happened e x).world.weight s.scripted (instance_there spec c i (fixed_there spec last x.world s.scripted) there, refl, refl) tt s.scripted.line (λ k. refl);
         in_step = board_happens spec valid last e x s (instance_there spec c i (fixed_there spec last x.world s.scripted) there, refl, refl) refl room;
       }
 
@@ -327,7 +327,7 @@ module _ (spec : Spec) (valid : IsValid spec) (last : Option ℕ) where
   step_happens step x well is s room =
       let e : Event = events.Admin step (did_of x.world.cluster step) in
       record {
-        scripted = scripted_other spec last last x.world e (happened e x).world.weight s.scripted (well, is, refl) tt (step-line x.world.cluster step ∙ s.scripted.line) (λ k. refl);
+        scripted = scripted_other spec last last.line x.world e (happened e x).world.weight s.scripted (well, is, refl) tt (step-line x.world.cluster step ∙ s.scripted.line) (λ k. refl);
         in_step = board_happens spec valid last e x s (well, is, refl) refl room;
       }
 
@@ -398,11 +398,11 @@ module _ (spec : Spec) (valid : IsValid spec) (last : Option ℕ) where
 
 -- it holds of a state after some line
 pub record HasStood (spec : Spec) (x : State) : Type 0 where
-  pub last : Option ℕ
+  pub last : Last
   pub stands : Stands spec last x
 
-pub line_happens : (spec : Spec) (valid : IsValid spec) (last : Option ℕ) (n : ℕ) (x : State) → is_later last n ≡ true → Stands spec last x → x.world.weight + weight_of (events.Line n) ≤ x.world.limit
-    → Stands spec (Some n) (happened (events.Line n) x)
+pub line_happens : (spec : Spec) (valid : IsValid spec) (last : Last) (n : ℕ) (x : State) → is_later last.line n ≡ true → Stands spec last x → x.world.weight + weight_of (events.Line n) ≤ x.world.limit
+    → Stands spec (at_line last (Some n)) (happened (events.Line n) x)
 line_happens spec valid last n x later s room =
     let e : Event = events.Line n in
     let step = ap (λ (o : Option ℕ). is_later o n) s.scripted.line ∙ later in
@@ -415,15 +415,15 @@ line_happens spec valid last n x later s room =
 pub line_left : (spec : Spec) (l : Line) (x : State) → IsValid spec → IsOfItsHistory spec x.world → IsInStep x.world → Scripts.is_next_line spec x.world.cluster.line l ≡ true
     → IsInStep (state_of (Scripts.do_line l x)).world
 line_left spec l x valid of in_step next =
-    let last = x.world.cluster.line in
-    let s : Stands spec last x = record { scripted = record { of = of; line = refl }; in_step = in_step } in
-    let later = and-first (is_later last l.number) (Ranges.is_line_in_range spec l) next in
-    let ranged = and-second (is_later last l.number) (Ranges.is_line_in_range spec l) next in
+    let last = since x.world.cluster.line in
+    let s : Stands spec last x = record { scripted = scripted_since spec x.world of; in_step = in_step } in
+    let later = and-first (is_later x.world.cluster.line l.number) (Ranges.is_line_in_range spec l) next in
+    let ranged = and-second (is_later x.world.cluster.line l.number) (Ranges.is_line_in_range spec l) next in
     (happens_then (HasStood spec) (events.Line l.number) x (λ y. Scripts.do_what (Loud l.number) l.what y) (record { last = last; stands = s })
-    (λ room. keeps_more (Stands spec (Some l.number)) (HasStood spec) (Scripts.do_what (Loud l.number) l.what (happened (events.Line l.number) x))
-    (what_done spec valid (Some l.number) (Loud l.number) l.what (happened (events.Line l.number) x) ranged (line_happens spec valid last l.number x later s room))
-    (λ y there. record { last = Some l.number; stands = there }))).left.stands.in_step
+    (λ room. keeps_more (Stands spec (since (Some l.number))) (HasStood spec) (Scripts.do_what (Loud l.number) l.what (happened (events.Line l.number) x))
+    (what_done spec valid (since (Some l.number)) (Loud l.number) l.what (happened (events.Line l.number) x) ranged (line_happens spec valid last l.number x later s room))
+    (λ y there. record { last = since (Some l.number); stands = there }))).left.stands.in_step
 
 pub settle_left : (spec : Spec) (x : State) → IsValid spec → IsOfItsHistory spec x.world → IsInStep x.world → IsInStep (state_of (Settles.settle x)).world
 settle_left spec x valid of in_step =
-    (settled spec valid x.world.cluster.line x.world.cluster.leader x (record { scripted = record { of = of; line = refl }; in_step = in_step })).left.in_step
+    (settled spec valid (since x.world.cluster.line) x.world.cluster.leader x (record { scripted = scripted_since spec x.world of; in_step = in_step })).left.in_step

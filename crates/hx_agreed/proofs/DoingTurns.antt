@@ -30,13 +30,14 @@ use Rattle.hx_scripted.proofs.Keeping.{Keeps, keeps_on, keeps_then, keeps_each, 
 use Rattle.hx_scripted.proofs.Taking.{weighed_there}
 use Rattle.hx_scripted.proofs.Stepping.{IsNext, next_there, call_there, plan_there, fault_there}
 use Rattle.hx_safe.proofs.Ends.{same-self}
+use Rattle.hx_scripted.proofs.Standing.{Last}
 use Rattle.hx_agreed.proofs.Going.{IsGoing, happens_then, says, own_of_board, board_happens}
 
 -- what holds of a state
-abbrev pub Stands : Spec → Option ℕ → State → Type 0
+abbrev pub Stands : Spec → Last → State → Type 0
 Stands spec last x = IsGoing spec last x
 
-module _ (spec : Spec) (valid : IsValid spec) (last : Option ℕ) where
+module _ (spec : Spec) (valid : IsValid spec) (last : Last) where
   -- notes and lines
   pub keeps_line : (charge : ℕ) (text : List ℕ) (x : State) → Stands spec last x → Keeps (Stands spec last) (say charge text x)
   keeps_line charge text x s = says (Stands spec last) charge text x s (λ room. record { scripted = weighed_there spec last x.world (charged charge x).world.weight s.scripted; in_step = record { parts = s.in_step.parts; participants = s.in_step.participants; weight = room } })

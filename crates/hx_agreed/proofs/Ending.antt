@@ -20,7 +20,7 @@ use Rattle.hx_cluster.specs.Steps.{session_of}
 use Rattle.hx_cluster.specs.Messages.{initial_of, standing_of, is_same, state_after, has_id, after_ack}
 use Rattle.hx_cluster.specs.Events.{has_part}
 use Rattle.hx_replicas.specs.declared.slots.Work.TheVariants.{Out}
-use Rattle.hx_replicas.specs.Participants.{Participant, Slot, slot_of, state_for, counts_as, brought, end_of, finish}
+use Rattle.hx_replicas.specs.Participants.{Participant, Slot, slot_of, state_for, counts_as, is_idle, brought, end_of, finish}
 use Rattle.hx_replicas.specs.Layout.{AreDistinct}
 use Rattle.hx_replicas.proofs.Putting.{part-slot_in, slot_in-put}
 use Rattle.hx_worlds.specs.World.{Job}
@@ -32,6 +32,7 @@ use Rattle.hx_safe.proofs.Kept.{IsKept}
 use Rattle.hx_agreed.specs.InStep.{of_instance, IsPending, is_lent_as, HasSlot, row_after, IsTakenBy, IsHeldJob, IsOldIn, AreInStep}
 use Rattle.hx_agreed.proofs.Lists.{each-filter}
 use Rattle.hx_agreed.proofs.Slots.{part_sym, slot_in-other, distinct-put, is_mine}
+use Rattle.hx_agreed.proofs.Placed.{placed_busy}
 use Rattle.hx_agreed.proofs.Frames.{same_is, one_instance, found_live, message_gone, one_number, IsOutFor, job_out, job_mine}
 use Rattle.hx_agreed.proofs.Changes.{instance_same, is_replica, change_in_step}
 use Rattle.hx_agreed.proofs.Replicas.{here_put, others_put, with_session, out_other, one_bagged}
@@ -54,6 +55,9 @@ module _ (c d : Cluster) (ws : List Participant) (jobs : List Job) (bag : List M
 
   pub mine : (of_instance ws j.instance).session ≡ Some j.message.session
   mine = job_mine c ws jobs bag a j h
+
+  pub active : (p : PartId) → HasSlot c bag jobs j.instance (of_instance ws j.instance).session p (slot_of (of_instance ws j.instance) p)
+  active = placed_busy c bag jobs j.instance (of_instance ws j.instance) (a.each j.instance) j.message.part (ap is_idle out.work)
 
   pub ids : j.message.id ≡ out.message.id
   ids = (same_is j.message out.message out.same).id
@@ -111,6 +115,7 @@ module _ (c d : Cluster) (ws : List Participant) (jobs : List Job) (bag : List M
         others = others_put ws j.instance w';
         mine = mine;
         session = ap (λ (p : Participant). p.session) here ∙ mine;
+        active = active;
         distinct = subst (λ (p : Participant). AreDistinct (map (λ z. z.part) p.slots)) (sym here) (distinct-put (of_instance ws j.instance).slots y (a.each j.instance).distinct);
         slots = slots;
         live = live;
@@ -171,7 +176,7 @@ module _ (c d : Cluster) (ws : List Participant) (jobs : List Job) (bag : List M
 
       slot : HasSlot d bag (filter (λ z. not (is_job j.instance j.message.id z)) jobs) j.instance (Some j.message.session) j.message.part (brought (slot_of (of_instance ws j.instance) j.message.part) (end_of j.message (Some j.outcome)) j.handler)
       slot =
-          let old = (a.each j.instance).slots j.message.part in
+          let old = active j.message.part in
           record {
             last = ap (λ (n : ℕ). nat_lt (slot_of (of_instance ws j.instance) j.message.part).last.0 n) messages ∙ old.last;
             used = λ is. part_still j.message.part (old.used is);

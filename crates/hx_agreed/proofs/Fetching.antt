@@ -27,7 +27,7 @@ use Rattle.hx_safe.proofs.Kept.{IsKept, number-below}
 use Rattle.hx_covers.proofs.Sorting.{all-sort}
 use Rattle.hx_runs.proofs.Calming.{same_self}
 use Rattle.hx_runs.proofs.Waiting.{any-le}
-use Rattle.hx_agreed.specs.InStep.{Each, of_instance, IsPending, is_lent_as, HasSlot, IsUntouched, IsPlaced, IsHeldJob, IsOldIn, IsInBag, has_number, AreInStep, IsInStep}
+use Rattle.hx_agreed.specs.InStep.{Each, of_instance, IsPending, is_lent_as, HasSlot, IsUntouched, IsStale, IsPlaced, IsHeldJob, IsOldIn, IsInBag, has_number, AreInStep, IsInStep}
 use Rattle.hx_agreed.proofs.Lists.{each-le, each-filter}
 use Rattle.hx_agreed.proofs.Slots.{distinct-put, distinct-emptied, slot-emptied, mine_is}
 use Rattle.hx_agreed.proofs.Frames.{same_both, new_known, found_pending, found_live, one_number, session_live, placed_like}
@@ -105,12 +105,21 @@ module _ (c : Cluster) (k : IsKept c) (ws : List Participant) (jobs : List Job) 
             subst (λ (x : Message). is_same m x ≡ true) (sym (one_number c k t m.session p m.part n m is found number)) (same_self m);
       }
 
+  -- it isn't of a session that isn't live
+  still_apart : (bag : List Message) (m : Message) → message_of c.mail m.session m.part ≡ Some m → (i : InstanceId) → IsStale c bag (of_instance ws i)
+      → Each (λ y. is_session (of_instance ws i).session y.session ≡ false) (Jobs.put_in_bag bag m)
+  still_apart bag m found i stale = each-put (λ y. is_session (of_instance ws i).session y.session ≡ false) bag m stale.apart (other (is_session (of_instance ws i).session m.session) refl)
+    where
+      other : (b : Bool) → is_session (of_instance ws i).session m.session ≡ b → b ≡ false
+      other true e = sym (found_live c k m.session m.part m found) ∙ stale.dead m.session (mine_is (of_instance ws i).session m.session e)
+      other false e = refl
+
   pub put_in_step : (bag : List Message) (m : Message) → message_of c.mail m.session m.part ≡ Some m → AreInStep c ws jobs bag → AreInStep c ws jobs (Jobs.put_in_bag bag m)
   put_in_step bag m found a =
       let there = same_there c ws bag m found a.bagged in
       record {
         each = λ i. placed_like c c bag (Jobs.put_in_bag bag m) jobs jobs i (of_instance ws i) k (same_parts c c refl refl) (omega arith) (omega arith) (λ x is. put-each bag m x there is) (λ x h is. is)
-            (λ t mine live. (live, (λ is. is), record { rows = λ q. refl; mail = λ q. refl })) (a.each i).free (a.each i);
+            (λ t mine live. (live, (λ is. is), record { rows = λ q. refl; mail = λ q. refl })) (a.each i).free (still_apart bag m found i) (a.each i);
         held = a.held;
         bagged = each-put (IsInBag c ws) bag m a.bagged (bagged_now bag a m found);
         numbers = λ id. count-put bag m id (a.numbers id);
@@ -271,7 +280,7 @@ module _ (x : State) (i : InstanceId) (o : Option SessionId) (k : IsKept x.world
   placed_other n other =
       placed_like x.world.cluster x.world.cluster x.world.bag x.world.bag x.world.jobs (filter (λ y. not (is_ended (Jobs.jobs_of i x) y)) x.world.jobs) n (of_instance x.world.participants n) k
       (same_parts x.world.cluster x.world.cluster refl refl) (omega arith) (omega arith) (λ m is. is) (λ m is_held is. kept_lent n m is_held other is)
-      (λ t mine live. (live, (λ is. is), record { rows = λ q. refl; mail = λ q. refl })) (a.each n).free (a.each n)
+      (λ t mine live. (live, (λ is. is), record { rows = λ q. refl; mail = λ q. refl })) (a.each n).free (λ stale. stale.apart) (a.each n)
 
   untouched : (s : SessionId) → session_of x.world.cluster i ≡ Some s → IsUntouched x.world.cluster s
   untouched s is = one ((a.each i).free s is)
@@ -285,13 +294,13 @@ module _ (x : State) (i : InstanceId) (o : Option SessionId) (k : IsKept x.world
     distinct = distinct-emptied w.slots d;
     below = below o theirs;
     own = λ s is live. theirs s is;
-    slots = λ q. subst (λ (z : Slot). HasSlot x.world.cluster x.world.bag (filter (λ y. not (is_ended (Jobs.jobs_of i x) y)) x.world.jobs) i o q z) (sym (slot-emptied w.slots q)) (record {
+    slots = inr (λ q. subst (λ (z : Slot). HasSlot x.world.cluster x.world.bag (filter (λ y. not (is_ended (Jobs.jobs_of i x) y)) x.world.jobs) i o q z) (sym (slot-emptied w.slots q)) (record {
       last = let f = a.first in grind (arith, nat_tests, f);
       used = λ is. absurd (let z : true ≡ false = sym is ∙ (grind (arith, nat_tests)) in (cc));
       initial = λ t is. cc;
       there = λ is. cc;
       work = tt;
-    });
+    }));
     along = λ s is live. let u = untouched s (theirs s is) in record {
       rows = λ q out. subst (λ (z : Slot). counts_as z (initial_of x.world.cluster q) ≡ standing_of x.world.cluster s q) (sym (slot-emptied w.slots q))
           (sym (ap (λ (r : Option StateId). unwrap_or r (initial_of x.world.cluster q)) (u.rows q)));

@@ -1,5 +1,5 @@
 -- What stays of a participant, its slots and its jobs where a cluster changes elsewhere.
-use Rattle.std.proofs.Common.{◌≡◌, ℕ, ◌≤◌, ◌&&◌, ◌||◌, ◌==◌, not, Bool, true, false, List, find, Option, Some, None, ◌⊎◌, refl, sym, ap, ◌∙◌, subst, arith}
+use Rattle.std.proofs.Common.{◌≡◌, ℕ, ◌≤◌, ◌&&◌, ◌||◌, ◌==◌, not, Bool, true, false, List, find, Option, Some, None, ◌⊎◌, inl, inr, refl, sym, ap, ◌∙◌, subst, arith}
 use Rattle.std.specs.Prelude.{unwrap_or, is_some, nat_lt}
 use Rattle.std.specs.List.{list_any}
 use Rattle.std.specs.Option.{option_map}
@@ -22,15 +22,16 @@ use Rattle.hx_cluster.specs.Events.{has_part}
 use Rattle.hx_cluster.specs.Safe.{is_pending, is_kept}
 use Rattle.hx_replicas.specs.declared.slots.Work.{Work}
 use Rattle.hx_replicas.specs.declared.slots.Work.TheVariants.{Idle, Accepted, Out}
-use Rattle.hx_replicas.specs.Participants.{Participant, Slot, slot_of, counts_as, state_for}
+use Rattle.hx_replicas.specs.Participants.{Participant, Slot, slot_of, counts_as, state_for, is_session as is_mine}
 use Rattle.hx_worlds.specs.World.{Job}
 use Rattle.hx_worlds.specs.Agree.{is_below, is_known_at, is_accepted_as, is_out_as, is_exactly, is_lent_to, is_at_end}
 use Rattle.hx_safe.proofs.Counting.{and-first, and-second, and-both, find-passes, find-any, find-single, all-find}
 use Rattle.hx_safe.proofs.Ends.{same-self, session_same, part_same}
 use Rattle.hx_safe.proofs.Kept.{IsKept, number-below}
-use Rattle.hx_agreed.specs.InStep.{of_instance, IsUntaken, IsPending, is_lent_as, IsOutHere, HasWork, HasSlot, IsAlong, IsUntouched, IsPlaced, IsTakenBy, IsHeldJob, IsOldIn, IsInBag, AreInStep}
+use Rattle.hx_agreed.specs.InStep.{of_instance, IsUntaken, IsPending, is_lent_as, IsOutHere, Each, HasWork, HasSlot, IsAlong, IsUntouched, IsStale, IsPlaced, IsTakenBy, IsHeldJob, IsOldIn, IsInBag, AreInStep}
 use Rattle.hx_agreed.proofs.Lists.{or-first, or-second}
 use Rattle.hx_agreed.proofs.Lent.{exactly_same}
+use Rattle.hx_agreed.proofs.Placed.{placed_work, placed_live}
 
 -- two messages that are the same but for their marks
 pub record AreSame (a b : Message) : Type 0 where
@@ -245,9 +246,9 @@ row_like c d x s q k parts row there e = one (has_part c q) refl
         subst (λ (o : Option StateId). counts_as x (initial_of d q) ≡ unwrap_or o (initial_of d q)) (sym (row ∙ no_part c k s q is)) (unused x.initial refl is (initial_of d q))
 
 pub along_like : (c d : Cluster) (bag : List Message) (jobs : List Job) (i : InstanceId) (w : Participant) (s : SessionId) → IsKept c → HasParts c d → IsLike c d s → IsPlaced c bag jobs i w
-    → IsAlong c w s → IsAlong d w s
-along_like c d bag jobs i w s k parts like p a = record {
-  rows = λ q out. row_like c d (slot_of w q) s q k parts (like.rows q) (p.slots q).there (a.rows q out);
+    → w.session ≡ Some s → is_live c.live s ≡ true → IsAlong c w s → IsAlong d w s
+along_like c d bag jobs i w s k parts like p mine live a = record {
+  rows = λ q out. row_like c d (slot_of w q) s q k parts (like.rows q) (placed_live c bag jobs i w p s mine live q).there (a.rows q out);
   mail = λ q m is. a.mail q m (sym (like.mail q) ∙ is);
 }
 
@@ -257,21 +258,30 @@ pub placed_like : (c d : Cluster) (bag bag' : List Message) (jobs jobs' : List J
     → ((m : Message) (is_held : Bool) → list_any (is_lent_as i m is_held) jobs ≡ true → list_any (is_lent_as i m is_held) jobs' ≡ true)
     → ((s : SessionId) → w.session ≡ Some s → is_live d.live s ≡ true → (is_live c.live s ≡ true) × (session_of c i ≡ Some s → session_of d i ≡ Some s) × IsLike c d s)
     → ((s : SessionId) → session_of d i ≡ Some s → (w.session ≡ Some s) ⊎ IsUntouched d s)
+    → (IsStale c bag w → Each (λ m. is_mine w.session m.session ≡ false) bag')
     → IsPlaced c bag jobs i w → IsPlaced d bag' jobs' i w
-placed_like c d bag bag' jobs jobs' i w k parts rise up more held live free p = record {
+placed_like c d bag bag' jobs jobs' i w k parts rise up more held live free apart p = record {
   distinct = p.distinct;
   below = one w.session p.below;
   own = λ s is e. let l = live s is e in l.1 (p.own s is l.0);
-  slots = λ q. slot_like c d bag bag' jobs jobs' i w.session q (slot_of w q) parts rise
-      (work_like c d bag bag' jobs jobs' i w.session q (slot_of w q) (slot_of w q).work more (λ m is_held e. held m is_held)
-      (λ m mine of e u. let l = live m.session mine e in untaken_like c d m l.2 (u l.0)) (p.slots q).work) (p.slots q);
-  along = λ s is e. let l = live s is e in along_like c d bag jobs i w s k parts l.2 p (p.along s is l.0);
+  slots = slots p.slots;
+  along = λ s is e. let l = live s is e in along_like c d bag jobs i w s k parts l.2 p is l.0 (p.along s is l.0);
   free = free;
 }
   where
     one : (o : Option SessionId) → is_below c.next_session o ≡ true → is_below d.next_session o ≡ true
     one None e = refl
     one (Some s) e = grind (arith, nat_tests, e, up)
+
+    dead : (s : SessionId) → w.session ≡ Some s → is_live c.live s ≡ false → (b : Bool) → is_live d.live s ≡ b → b ≡ false
+    dead s mine gone true e = sym (live s mine e).0 ∙ gone
+    dead s mine gone false e = refl
+
+    slots : IsStale c bag w ⊎ ((q : PartId) → HasSlot c bag jobs i w.session q (slot_of w q)) → IsStale d bag' w ⊎ ((q : PartId) → HasSlot d bag' jobs' i w.session q (slot_of w q))
+    slots (inl stale) = inl (record { idle = stale.idle; dead = λ s mine. dead s mine (stale.dead s mine) (is_live d.live s) refl; apart = apart stale })
+    slots (inr each) = inr (λ q. slot_like c d bag bag' jobs jobs' i w.session q (slot_of w q) parts rise
+        (work_like c d bag bag' jobs jobs' i w.session q (slot_of w q) (slot_of w q).work more (λ m is_held e. held m is_held)
+        (λ m mine of e u. let l = live m.session mine e in untaken_like c d m l.2 (u l.0)) (each q).work) (each q))
 
 -- the message that a job's slot is out for
 pub record IsOutFor (bag : List Message) (jobs : List Job) (i : InstanceId) (mine : Option SessionId) (q : PartId) (x : Slot) (j : Job) : Type 0 where
@@ -292,7 +302,7 @@ module _ (c : Cluster) (ws : List Participant) (jobs : List Job) (bag : List Mes
   job_out j h =
       let w = of_instance ws j.instance in
       let x = slot_of w j.message.part in
-      out_for c bag jobs j.instance w.session j.message.part x j x.work refl h.out ((s.each j.instance).slots j.message.part).work
+      out_for c bag jobs j.instance w.session j.message.part x j x.work refl h.out (placed_work c bag jobs j.instance w (s.each j.instance) j.message.part)
 
   pub job_mine : (j : Job) → IsHeldJob c ws jobs j → (of_instance ws j.instance).session ≡ Some j.message.session
   job_mine j h =

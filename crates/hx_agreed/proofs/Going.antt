@@ -1,5 +1,5 @@
 -- Worlds of their histories that are in step, as a script goes on.
-use Rattle.std.proofs.Common.{◌≡◌, ℕ, ◌+◌, ◌≤◌, Bool, true, false, List, [], ◌∷◌, ◌++◌, find, Option, Some, refl, sym, subst, arith}
+use Rattle.std.proofs.Common.{◌≡◌, ℕ, ◌+◌, ◌≤◌, Bool, true, false, List, [], ◌∷◌, ◌++◌, find, Some, refl, sym, subst, arith}
 use Rattle.std.specs.Prelude.{if◌then◌else◌, nat_lt}
 use Rattle.std.proofs.lemmas.Bool.Decides.{nat_tests}
 use Rattle.hx_ids.specs.declared.ControllerId.{ControllerId}
@@ -16,19 +16,19 @@ use Rattle.hx_worlds.specs.World.{World, State}
 use Rattle.hx_worlds.specs.Items.{Happens, Says}
 use Rattle.hx_worlds.specs.Runs.{Run, Deed, GoesOn, Stops, done, and_then, happened, make, happen, charged, say}
 use Rattle.hx_safe.proofs.Whole.{IsWhole, whole_from, reached_safe, reached_ranged}
-use Rattle.hx_scripted.proofs.Standing.{IsScripted}
+use Rattle.hx_scripted.proofs.Standing.{Last, IsScripted}
 use Rattle.hx_scripted.proofs.Keeping.{Keeps, keeps_after}
 use Rattle.hx_agreed.specs.InStep.{Each, IsInStep}
 use Rattle.hx_agreed.proofs.Boards.{is_of_board, board_in_step}
 
-pub record IsGoing (spec : Spec) (last : Option ℕ) (x : State) : Type 0 where
+pub record IsGoing (spec : Spec) (last : Last) (x : State) : Type 0 where
   pub scripted : IsScripted spec last x.world
   pub in_step : IsInStep x.world
 
-pub whole_there : (spec : Spec) (last : Option ℕ) (w : World) → IsValid spec → IsScripted spec last w → IsWhole w.cluster
+pub whole_there : (spec : Spec) (last : Last) (w : World) → IsValid spec → IsScripted spec last w → IsWhole w.cluster
 whole_there spec last w valid s =
     subst IsWhole (sym s.of.cluster)
-    (let c = replay (opening spec) w.history in whole_from (limit_at c) c (reached_safe spec valid w.history s.of.lawful.0) (reached_ranged spec valid w.history s.of.lawful.0))
+    (let c = replay (opening spec) w.history in whole_from (limit_at c) c (reached_safe spec valid w.history s.of.legal) (reached_ranged spec valid w.history s.of.legal))
 
 -- where there is room
 room_is : (limit n : ℕ) → nat_lt limit n ≡ false → n ≤ limit
@@ -85,7 +85,7 @@ own_of_board k (events.Post j epoch rows) is = refl
 own_of_board k (events.Fetch i s n) is = refl
 
 -- an event of the board happens
-pub board_happens : (spec : Spec) (valid : IsValid spec) (last : Option ℕ) (e : Event) (x : State) → IsGoing spec last x → IsStep x.world.cluster e → is_of_board e ≡ true
+pub board_happens : (spec : Spec) (valid : IsValid spec) (last : Last) (e : Event) (x : State) → IsGoing spec last x → IsStep x.world.cluster e → is_of_board e ≡ true
     → x.world.weight + weight_of e ≤ x.world.limit → IsInStep (happened e x).world
 board_happens spec valid last e x g step of room = record {
   parts = board_in_step x.world.cluster e x.world.participants x.world.jobs x.world.bag (whole_there spec last x.world valid g.scripted) step of g.in_step.parts;

@@ -1,20 +1,18 @@
 -- What a script begins with, and what lines and settles leave, agrees; and so do parts that are idle.
-use Rattle.std.proofs.Common.{◌≡◌, ℕ, zero, suc, ◌+◌, ◌<◌, ◌&&◌, ◌||◌, ◌==◌, not, Bool, true, false, List, [], ◌∷◌, map, find, length, Option, Some, None, refl, sym, ap, subst, arith}
-use Rattle.std.specs.Prelude.{slice_index_or, replicate, unwrap_or, nat_lt, is_none}
+use Rattle.std.proofs.Common.{◌≡◌, ℕ, zero, suc, ◌+◌, ◌<◌, ◌&&◌, ◌||◌, ◌==◌, not, Bool, true, false, List, [], ◌∷◌, map, length, inr, refl, sym, ap, subst, arith}
+use Rattle.std.specs.Prelude.{slice_index_or, replicate, nat_lt, is_none}
 use Rattle.std.specs.List.{All, list_all}
 use Rattle.std.proofs.lemmas.List.Elements.{All-cons, All-nil, All-head, All-tail}
 use Rattle.hx_lists.specs.Lists.{numbers_from}
 use Rattle.hx_ids.specs.declared.SessionId.{SessionId}
-use Rattle.hx_ids.specs.declared.PartId.{PartId}
 use Rattle.hx_ids.specs.declared.InstanceId.{InstanceId}
 use Rattle.hx_cluster.specs.declared.description.Spec.{Spec}
 use Rattle.hx_cluster.specs.declared.state.Message.{Message}
-use Rattle.hx_cluster.specs.Ends.{part_eq}
 use Rattle.hx_cluster.specs.Steps.{opening}
 use Rattle.hx_cluster.specs.Valid.{IsValid}
 use Rattle.hx_replicas.specs.declared.slots.Work.{Work}
 use Rattle.hx_replicas.specs.declared.slots.Work.TheVariants.{Idle, Accepted, Out}
-use Rattle.hx_replicas.specs.Participants.{Participant, Slot, new_participant, new_slot, slot_of, is_idle, is_out, all_idle, accepted_of}
+use Rattle.hx_replicas.specs.Participants.{Participant, Slot, new_participant, slot_of, is_idle, is_out, all_idle, accepted_of}
 use Rattle.hx_control.specs.Controllers.{Controller, idle_controller}
 use Rattle.hx_script.specs.declared.Line.{Line}
 use Rattle.hx_worlds.specs.World.{Job, State, opening_world}
@@ -22,27 +20,21 @@ use Rattle.hx_worlds.specs.Runs.{state_of}
 use Rattle.hx_worlds.specs.Settles
 use Rattle.hx_worlds.specs.Scripts
 use Rattle.hx_worlds.specs.Agree
-use Rattle.hx_safe.proofs.Counting.{and-first, and-second, all-le, all-find, and-both}
+use Rattle.hx_safe.proofs.Counting.{and-first, and-second, all-le, and-both}
 use Rattle.hx_safe.proofs.Whole.{length-replicate}
 use Rattle.hx_scripted.specs.OfHistory.{has_fetched, IsTurnOf, IsOfItsHistory}
 use Rattle.hx_scripted.proofs.Standing.{idle_there}
 use Rattle.hx_scripted.proofs.DoingLines as Scripted
 use Rattle.hx_agreed.specs.InStep.{IsPlaced, IsInStep}
+use Rattle.hx_agreed.proofs.Placed.{idle_slot}
 use Rattle.hx_agreed.proofs.Worlds.{in_step_kept}
 use Rattle.hx_agreed.proofs.DoingLines.{line_left, settle_left}
 
 -- parts that are idle
-all_at : {X : Type 0} (p : X → Bool) (xs : List X) → list_all p xs ≡ true → (n : ℕ) (d : X) → n < length xs → p (slice_index_or xs n d) ≡ true
+pub all_at : {X : Type 0} (p : X → Bool) (xs : List X) → list_all p xs ≡ true → (n : ℕ) (d : X) → n < length xs → p (slice_index_or xs n d) ≡ true
 all_at p [] e n d lt = absurd (omega arith)
 all_at p (x ∷ xs) e zero d lt = and-first (p x) (list_all p xs) e
 all_at p (x ∷ xs) e (suc n) d lt = all_at p xs (and-second (p x) (list_all p xs) e) n d (omega arith)
-
-idle_slot : (w : Participant) (q : PartId) → all_idle w ≡ true → is_idle (slot_of w q).work ≡ true
-idle_slot w q idle = one (find (λ x. part_eq x.part q) w.slots) refl
-  where
-    one : (o : Option Slot) → find (λ x. part_eq x.part q) w.slots ≡ o → is_idle (unwrap_or o (new_slot q)).work ≡ true
-    one None is = refl
-    one (Some x) is = all-find (λ y. is_idle y.work) (λ y. part_eq y.part q) w.slots x idle is
 
 not_out : (w : Work) → is_idle w ≡ true → is_out w ≡ false
 not_out Idle e = refl
@@ -122,7 +114,7 @@ opening_in_step spec limit = record {
       distinct = tt;
       below = refl;
       own = λ s is. cc;
-      slots = λ q. record { last = refl; used = λ is. cc; initial = λ t is. cc; there = λ is. cc; work = tt };
+      slots = inr (λ q. record { last = refl; used = λ is. cc; initial = λ t is. cc; there = λ is. cc; work = tt });
       along = λ s is. cc;
       free = λ s is. cc;
     });
@@ -158,10 +150,10 @@ none_accepted : (spec : Spec) (n : ℕ) → list_all (has_fetched spec []) (repl
 none_accepted spec zero = refl
 none_accepted spec (suc n) = none_accepted spec n
 
-pub opening_of : (spec : Spec) (limit : ℕ) → IsOfItsHistory spec (opening_world spec limit)
+opening_of : (spec : Spec) (limit : ℕ) → IsOfItsHistory spec (opening_world spec limit)
 opening_of spec limit = record {
   given = refl;
-  lawful = (tt, tt);
+  legal = tt;
   cluster = refl;
   controllers = many_listed 0 spec.controllers;
   turns = λ k. subst (IsTurnOf spec [] k) (sym (at_listed 0 spec.controllers k.0 k.0 (omega arith))) (idle_there spec [] k);

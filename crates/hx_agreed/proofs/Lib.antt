@@ -1,6 +1,7 @@
 pub mod Lists
 pub mod Slots
 pub mod Lent
+pub mod Placed
 pub mod Agreeing
 pub mod Counted
 pub mod Worlds
@@ -18,5 +19,8 @@ pub mod DoingTurns
 pub mod Doing
 pub mod DoingLines
 pub mod Laws
+pub mod Sent
+pub mod Parts
+pub mod OfParts
 pub mod Fitting
 pub mod Operations

@@ -21,7 +21,7 @@ use Rattle.hx_cluster.specs.Marks.{take_fault}
 use Rattle.hx_cluster.specs.Events.{can_take}
 use Rattle.hx_replicas.specs.declared.slots.Work.{Work}
 use Rattle.hx_replicas.specs.declared.slots.Work.TheVariants.{Idle, Accepted, Out}
-use Rattle.hx_replicas.specs.Participants.{Participant, Slot, slot_in, slot_of, accepted_of, has_accepted, accepted_in, accepted_by, is_out, brought, finish, hand_out, made_ready, emptied_for}
+use Rattle.hx_replicas.specs.Participants.{Participant, Slot, slot_in, slot_of, accepted_of, has_accepted, accepted_in, accepted_by, is_idle, is_out, brought, finish, hand_out, made_ready, emptied_for}
 use Rattle.hx_replicas.specs.Layout.{AreDistinct}
 use Rattle.hx_replicas.proofs.Putting.{part-slot_in, slot_in-put, slots-hand_out}
 use Rattle.hx_worlds.specs.World.{Job}
@@ -35,6 +35,7 @@ use Rattle.hx_agreed.specs.InStep.{Each, of_instance, IsUntaken, is_lent_as, IsA
 use Rattle.hx_agreed.proofs.Lists.{each-le, each-append, or-first, or-second}
 use Rattle.hx_agreed.proofs.Lent.{exactly_self}
 use Rattle.hx_agreed.proofs.Slots.{slot-found, slot_in-other, distinct-put}
+use Rattle.hx_agreed.proofs.Placed.{placed_work, placed_busy}
 use Rattle.hx_agreed.proofs.Frames.{same_is, same_sym, same_both, found_pending, one_number, job_out}
 use Rattle.hx_agreed.proofs.Changes.{is_replica, WasPending, change_in_step}
 use Rattle.hx_agreed.proofs.Replicas.{here_put, others_put, with_session, out_other, never_here, one_bagged}
@@ -60,7 +61,7 @@ accepted_slot c bag jobs i w id m p e = one (find (λ x. has_accepted id x.work)
     one (Some x) is e =
         let here : slot_of w x.part ≡ x = slot-found w.slots (λ y. has_accepted id y.work) x p.distinct is in
         let work : (slot_of w x.part).work ≡ Accepted m = ap (λ (y : Slot). y.work) here ∙ work_accepted x.work m e in
-        let part = part_of_work c bag jobs i w.session x.part (slot_of w x.part) (slot_of w x.part).work m work (p.slots x.part).work in
+        let part = part_of_work c bag jobs i w.session x.part (slot_of w x.part) (slot_of w x.part).work m work (placed_work c bag jobs i w p x.part) in
         subst (λ (q : PartId). (slot_of w q).work ≡ Accepted m) (sym part) work
 
 -- messages with a mark
@@ -213,7 +214,10 @@ taken_after c s id x t = one (has_id s id t.now) refl
 module _ (c : Cluster) (ws : List Participant) (jobs : List Job) (bag : List Message) (k : IsKept c) (a : AreInStep c ws jobs bag) (i : InstanceId) (m : Message)
     (work : (slot_of (of_instance ws i) m.part).work ≡ Accepted m) where
   pub accepted_here : IsAcceptedHere c bag (of_instance ws i).session m.part (slot_of (of_instance ws i) m.part) m
-  accepted_here = let w = of_instance ws i in subst (λ (v : Work). HasWork c bag jobs i w.session m.part (slot_of w m.part) v) work ((a.each i).slots m.part).work
+  accepted_here = let w = of_instance ws i in subst (λ (v : Work). HasWork c bag jobs i w.session m.part (slot_of w m.part) v) work (placed_work c bag jobs i w (a.each i) m.part)
+
+  active : (p : PartId) → HasSlot c bag jobs i (of_instance ws i).session p (slot_of (of_instance ws i) p)
+  active = placed_busy c bag jobs i (of_instance ws i) (a.each i) m.part (ap is_idle work)
 
   pub refused_dead : can_take c m.session m.id ≡ false → is_live c.live m.session ≡ false
   refused_dead refused = one (is_live c.live m.session) refl
@@ -257,6 +261,7 @@ module _ (c : Cluster) (ws : List Participant) (jobs : List Job) (bag : List Mes
         others = others_put ws i (hand_out (of_instance ws i) m failed);
         mine = acc.of.session;
         session = ap (λ (p : Participant). p.session) here ∙ acc.of.session;
+        active = active;
         distinct = subst (λ (p : Participant). AreDistinct (map (λ z. z.part) p.slots)) (sym here)
             (subst (λ (xs : List Slot). AreDistinct (map (λ z. z.part) xs)) (sym (slots-hand_out (of_instance ws i) m failed)) (distinct-put (of_instance ws i).slots (y failed) (a.each i).distinct));
         slots = slots failed;
@@ -270,10 +275,10 @@ module _ (c : Cluster) (ws : List Participant) (jobs : List Job) (bag : List Mes
         lent = λ n x h e is. any-append (is_lent_as n x h) jobs (job ∷ []) ∙ or-first _ _ is;
         lent_here = λ p x h e f is. any-append (is_lent_as i x h) jobs (job ∷ []) ∙ or-first _ _ is;
         slot = subst (λ (z : Slot). HasSlot d bag (jobs ++ job ∷ []) i (Some m.session) m.part z) (sym now) (record {
-          last = ((a.each i).slots m.part).last;
-          used = ((a.each i).slots m.part).used;
-          initial = ((a.each i).slots m.part).initial;
-          there = ((a.each i).slots m.part).there;
+          last = (active m.part).last;
+          used = (active m.part).used;
+          initial = (active m.part).initial;
+          there = (active m.part).there;
           work = record {
             of = record { part = refl; session = refl; last = acc.of.last; state = acc.of.state; initial = acc.of.initial };
             bagged = acc.bagged;
@@ -405,6 +410,7 @@ module _ (c : Cluster) (ws : List Participant) (jobs : List Job) (bag : List Mes
         others = λ n other. others_put (slice_set ws i.0 (hand_out (of_instance ws i) m failed)) i (finish (of_instance (slice_set ws i.0 (hand_out (of_instance ws i) m failed)) i) m None handler) n other ∙ others_put ws i (hand_out (of_instance ws i) m failed) n other;
         mine = accepted_here.of.session;
         session = ap (λ (p : Participant). p.session) here2 ∙ ap (λ (p : Participant). p.session) here1 ∙ accepted_here.of.session;
+        active = active;
         distinct = subst (λ (p : Participant). AreDistinct (map (λ z. z.part) p.slots)) (sym here2)
             (distinct-put (of_instance (slice_set ws i.0 (hand_out (of_instance ws i) m failed)) i).slots _
             (subst (λ (p : Participant). AreDistinct (map (λ z. z.part) p.slots)) (sym here1)
@@ -421,10 +427,10 @@ module _ (c : Cluster) (ws : List Participant) (jobs : List Job) (bag : List Mes
         lent = λ n x h e is. is;
         lent_here = λ p x h e f is. is;
         slot = subst (λ (z : Slot). HasSlot c bag jobs i (Some m.session) m.part z) (sym now) (record {
-          last = ((a.each i).slots m.part).last;
-          used = ((a.each i).slots m.part).used;
-          initial = ((a.each i).slots m.part).initial;
-          there = ((a.each i).slots m.part).there;
+          last = (active m.part).last;
+          used = (active m.part).used;
+          initial = (active m.part).initial;
+          there = (active m.part).there;
           work = tt;
         });
         row_here = λ live idle. absurd (never live);

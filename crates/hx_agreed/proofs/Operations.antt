@@ -23,7 +23,7 @@ use Rattle.hx_cluster.specs.Valid.{IsValid}
 use Rattle.hx_print.specs.declared.Note.{Note}
 use Rattle.hx_replicas.specs.declared.slots.Work.{Work}
 use Rattle.hx_replicas.specs.declared.slots.Work.TheVariants.{Idle, Accepted, Out}
-use Rattle.hx_replicas.specs.Participants.{Participant, Slot, Fits, slot_of, is_out, any_out, brought, end_of, finish}
+use Rattle.hx_replicas.specs.Participants.{Participant, Slot, Fits, slot_of, is_out, any_out, brought, end_of, finish, is_session}
 use Rattle.hx_replicas.proofs.Parts.{part_same, part_eq-self}
 use Rattle.hx_replicas.proofs.Putting.{part-slot_in, slot_in-put}
 use Rattle.hx_script.specs.Ranges as Ranges
@@ -34,18 +34,20 @@ use Rattle.hx_worlds.specs.Runs.{happened, happen, say, note, say_if_loud}
 use Rattle.hx_worlds.specs.Jobs
 use Rattle.hx_worlds.specs.Turns
 use Rattle.hx_worlds.specs.Scripts
-use Rattle.hx_safe.proofs.Counting.{and-first, and-second, and-both, any-filter_kept, none-from-all, count-append}
+use Rattle.hx_safe.proofs.Counting.{and-first, and-second, and-both, any-filter_kept, none-from-all, count-append, find-any}
 use Rattle.hx_safe.proofs.Ends.{same-self}
 use Rattle.hx_safe.proofs.Ideals.{length-put}
 use Rattle.hx_safe.proofs.Whole.{length-replicate}
+use Rattle.hx_runs.proofs.Calming.{same_self}
 use Rattle.hx_runs.proofs.Waiting.{any-le}
 use Rattle.hx_scripted.specs.OfHistory.{IsOfItsHistory}
-use Rattle.hx_scripted.proofs.Standing.{ranged_there, fixed_there}
+use Rattle.hx_scripted.proofs.Standing.{Last, at_line, since, ranged_there, fixed_there, scripted_since}
 use Rattle.hx_scripted.proofs.Keeping.{Keeps}
 use Rattle.hx_agreed.specs.InStep.{Each, of_instance, is_lent_as, HasWork, IsHeldJob, IsInBag, IsInStep}
 use Rattle.hx_agreed.proofs.Lists.{each-le, each-filter}
 use Rattle.hx_agreed.proofs.Slots.{all_slots, slot_in-other}
 use Rattle.hx_agreed.proofs.Lent.{lent_is}
+use Rattle.hx_agreed.proofs.Placed.{placed_work, placed_named}
 use Rattle.hx_agreed.proofs.Frames.{same_is}
 use Rattle.hx_agreed.proofs.Changes.{instance_same}
 use Rattle.hx_agreed.proofs.Replicas.{here_put, others_put}
@@ -57,8 +59,8 @@ use Rattle.hx_agreed.proofs.Doing.{keeps_taken, keeps_write, keeps_ack}
 use Rattle.hx_agreed.proofs.DoingLines.{HasStood, line_happens, in_range_now, kept_now, fetch_happens, fetch_done, from_bag, stepped, died}
 
 -- a world of its history that is in step stands, at its last line
-pub stands_there : (spec : Spec) (x : State) → IsOfItsHistory spec x.world → IsInStep x.world → Stands spec x.world.cluster.line x
-stands_there spec x of in_step = record { scripted = record { of = of; line = refl }; in_step = in_step }
+pub stands_there : (spec : Spec) (x : State) → IsOfItsHistory spec x.world → IsInStep x.world → Stands spec (since x.world.cluster.line) x
+stands_there spec x of in_step = record { scripted = scripted_since spec x.world of; in_step = in_step }
 
 -- a job whose message is out, with its handler
 abbrev pub IsOutOf : List Participant → Job → Type 0
@@ -184,7 +186,7 @@ pub others_out : (x : State) (j : Job) → j.instance.0 < length x.world.partici
 others_out x j lt mine all =
     each-filter (IsOutOf x.world.participants) (IsOutOf (Jobs.end_job j x).world.participants) (λ k. not (Jobs.is_job j.instance j.message.id k)) (λ k other out. out_still x j k lt mine other out) x.world.jobs all
 
-module _ (spec : Spec) (valid : IsValid spec) (last : Option ℕ) where
+module _ (spec : Spec) (valid : IsValid spec) (last : Last) where
   -- what is said
   pub say_keeps : (charge : ℕ) (text : List ℕ) (x : State) → Stands spec last x → Keeps (Stands spec last) (say charge text x)
   say_keeps charge text x s = keeps_line spec valid last charge text x s
@@ -196,12 +198,12 @@ module _ (spec : Spec) (valid : IsValid spec) (last : Option ℕ) where
   loud_keeps v charge text x s = keeps_loud spec valid last v charge text x s
 
   -- lines that are taken
-  pub line_stands : (n : ℕ) (x : State) → Stands spec last x → is_later last n ≡ true → x.world.weight + weight_of (events.Line n) ≤ x.world.limit → Stands spec (Some n) (happened (events.Line n) x)
+  pub line_stands : (n : ℕ) (x : State) → Stands spec last x → is_later last.line n ≡ true → x.world.weight + weight_of (events.Line n) ≤ x.world.limit → Stands spec (at_line last (Some n)) (happened (events.Line n) x)
   line_stands n x s later room = line_happens spec valid last n x later s room
 
-  pub line_keeps : (n : ℕ) (x : State) → Stands spec last x → is_later last n ≡ true → Keeps (HasStood spec) (happen (events.Line n) x)
+  pub line_keeps : (n : ℕ) (x : State) → Stands spec last x → is_later last.line n ≡ true → Keeps (HasStood spec) (happen (events.Line n) x)
   line_keeps n x s later =
-      happens (HasStood spec) (events.Line n) x (record { last = last; stands = s }) (λ room. record { last = Some n; stands = line_happens spec valid last n x later s room })
+      happens (HasStood spec) (events.Line n) x (record { last = last; stands = s }) (λ room. record { last = at_line last (Some n); stands = line_happens spec valid last n x later s room })
 
   -- instances and controllers that the cluster has
   ranged_instance : (i : InstanceId) (x : State) → Stands spec last x → has_instance x.world.cluster i ≡ true → Ranges.has_instance spec i ≡ true
@@ -285,7 +287,7 @@ module _ (spec : Spec) (valid : IsValid spec) (last : Option ℕ) where
   -- a part that is out has a job
   pub job_of_part : (i : InstanceId) (q : PartId) (x : State) → Stands spec last x → is_out (slot_of (participant_of x.world i) q).work ≡ true
       → list_any (λ j. part_eq j.message.part q) (filter (Jobs.is_job_of i) x.world.jobs) ≡ true
-  job_of_part i q x s out = one (slot_of (participant_of x.world i) q).work out ((s.in_step.parts.each i).slots q).work
+  job_of_part i q x s out = one (slot_of (participant_of x.world i) q).work out (placed_work x.world.cluster x.world.bag x.world.jobs i (participant_of x.world i) (s.in_step.parts.each i) q)
     where
       of_part : (m : Message) → m.part ≡ q → (j : Job) → is_same j.message m ≡ true → part_eq j.message.part q ≡ true
       of_part m part j same = subst (λ (r : PartId). part_eq j.message.part r ≡ true) ((same_is j.message m same).part ∙ part) (part_eq-self j.message.part)
@@ -335,12 +337,14 @@ module _ (spec : Spec) (valid : IsValid spec) (last : Option ℕ) where
       let w = participant_of (Jobs.end_jobs (Jobs.jobs_of i x) x).world i in
       quiet_from w (λ p h. all_slots p w.slots (distinct_left i (Jobs.jobs_of i x) x (instance_there i x s there) (s.in_step.parts.each i).distinct) h) (λ q. ended_out i q x s there)
 
-  -- a message of the bag fits a participant
-  pub fits : (i : InstanceId) (m : Message) (x : State) → Stands spec last x → find (λ n. n.id.0 == m.id.0) x.world.bag ≡ Some m → Fits (participant_of x.world i) m
-  fits i m x s is =
+  -- a message of the bag fits a participant of its session
+  pub fits : (i : InstanceId) (m : Message) (x : State) → Stands spec last x → find (λ n. n.id.0 == m.id.0) x.world.bag ≡ Some m → is_session (participant_of x.world i).session m.session ≡ true
+      → Fits (participant_of x.world i) m
+  fits i m x s is mine =
       let c = x.world.cluster in
+      let its = placed_named c x.world.bag x.world.jobs i (participant_of x.world i) (s.in_step.parts.each i) m mine (find-any (λ n. n.id.0 == m.id.0) (is_same m) x.world.bag m is (same_self m)) m.part in
       let b : IsInBag x.world.cluster x.world.participants m = each-find (IsInBag x.world.cluster x.world.participants) (λ n. n.id.0 == m.id.0) x.world.bag m s.in_step.parts.bagged is in
       record {
         sound = sound_message m (model_of c.models c.resources m.part.resource) (part_model c (ranged_there spec last x.world valid s.scripted) (kept_now spec valid last x s).sound m.part b.part) b.legal b.initial;
-        like = like_all (slot_of (participant_of x.world i) m.part).initial m (λ t e. ((s.in_step.parts.each i).slots m.part).initial t e ∙ sym b.initial);
+        like = like_all (slot_of (participant_of x.world i) m.part).initial m (λ t e. its.initial t e ∙ sym b.initial);
       }

@@ -103,7 +103,7 @@ module _ (c d : Cluster) (k : IsKept c) (l : IsKept d) (q : IsQuiet c d) (ws : L
   pub quiet_in_step : AreInStep d ws jobs bag
   quiet_in_step = record {
     each = λ i. placed_like c d bag bag jobs jobs i (of_instance ws i) k q.parts (let e = q.messages in omega arith) q.up (λ m is. is) (λ m h is. is)
-        (λ t mine live. (q.live t (mine_below c ws jobs bag s i t mine) live, q.kept i t live, q.like t live)) (free i) (s.each i);
+        (λ t mine live. (q.live t (mine_below c ws jobs bag s i t mine) live, q.kept i t live, q.like t live)) (free i) (λ stale. stale.apart) (s.each i);
     held = each-le (IsHeldJob c ws jobs) (IsHeldJob d ws jobs)
         (λ j h. record {
           only = h.only;

@@ -29,7 +29,8 @@ use Rattle.hx_runs.proofs.Calming.{same_self}
 use Rattle.hx_runs.proofs.Waiting.{any-one, any-single}
 use Rattle.hx_agreed.specs.InStep.{of_instance, IsUntaken, IsPending, HasSlot, IsHeldJob, IsOldIn, IsInBag, has_number, AreInStep}
 use Rattle.hx_agreed.proofs.Lists.{each-le, or-first, in_range, put_here, put_other}
-use Rattle.hx_agreed.proofs.Slots.{slot_in-other, distinct-put, mine_is}
+use Rattle.hx_agreed.proofs.Slots.{slot_in-other, distinct-put, is_mine, mine_is}
+use Rattle.hx_agreed.proofs.Placed.{placed_named}
 use Rattle.hx_agreed.proofs.Frames.{same_is, same_sym, same_both, one_instance}
 use Rattle.hx_agreed.proofs.Changes.{instance_same, change_in_step}
 
@@ -155,6 +156,7 @@ module _ (c : Cluster) (ws : List Participant) (jobs : List Job) (bag : List Mes
     others = others_put ws i w';
     mine = ok.mine;
     session = ap (λ (p : Participant). p.session) here ∙ ok.mine;
+    active = placed_named c bag jobs i w (a.each i) m (is_mine w.session m.session ok.mine) bagged;
     distinct = subst (λ (p : Participant). AreDistinct (map (λ y. y.part) p.slots)) (sym here) (distinct-put w.slots y (a.each i).distinct);
     slots = slots;
     live = refl;

@@ -12,7 +12,7 @@ use Rattle.hx_cluster.specs.declared.happenings.Event.{Event}
 use Rattle.hx_cluster.specs.Valid.{IsValid}
 use Rattle.hx_cluster.specs.Safe.{IsSafe}
 use Rattle.hx_cluster.specs.Steps.{opening}
-use Rattle.hx_pass.specs.Lawful.{IsLawful}
+use Rattle.hx_cluster.specs.Events.{IsLegal}
 use Rattle.hx_replicas.specs.Participants.{Participant}
 use Rattle.hx_control.specs.Controllers.{Controller, idle_controller}
 use Rattle.hx_control.specs.OfBoard.{OfBoard}
@@ -47,12 +47,12 @@ turns_listed spec h ks turns = λ k d lt.
     subst (OfBoard spec h) same (turns (record { 0 = k })).of_board
 
 agree_open : (b : Agree.BoardState) (ks : List Controller) (ws : List Participant) (jobs : List Job) (bag : List Message)
-    → IsLawful b.spec b.history → ((k : ControllerId) → IsTurnOf b.spec b.history k (slice_index_or ks k.0 (idle_controller k)))
+    → IsLegal (opening b.spec) b.history → ((k : ControllerId) → IsTurnOf b.spec b.history k (slice_index_or ks k.0 (idle_controller k)))
     → length ks ≡ b.spec.controllers → length ws ≡ length b.spec.instances → IsSafe (Agree.cluster_of b) → (s : AreInStep (Agree.cluster_of b) ws jobs bag)
     → Agree.AgreeOpen b.spec b ks (Agree.stationed_from 0 ws) jobs bag
-agree_open b ks ws jobs bag lawful turns few many safe s =
+agree_open b ks ws jobs bag legal turns few many safe s =
     let a = agreed (Agree.cluster_of b) safe ws jobs bag s in
-    let up = counted (opening b.spec) b.history lawful.0 in
+    let up = counted (opening b.spec) b.history legal in
     record {
       staffed = record {
         spec = refl;
@@ -78,7 +78,7 @@ kept w valid of s = record {
   cluster = of.cluster;
   weight = s.weight;
   agree =
-      agree_open (Agree.board_of w) w.controllers w.participants w.jobs w.bag of.lawful of.turns of.controllers s.participants (reached_safe w.spec valid w.history of.lawful.0)
+      agree_open (Agree.board_of w) w.controllers w.participants w.jobs w.bag of.legal of.turns of.controllers s.participants (reached_safe w.spec valid w.history of.legal)
       (subst (λ (c : Cluster). AreInStep c w.participants w.jobs w.bag) of.cluster s.parts);
 }
 

@@ -19,14 +19,15 @@ use Rattle.hx_cluster.specs.Ends.{is_live, state_of}
 use Rattle.hx_cluster.specs.Messages.{is_same, state_after, as_written, row_put, written_of, after_write}
 use Rattle.hx_replicas.specs.declared.slots.Work.{Work}
 use Rattle.hx_replicas.specs.declared.slots.Work.TheVariants.{Idle, Accepted, Out}
-use Rattle.hx_replicas.specs.Participants.{Participant, Slot, slot_of, is_out}
+use Rattle.hx_replicas.specs.Participants.{Participant, Slot, slot_of, is_idle, is_out}
 use Rattle.hx_worlds.specs.World.{Job}
 use Rattle.hx_worlds.specs.Jobs.{is_job, as_written_job}
 use Rattle.hx_worlds.specs.Agree.{is_known_at, is_out_as, is_lent_to, is_at_end}
 use Rattle.hx_safe.proofs.Ends.{same-self, put-other, put-here}
 use Rattle.hx_safe.proofs.Kept.{IsKept}
-use Rattle.hx_agreed.specs.InStep.{Each, of_instance, IsOfSlot, is_lent_as, HasWork, row_after, IsTakenBy, IsHeldJob, AreInStep}
+use Rattle.hx_agreed.specs.InStep.{Each, of_instance, IsOfSlot, is_lent_as, HasWork, HasSlot, row_after, IsTakenBy, IsHeldJob, AreInStep}
 use Rattle.hx_agreed.proofs.Lists.{each-map, or-second}
+use Rattle.hx_agreed.proofs.Placed.{placed_busy}
 use Rattle.hx_agreed.proofs.Frames.{AreSame, same_is, same_sym, same_both, IsOutFor, job_out, job_mine}
 use Rattle.hx_agreed.proofs.Changes.{is_replica, change_in_step}
 use Rattle.hx_agreed.proofs.Ending.{other_replica}
@@ -172,6 +173,9 @@ module _ (c : Cluster) (ws : List Participant) (jobs : List Job) (bag : List Mes
   mine : (of_instance ws j.instance).session ≡ Some j.message.session
   mine = job_mine c ws jobs bag a j h
 
+  active : (p : PartId) → HasSlot c bag jobs j.instance (of_instance ws j.instance).session p (slot_of (of_instance ws j.instance) p)
+  active = placed_busy c bag jobs j.instance (of_instance ws j.instance) (a.each j.instance) j.message.part (ap is_idle out.work)
+
   now_known : (x : Slot) (m : Message) (is_held : Bool) (n : Message) → x.work ≡ Out m is_held → is_same n m ≡ true → is_known_at x n ≡ true
   now_known x m is_held n e same = or-second _ (is_out_as n x.work) (subst (λ (w : Work). is_out_as n w ≡ true) (sym e) same)
 
@@ -182,6 +186,7 @@ module _ (c : Cluster) (ws : List Participant) (jobs : List Job) (bag : List Mes
         others = λ n e. refl;
         mine = mine;
         session = mine;
+        active = active;
         distinct = (a.each j.instance).distinct;
         slots = λ p e. refl;
         live = refl;
@@ -194,10 +199,10 @@ module _ (c : Cluster) (ws : List Participant) (jobs : List Job) (bag : List Mes
         lent = λ n m is_held e is. lent_marked j.instance n j.message.id m is_held jobs is;
         lent_here = λ p m is_held e f is. lent_marked j.instance j.instance j.message.id m is_held jobs is;
         slot = record {
-          last = ((a.each j.instance).slots j.message.part).last;
-          used = ((a.each j.instance).slots j.message.part).used;
-          initial = ((a.each j.instance).slots j.message.part).initial;
-          there = ((a.each j.instance).slots j.message.part).there;
+          last = (active j.message.part).last;
+          used = (active j.message.part).used;
+          initial = (active j.message.part).initial;
+          there = (active j.message.part).there;
           work = work;
         };
         row_here = λ live idle. absurd (let yes : is_out (slot_of (of_instance ws j.instance) j.message.part).work ≡ true = ap is_out out.work in let z : true ≡ false = sym yes ∙ idle in (cc));

@@ -16,7 +16,7 @@ use Rattle.hx_cluster.specs.Messages.{initial_of, is_same, state_after}
 use Rattle.hx_cluster.specs.Events.{has_part}
 use Rattle.hx_replicas.specs.declared.slots.Work.{Work}
 use Rattle.hx_replicas.specs.declared.slots.Work.TheVariants.{Idle, Accepted, Out}
-use Rattle.hx_replicas.specs.Participants.{Participant, Slot, new_participant, slot_of, is_out, is_session}
+use Rattle.hx_replicas.specs.Participants.{Participant, Slot, new_participant, slot_of, is_out, is_session, all_idle}
 use Rattle.hx_replicas.specs.Layout.{AreDistinct}
 use Rattle.hx_worlds.specs.World.{World, Job}
 use Rattle.hx_worlds.specs.Jobs.{is_job}
@@ -89,12 +89,19 @@ pub record IsUntouched (c : Cluster) (s : SessionId) : Type 0 where
   pub rows : (q : PartId) → state_of c.rows s q ≡ None
   pub mail : (q : PartId) (m : Message) → message_of c.mail s q ≡ Some m → m.taken ≡ false
 
+-- a participant that has no live session may be as another world left it: its slots are idle, and nothing of its session is in the bag.
+-- So it accepts nothing until it adopts another session
+pub record IsStale (c : Cluster) (bag : List Message) (w : Participant) : Type 0 where
+  pub idle : all_idle w ≡ true
+  pub dead : (s : SessionId) → w.session ≡ Some s → is_live c.live s ≡ false
+  pub apart : Each (λ m. is_session w.session m.session ≡ false) bag
+
 -- the participant of an instance
 pub record IsPlaced (c : Cluster) (bag : List Message) (jobs : List Job) (i : InstanceId) (w : Participant) : Type 0 where
   pub distinct : AreDistinct (map (λ x. x.part) w.slots)
   pub below : is_below c.next_session w.session ≡ true
   pub own : (s : SessionId) → w.session ≡ Some s → is_live c.live s ≡ true → session_of c i ≡ Some s
-  pub slots : (q : PartId) → HasSlot c bag jobs i w.session q (slot_of w q)
+  pub slots : IsStale c bag w ⊎ ((q : PartId) → HasSlot c bag jobs i w.session q (slot_of w q))
   pub along : (s : SessionId) → w.session ≡ Some s → is_live c.live s ≡ true → IsAlong c w s
   pub free : (s : SessionId) → session_of c i ≡ Some s → (w.session ≡ Some s) ⊎ IsUntouched c s
 

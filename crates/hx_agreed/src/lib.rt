@@ -7,6 +7,8 @@ ghost use Rattle.std.specs.List.{All, list_all};
 ghost use Rattle.hx_cluster.specs.declared.description.Spec.{Spec};
 ghost use Rattle.hx_cluster.specs.declared.state.Message.{Message};
 ghost use Rattle.hx_cluster.specs.Valid.{IsValid};
+ghost use Rattle.hx_cluster.specs.Steps.{opening};
+ghost use Rattle.hx_cluster.specs.Events.{IsLegal};
 ghost use Rattle.hx_replicas.specs.Participants.{all_idle, accepted_of};
 ghost use Rattle.hx_control.specs.Controllers.{Controller, idle_controller};
 ghost use Rattle.hx_script.specs.declared.Line.{Line};
@@ -25,6 +27,7 @@ ghost use Rattle.hx_worlds.specs.Agree.{
 };
 ghost use Rattle.hx_scripted.specs.OfHistory.{IsOfItsHistory};
 ghost use Rattle.hx_agreed.specs.InStep.{IsInStep};
+ghost use Rattle.hx_agreed.specs.OfParts.{IsOfParts};
 
 /// A world of its history that is in step keeps what a world keeps: its parts agree with what is
 /// open.
@@ -70,4 +73,10 @@ pub fn parts_without_work_agree()
         → All (λ k. k ≡ idle_controller k.id) ks
         → list_all (λ p. list_all (λ x. is_none (accepted_of x.work)) p.plain.slots) ps ≡ true
         → Agree given b ks ps }
+{}
+
+/// A world of parts that agree is in step and of its history, where that is legal.
+pub fn agreeing_parts_are_in_step()
+    ensures { (spec : Spec) (w : World) → IsValid spec → IsOfParts spec w
+        → IsLegal (opening spec) w.history → IsInStep w × IsOfItsHistory spec w }
 {}

@@ -32,6 +32,7 @@ use Rattle.hx_safe.proofs.Counting.{and-first, and-second, and-both, find-passes
 use Rattle.hx_safe.proofs.Ends.{same-self}
 use Rattle.hx_safe.proofs.Kept.{IsKept}
 use Rattle.hx_scripted.specs.OfHistory.{is_fetched}
+use Rattle.hx_scripted.proofs.Standing.{Last}
 use Rattle.hx_agreed.proofs.Frames.{one_number, found_part}
 use Rattle.hx_agreed.proofs.Replicas.{here_put, acceptable}
 use Rattle.hx_agreed.proofs.Fetching.{bagged_now}
@@ -70,7 +71,7 @@ find_kept : (p k q : Message → Bool) (ms : List Message) (m : Message) → fin
 find_kept p k q [] m e f g = cc
 find_kept p k q (x ∷ ms) m e f g = grind (arith, e, f, g, find_kept p k q ms m)
 
-module _ (spec : Spec) (valid : IsValid spec) (last : Option ℕ) (P : Cluster → Type 0) (H : Job → Type 0) (closed : IsClosed P H) (live : List Live) (ks : List Controller)
+module _ (spec : Spec) (valid : IsValid spec) (last : Last) (P : Cluster → Type 0) (H : Job → Type 0) (closed : IsClosed P H) (live : List Live) (ks : List Controller)
     (i : InstanceId) (low : i.0 < length spec.instances) (s : SessionId) (own : option_map (λ l. l.session) (live_of live i) ≡ Some s) where
   -- as the messages of a fetch are delivered
   record IsDelivering (ms : List Message) (x : State) : Type 0 where

@@ -29,8 +29,10 @@ use Rattle.hx_worlds.specs.Jobs as Jobs
 use Rattle.hx_safe.proofs.Counting.{and-six}
 use Rattle.hx_safe.proofs.Ends.{same-self}
 use Rattle.hx_safe.proofs.Kept.{IsKept}
+use Rattle.hx_scripted.proofs.Standing.{Last}
 use Rattle.hx_agreed.specs.InStep.{of_instance, IsUntaken, IsAcceptedHere, IsOutHere, HasWork, IsAlong, IsPlaced, is_lent_as}
 use Rattle.hx_agreed.proofs.Slots.{is_mine}
+use Rattle.hx_agreed.proofs.Placed.{placed_work}
 use Rattle.hx_agreed.proofs.Frames.{same_is, found_pending, found_session, found_part, session_live}
 use Rattle.hx_agreed.proofs.Going.{whole_there}
 use Rattle.hx_bounded.proofs.Carrying.{IsClosed}
@@ -138,7 +140,7 @@ free_slot x m idle above from =
     ap (λ (w : Work). slot_fault w x.state x.last x.initial m) idle
     ∙ (λ i. if above i then Some (faults.Repeat x.last) else if from i then None else Some (faults.WrongFrom (state_for x.initial x.state m.initial)))
 
-module _ (spec : Spec) (valid : IsValid spec) (last : Option ℕ) (P : Cluster → Type 0) (H : Job → Type 0) (closed : IsClosed P H) (live : List Live) (ks : List Controller)
+module _ (spec : Spec) (valid : IsValid spec) (last : Last) (P : Cluster → Type 0) (H : Job → Type 0) (closed : IsClosed P H) (live : List Live) (ks : List Controller)
     (i : InstanceId) (low : i.0 < length spec.instances) (s : SessionId) (own : option_map (λ l. l.session) (live_of live i) ≡ Some s) where
   pub kept_now : (x : State) → IsAtWork spec valid last P H closed live ks x → IsKept x.world.cluster
   kept_now x a = (whole_there spec last x.world valid a.stands.scripted).kept
@@ -165,7 +167,8 @@ module _ (spec : Spec) (valid : IsValid spec) (last : Option ℕ) (P : Cluster �
     work_at : (q : PartId) (w : Work) → (slot_of (participant_of x.world i) q).work ≡ w
         → HasWork x.world.cluster x.world.bag x.world.jobs i (participant_of x.world i).session q (slot_of (participant_of x.world i) q) w
     work_at q w is =
-        subst (λ (v : Work). HasWork x.world.cluster x.world.bag x.world.jobs i (participant_of x.world i).session q (slot_of (participant_of x.world i) q) v) is (placed.slots q).work
+        subst (λ (v : Work). HasWork x.world.cluster x.world.bag x.world.jobs i (participant_of x.world i).session q (slot_of (participant_of x.world i) q) v) is
+        (placed_work x.world.cluster x.world.bag x.world.jobs i (participant_of x.world i) placed q)
 
     never_out : (q : PartId) (m : Message) (is_held : Bool) → (slot_of (participant_of x.world i) q).work ≡ Out m is_held → ⊥
     never_out q m is_held is =

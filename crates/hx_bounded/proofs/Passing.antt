@@ -50,7 +50,7 @@ use Rattle.hx_safe.proofs.Counting.{and-both}
 use Rattle.hx_safe.proofs.Ends.{same-self}
 use Rattle.hx_safe.proofs.Fixed.{IsFixed}
 use Rattle.hx_safe.proofs.Whole.{length-replicate}
-use Rattle.hx_scripted.proofs.Standing.{fixed_there}
+use Rattle.hx_scripted.proofs.Standing.{Last, fixed_there}
 use Rattle.hx_agreed.specs.InStep.{Each, IsHeldJob}
 use Rattle.hx_agreed.proofs.Lists.{each-le}
 use Rattle.hx_agreed.proofs.DoingTurns.{Stands, keeps_step}
@@ -127,7 +127,7 @@ abbrev pub HasNoJobs : World → Type 0
 HasNoJobs w = Each (λ j. is_live w.cluster.live j.message.session ≡ false) w.jobs
 
 -- without mail none is
-pub jobs_dead : (spec : Spec) (last : Option ℕ) (x : State) → Stands spec last x → x.world.cluster.mail ≡ [] → HasNoJobs x.world
+pub jobs_dead : (spec : Spec) (last : Last) (x : State) → Stands spec last x → x.world.cluster.mail ≡ [] → HasNoJobs x.world
 jobs_dead spec last x st none =
     each-le (IsHeldJob x.world.cluster x.world.participants x.world.jobs) (λ j. is_live x.world.cluster.live j.message.session ≡ false) (λ j h. dead j h (is_live x.world.cluster.live j.message.session) refl) x.world.jobs st.in_step.parts.held
   where
@@ -139,7 +139,7 @@ jobs_dead spec last x st none =
         absurd (cc)
 
 -- where nothing was shown and nothing has changed
-module _ (spec : Spec) (valid : IsValid spec) (last : Option ℕ) (k : ControllerId) (w t l : ℕ) where
+module _ (spec : Spec) (valid : IsValid spec) (last : Last) (k : ControllerId) (w t l : ℕ) where
   -- the leader's controller
   abbrev own : State → Controller
   own x = controller_of x.world k
@@ -319,7 +319,7 @@ module _ (spec : Spec) (valid : IsValid spec) (last : Option ℕ) (k : Controlle
     view : (own x).turn.view ≡ read_at x.world.cluster
     view =
         ap (λ (u : Turn). u.view) turn
-        ∙ read_whole spec x.world.history (own x).id valid f.stands.scripted.of.lawful.0 read
+        ∙ read_whole spec x.world.history (own x).id valid f.stands.scripted.of.legal read
         (ap (λ (u : Turn). u.begun.change) (sym turn) ∙ f.change ∙ ap (λ (c : Cluster). c.change) cluster)
         ∙ ap read_at (sym cluster)
 
@@ -329,7 +329,7 @@ module _ (spec : Spec) (valid : IsValid spec) (last : Option ℕ) (k : Controlle
     formed : is_well_formed spec.models (length x.world.cluster.instances) (own x).turn.view ≡ true
     formed =
         (λ i. is_well_formed spec.models (many i) ((turn i).view))
-        ∙ read_law spec valid x.world.history f.stands.scripted.of.lawful.0 (own x).id read
+        ∙ read_law spec valid x.world.history f.stands.scripted.of.legal (own x).id read
       where
         many : length x.world.cluster.instances ≡ length spec.instances
         many = (fixed_there spec last x.world f.stands.scripted).instances ∙ length-replicate (length spec.instances) false
@@ -631,7 +631,7 @@ module _ (spec : Spec) (valid : IsValid spec) (last : Option ℕ) (k : Controlle
       (reads (length (calls_after_live (live_shown y.world.cluster))) (calls_after_live (live_shown y.world.cluster)) z e.1 (reads_after_live (live_shown y.world.cluster)) refl))
       (λ p u passed. goes_gives IsPassed u (Turns.or_earlier None p) (without_earlier p u passed)))))
 
-pub later_turn : (spec : Spec) (valid : IsValid spec) (last : Option ℕ) (k : ControllerId) (x : State) → IsAtRest spec last k x
+pub later_turn : (spec : Spec) (valid : IsValid spec) (last : Last) (k : ControllerId) (x : State) → IsAtRest spec last k x
     → IfGoesOn (IsLaterTurn spec last k (all_walks x.world.cluster) (tries_left x.world.cluster) (left_of x.world.cluster)) (Turns.do_pass Quiet k x)
 later_turn spec valid last k x rest =
     goes_so (λ o y. IsThrough spec valid last k x o y × IsPassed spec valid last k w t l o y) (IsLaterTurn spec last k w t l) (Turns.do_pass Quiet k x)

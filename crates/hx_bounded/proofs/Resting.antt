@@ -34,6 +34,7 @@ use Rattle.hx_safe.proofs.Counting.{and-first, and-second, all-map, all-le, find
 use Rattle.hx_safe.proofs.Ends.{same-self, part_eq-self, session_same}
 use Rattle.hx_safe.proofs.Kept.{IsKept}
 use Rattle.hx_covers.proofs.Sorting.{all-sort, each_there}
+use Rattle.hx_scripted.proofs.Standing.{Last}
 use Rattle.hx_agreed.specs.InStep.{Each}
 use Rattle.hx_agreed.proofs.Lists.{each-le}
 use Rattle.hx_settled.proofs.Moments.{any-sort}
@@ -149,7 +150,7 @@ nothing_pending c k few done = one c.mail refl
         let no : None ≡ Some m = sym gone ∙ ap (λ (xs : List Message). message_of xs m.session m.part) is ∙ here in
         absurd (cc)
 
-module _ (spec : Spec) (valid : IsValid spec) (last : Option ℕ) where
+module _ (spec : Spec) (valid : IsValid spec) (last : Last) where
   module _ (P : Cluster → Type 0) (H : Job → Type 0) (closed : IsClosed P H) (live : List Live) (ks : List Controller) where
     -- as the live instances work, one by one
     record IsBetween (is : List InstanceId) (x : State) : Type 0 where

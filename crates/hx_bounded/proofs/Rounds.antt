@@ -16,6 +16,7 @@ use Rattle.hx_worlds.specs.Runs.{gives, and_then}
 use Rattle.hx_worlds.specs.Turns as Turns
 use Rattle.hx_worlds.specs.Settles.{enough_rounds, work_all, unless_settled, rounds, settle_led}
 use Rattle.hx_safe.proofs.Whole.{reached_safe, reached_ranged}
+use Rattle.hx_scripted.proofs.Standing.{Last}
 use Rattle.hx_agreed.specs.InStep.{Each}
 use Rattle.hx_agreed.proofs.DoingTurns.{Stands}
 use Rattle.hx_settled.specs.Places.{tries_left}
@@ -27,44 +28,44 @@ use Rattle.hx_bounded.proofs.Counting.{work_bounded, work_falls}
 use Rattle.hx_bounded.proofs.Going.{goes_on, goes_then, goes_gives}
 
 -- a controller leads, and has no turn under way
-pub record IsLed (spec : Spec) (last : Option ℕ) (k : ControllerId) (x : State) : Type 0 where
+pub record IsLed (spec : Spec) (last : Last) (k : ControllerId) (x : State) : Type 0 where
   pub stands : Stands spec last x
   pub leads : x.world.cluster.leader ≡ Some k
   pub idle : Turns.left_of x k ≡ []
 
 -- between rounds nothing is pending
-pub record IsAtRest (spec : Spec) (last : Option ℕ) (k : ControllerId) (x : State) : Type 0 where
+pub record IsAtRest (spec : Spec) (last : Last) (k : ControllerId) (x : State) : Type 0 where
   pub led : IsLed spec last k x
   pub mail : x.world.cluster.mail ≡ []
 
 -- the first round: its turn settles, or leaves its controller idle; and its work leaves nothing pending
-abbrev pub IsFirstTurn : Spec → Option ℕ → ControllerId → ℕ → Option PassOutcome → State → Type 0
+abbrev pub IsFirstTurn : Spec → Last → ControllerId → ℕ → Option PassOutcome → State → Type 0
 IsFirstTurn spec last k enough o y =
     by_outcome (λ report. IsExplained y.world.cluster report) (IsLed spec last k y × (enough_rounds y.world.cluster ≡ enough)) o
 
-abbrev pub IsFirstRest : Spec → Option ℕ → ControllerId → ℕ → State → Type 0
+abbrev pub IsFirstRest : Spec → Last → ControllerId → ℕ → State → Type 0
 IsFirstRest spec last k enough z = IsAtRest spec last k z × (enough_rounds z.world.cluster ≡ enough)
 
 -- a later round: its turn settles, or sends messages that are on their way; and as they are worked off the round falls
-pub record IsSetOff (spec : Spec) (last : Option ℕ) (k : ControllerId) (walks tries left : ℕ) (y : State) : Type 0 where
+pub record IsSetOff (spec : Spec) (last : Last) (k : ControllerId) (walks tries left : ℕ) (y : State) : Type 0 where
   pub led : IsLed spec last k y
   pub falls : IsFalling walks tries left y.world.cluster
   pub jobs : Each (λ j. is_live y.world.cluster.live j.message.session ≡ false) y.world.jobs
 
-abbrev pub IsLaterTurn : Spec → Option ℕ → ControllerId → ℕ → ℕ → ℕ → Option PassOutcome → State → Type 0
+abbrev pub IsLaterTurn : Spec → Last → ControllerId → ℕ → ℕ → ℕ → Option PassOutcome → State → Type 0
 IsLaterTurn spec last k walks tries left o y =
     by_outcome (λ report. IsExplained y.world.cluster report) (IsSetOff spec last k walks tries left y) o
 
-abbrev pub IsLaterRest : Spec → Option ℕ → ControllerId → ℕ → ℕ → ℕ → State → Type 0
+abbrev pub IsLaterRest : Spec → Last → ControllerId → ℕ → ℕ → ℕ → State → Type 0
 IsLaterRest spec last k walks tries left z = IsAtRest spec last k z × IsFalling walks tries left z.world.cluster
 
-pub safe_there : (spec : Spec) (valid : IsValid spec) (last : Option ℕ) (x : State) → Stands spec last x → IsSafe x.world.cluster
-safe_there spec valid last x s = subst IsSafe (sym s.scripted.of.cluster) (reached_safe spec valid x.world.history s.scripted.of.lawful.0)
+pub safe_there : (spec : Spec) (valid : IsValid spec) (last : Last) (x : State) → Stands spec last x → IsSafe x.world.cluster
+safe_there spec valid last x s = subst IsSafe (sym s.scripted.of.cluster) (reached_safe spec valid x.world.history s.scripted.of.legal)
 
-pub ranged_there : (spec : Spec) (valid : IsValid spec) (last : Option ℕ) (x : State) → Stands spec last x → IsRanged x.world.cluster
-ranged_there spec valid last x s = subst IsRanged (sym s.scripted.of.cluster) (reached_ranged spec valid x.world.history s.scripted.of.lawful.0)
+pub ranged_there : (spec : Spec) (valid : IsValid spec) (last : Last) (x : State) → Stands spec last x → IsRanged x.world.cluster
+ranged_there spec valid last x s = subst IsRanged (sym s.scripted.of.cluster) (reached_ranged spec valid x.world.history s.scripted.of.legal)
 
-module _ (spec : Spec) (valid : IsValid spec) (last : Option ℕ) (k : ControllerId)
+module _ (spec : Spec) (valid : IsValid spec) (last : Last) (k : ControllerId)
     (first_turn : (x : State) → Stands spec last x → x.world.cluster.leader ≡ Some k → IfGoesOn (IsFirstTurn spec last k (enough_rounds x.world.cluster)) (Turns.do_pass Quiet k x))
     (first_work : (enough : ℕ) (y : State) → IsLed spec last k y → enough_rounds y.world.cluster ≡ enough → IfGoesOn (λ _ z. IsFirstRest spec last k enough z) (work_all y))
     (later_turn : (x : State) → IsAtRest spec last k x

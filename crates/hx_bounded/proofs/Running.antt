@@ -27,7 +27,9 @@ use Rattle.hx_worlds.specs.Jobs as Jobs
 use Rattle.hx_safe.proofs.Counting.{any-append}
 use Rattle.hx_safe.proofs.Ends.{part_eq-self}
 use Rattle.hx_safe.proofs.Ideals.{length-put}
+use Rattle.hx_scripted.proofs.Standing.{Last}
 use Rattle.hx_agreed.specs.InStep.{of_instance, IsAcceptedHere, HasWork}
+use Rattle.hx_agreed.proofs.Placed.{placed_work}
 use Rattle.hx_agreed.proofs.Frames.{same_is}
 use Rattle.hx_agreed.proofs.Replicas.{here_put, one_bagged}
 use Rattle.hx_agreed.proofs.Marks.{accepted_slot}
@@ -50,7 +52,7 @@ any_listed i x id =
     any-sort (λ (j : Job). j.message.id.0 == id.0) Jobs.job_before (filter (Jobs.is_job_of i) x.world.jobs)
     ∙ any_filtered (λ (j : Job). j.message.id.0 == id.0) (Jobs.is_job_of i) x.world.jobs
 
-module _ (spec : Spec) (valid : IsValid spec) (last : Option ℕ) (P : Cluster → Type 0) (H : Job → Type 0) (closed : IsClosed P H) (live : List Live) (ks : List Controller)
+module _ (spec : Spec) (valid : IsValid spec) (last : Last) (P : Cluster → Type 0) (H : Job → Type 0) (closed : IsClosed P H) (live : List Live) (ks : List Controller)
     (i : InstanceId) (low : i.0 < length spec.instances) where
   -- open jobs are carried to their ends
   record IsCarrying (js : List Job) (x : State) : Type 0 where
@@ -107,9 +109,9 @@ module _ (spec : Spec) (valid : IsValid spec) (last : Option ℕ) (P : Cluster �
               let s = r.ready.at_work.stands.in_step.parts in
               let work = accepted_slot x.world.cluster x.world.bag x.world.jobs i (participant_of x.world i) m.id t (s.each i) at in
               let a : IsAcceptedHere x.world.cluster x.world.bag (participant_of x.world i).session t.part (slot_of (participant_of x.world i) t.part) t
-              = subst (λ (v : Work). HasWork x.world.cluster x.world.bag x.world.jobs i (participant_of x.world i).session t.part (slot_of (participant_of x.world i) t.part) v) work ((s.each i).slots t.part).work in
+              = subst (λ (v : Work). HasWork x.world.cluster x.world.bag x.world.jobs i (participant_of x.world i).session t.part (slot_of (participant_of x.world i) t.part) v) work (placed_work x.world.cluster x.world.bag x.world.jobs i (participant_of x.world i) (s.each i) t.part) in
               let b : IsAcceptedHere x.world.cluster x.world.bag (participant_of x.world i).session q (slot_of (participant_of x.world i) q) n
-              = subst (λ (v : Work). HasWork x.world.cluster x.world.bag x.world.jobs i (participant_of x.world i).session q (slot_of (participant_of x.world i) q) v) is ((s.each i).slots q).work in
+              = subst (λ (v : Work). HasWork x.world.cluster x.world.bag x.world.jobs i (participant_of x.world i).session q (slot_of (participant_of x.world i) q) v) is (placed_work x.world.cluster x.world.bag x.world.jobs i (participant_of x.world i) (s.each i) q) in
               let number : t.id ≡ n.id = accepted_number (participant_of x.world i).slots m.id t at ∙ same_number m.id n.id e in
               let same = one_bagged x.world.bag t n s.numbers a.bagged b.bagged number in
               let part : t.part ≡ q = (same_is t n same).part ∙ b.of.part in

@@ -1,5 +1,5 @@
 -- What the steps of the leader's turn come to.
-use Rattle.std.proofs.Common.{◌≡◌, ℕ, ◌+◌, ◌*◌, ◌<◌, ◌&&◌, ◌==◌, Bool, true, false, List, [], ◌∷◌, length, Option, Some, None, refl, sym, ap, ◌∙◌, subst, arith}
+use Rattle.std.proofs.Common.{◌≡◌, ◌+◌, ◌*◌, ◌<◌, ◌&&◌, ◌==◌, Bool, true, false, List, [], ◌∷◌, length, Option, Some, None, refl, sym, ap, ◌∙◌, subst, arith}
 use Rattle.std.specs.Prelude.{if◌then◌else◌, slice_get, slice_set, slice_index_or}
 use Rattle.std.specs.Option.{option_map_or}
 use Rattle.std.proofs.lemmas.Bool.Decides.{nat_tests}
@@ -33,7 +33,7 @@ use Rattle.hx_worlds.specs.Turns as Turns
 use Rattle.hx_worlds.specs.Settles.{all_parts, most_states, enough_rounds}
 use Rattle.hx_safe.proofs.Ends.{same-self}
 use Rattle.hx_safe.proofs.Whole.{length-replicate}
-use Rattle.hx_scripted.proofs.Standing.{fixed_there}
+use Rattle.hx_scripted.proofs.Standing.{Last, fixed_there}
 use Rattle.hx_agreed.proofs.Lists.{put_here}
 use Rattle.hx_agreed.proofs.DoingTurns.{Stands}
 use Rattle.hx_bounded.specs.Ending.{IfGoesOn}
@@ -129,7 +129,7 @@ step_comes k s left is =
     (comes_to (step_of s.world.spec s.world.cluster (controller_of s.world k)) (controller_of s.world k) s)
 
 -- the controller that is put is the leader's
-pub listed : (spec : Spec) (valid : IsValid spec) (last : Option ℕ) (k : ControllerId) (x : State) → Stands spec last x → x.world.cluster.leader ≡ Some k → k.0 < length x.world.controllers
+pub listed : (spec : Spec) (valid : IsValid spec) (last : Last) (k : ControllerId) (x : State) → Stands spec last x → x.world.cluster.leader ≡ Some k → k.0 < length x.world.controllers
 listed spec valid last k x s leads =
     let has : has_controller x.world.cluster k ≡ true = ap (λ (o : Option ControllerId). option_map_or (has_controller x.world.cluster) o true) (sym leads) ∙ (ranged_there spec valid last x s).leader in
     let fixed : length x.world.cluster.controllers ≡ spec.controllers = (fixed_there spec last x.world s.scripted).controllers ∙ length-replicate spec.controllers (false, record { 0 = 0 }) in

@@ -31,6 +31,7 @@ use Rattle.hx_worlds.specs.Runs.{gives, go_on, happened}
 use Rattle.hx_worlds.specs.Turns as Turns
 use Rattle.hx_worlds.specs.Settles.{enough_rounds}
 use Rattle.hx_safe.proofs.Ends.{same-self}
+use Rattle.hx_scripted.proofs.Standing.{Last}
 use Rattle.hx_agreed.proofs.DoingTurns.{Stands, keeps_step}
 use Rattle.hx_settled.proofs.Settling.{settled_board}
 use Rattle.hx_bounded.specs.Ending.{IfGoesOn}
@@ -147,7 +148,7 @@ told_both b c d (Some (ends.Sent n)) None f g = tt
 told_both b c d (Some (ends.Waiting n)) None f g = tt
 told_both b c d (Some (ends.Moved from to)) None f g = tt
 
-module _ (spec : Spec) (valid : IsValid spec) (last : Option ℕ) (k : ControllerId) where
+module _ (spec : Spec) (valid : IsValid spec) (last : Last) (k : ControllerId) where
   -- the leader's controller
   abbrev own : State → Controller
   own x = controller_of x.world k
@@ -172,7 +173,7 @@ module _ (spec : Spec) (valid : IsValid spec) (last : Option ℕ) (k : Controlle
   settled_there : (s : State) → Stands spec last s → (e : Event) (r : Report) → step_of spec s.world.cluster (own s) ≡ Calls e (Some (ends.Settled r)) → IsExplained (next s.world.cluster e) r
   settled_there s st e r is =
       subst (λ (c : Cluster). step_of spec c (own s) ≡ Calls e (Some (ends.Settled r)) → IsExplained (next c e) r) (sym st.scripted.of.cluster)
-      (λ at. (settled_board spec s.world.history (own s) e r valid st.scripted.of.lawful.0 (st.scripted.of.turns k).of_board at).1) is
+      (λ at. (settled_board spec s.world.history (own s) e r valid st.scripted.of.legal (st.scripted.of.turns k).of_board at).1) is
 
   -- a step
   record IsStepped (left : List Call) (s : State) (o : Option PassOutcome) (y : State) : Type 0 where
@@ -320,7 +321,7 @@ module _ (spec : Spec) (valid : IsValid spec) (last : Option ℕ) (k : Controlle
       one : ((own s).turn ≡ idle_turn) ⊎ ((own s).turn ≡ turn_of spec (own s).id s.world.history) → is_in_order (own s).turn.left ≡ true
       one (inl idle) = ap (λ (u : Turn). is_in_order u.left) idle
       one (inr told) =
-          ap (λ (u : Turn). is_in_order u.left) told ∙ (turn_law spec valid s.world.history st.scripted.of.lawful.0 (own s).id).order
+          ap (λ (u : Turn). is_in_order u.left) told ∙ (turn_law spec valid s.world.history st.scripted.of.legal (own s).id).order
 
   not_led_next : (call : Call) (rest : List Call) → is_in_order (call ∷ rest) ≡ true → is_led rest ≡ false
   not_led_next call [] e = refl

@@ -1,5 +1,5 @@
 -- What holds of a world stays as messages are taken, written and acknowledged.
-use Rattle.std.proofs.Common.{◌≡◌, ℕ, ◌<◌, not, Bool, true, false, List, length, Option, refl, sym, ap, ◌∙◌, subst, arith}
+use Rattle.std.proofs.Common.{◌≡◌, ◌<◌, not, Bool, true, false, List, length, refl, sym, ap, ◌∙◌, subst, arith}
 use Rattle.std.specs.Prelude.{if◌then◌else◌}
 use Rattle.std.specs.List.{list_any}
 use Rattle.hx_ids.specs.declared.InstanceId.{InstanceId}
@@ -15,6 +15,7 @@ use Rattle.hx_worlds.specs.declared.Voice.TheVariants.{Quiet}
 use Rattle.hx_worlds.specs.World.{World, State, Job, participant_of}
 use Rattle.hx_worlds.specs.Jobs as Jobs
 use Rattle.hx_safe.proofs.Kept.{IsKept}
+use Rattle.hx_scripted.proofs.Standing.{Last}
 use Rattle.hx_agreed.specs.InStep.{Each, IsHeldJob}
 use Rattle.hx_agreed.proofs.Lists.{each-append, each-map, each-filter}
 use Rattle.hx_agreed.proofs.Going.{whole_there, each-find}
@@ -26,7 +27,7 @@ use Rattle.hx_bounded.proofs.Rounds.{safe_there, ranged_there}
 use Rattle.hx_bounded.proofs.Ends
 use Rattle.hx_bounded.proofs.Carrying.{IsClosed, OfLive, IsWorking, write_live, live_written, can_live, IsCarried, write_carries, ack_carries, carried_both}
 
-module _ (spec : Spec) (valid : IsValid spec) (last : Option ℕ) (P : Cluster → Type 0) (H : Job → Type 0) (closed : IsClosed P H) (live : List Live) (ks : List Controller) where
+module _ (spec : Spec) (valid : IsValid spec) (last : Last) (P : Cluster → Type 0) (H : Job → Type 0) (closed : IsClosed P H) (live : List Live) (ks : List Controller) where
   works_same : (w v : World) → v ≡ w → IsWorking P H live ks w → IsWorking P H live ks v
   works_same w v same k = subst (IsWorking P H live ks) (sym same) k
 

@@ -17,6 +17,7 @@ use Rattle.hx_print.specs.declared.Note.TheVariants as notes
 use Rattle.hx_text.specs.Texts.{PutsFront}
 use Rattle.hx_board.specs.Board.{Held, HasHistory, happened as on_board}
 use Rattle.hx_replicas.specs.Jobs.{ParticipantState}
+use Rattle.hx_scripted.proofs.Standing.{since}
 use Rattle.hx_agreed.proofs.Operations.{write_keeps, ack_keeps}
 use Rattle.hx_worlds.specs.World.{Answers}
 use Rattle.hx_worlds.specs.declared.Voice.{Voice}
@@ -82,7 +83,7 @@ module _ {s : SceneState} {i : InstanceId} {id : MsgId} {n : ℕ} {j : OpenState
 
   pub write_ended_scene : (fault : WriteRefusal) → j.is_written ≡ false → write_refusal s.board.cluster j.ran.message.session j.ran.message.id ≡ Some fault → IsScene (ended_scene s s.board later after)
   write_ended_scene fault unwritten full =
-      let kept = kept_going {spec = s.spec} (write_reaches Quiet fault [] unwritten full) h.scene.of_history h.scene.in_step (λ a st. write_keeps s.spec (valid_in s h.scene) s.board.cluster.line Quiet i id (at s a) st) in
+      let kept = kept_going {spec = s.spec} (write_reaches Quiet fault [] unwritten full) h.scene.of_history h.scene.in_step (λ a st. write_keeps s.spec (valid_in s h.scene) (since s.board.cluster.line) Quiet i id (at s a) st) in
       record { own = h.scene.own; history = h.scene.history; of_history = kept.0; in_step = kept.1; listed = listed_ended }
 
   -- it is acknowledged
@@ -121,7 +122,7 @@ module _ {s : SceneState} {i : InstanceId} {id : MsgId} {n : ℕ} {j : OpenState
       → IsScene (ended_scene s (on_board s.board event) later after)
   ack_scene written free history =
       let kept = kept_going {spec = s.spec} (ack_ends Quiet written free [] (entry_text s.spec s.board.cluster event) refl) h.scene.of_history h.scene.in_step
-      (λ a st. ack_keeps s.spec (valid_in s h.scene) s.board.cluster.line Quiet i id (at s a) st) in
+      (λ a st. ack_keeps s.spec (valid_in s h.scene) (since s.board.cluster.line) Quiet i id (at s a) st) in
       record { own = h.scene.own; history = history; of_history = kept.0; in_step = kept.1; listed = listed_ended }
 
   -- or its session ended before
@@ -133,7 +134,7 @@ module _ {s : SceneState} {i : InstanceId} {id : MsgId} {n : ℕ} {j : OpenState
 
   pub ack_ended_scene : (fault : AckFault) → j.is_written ≡ true → ack_refusal s.board.cluster j.ran.message.session j.ran.message.id ≡ Some fault → IsScene (ended_scene s s.board later after)
   ack_ended_scene fault written full =
-      let kept = kept_going {spec = s.spec} (ack_reaches Quiet fault [] written full) h.scene.of_history h.scene.in_step (λ a st. ack_keeps s.spec (valid_in s h.scene) s.board.cluster.line Quiet i id (at s a) st) in
+      let kept = kept_going {spec = s.spec} (ack_reaches Quiet fault [] written full) h.scene.of_history h.scene.in_step (λ a st. ack_keeps s.spec (valid_in s h.scene) (since s.board.cluster.line) Quiet i id (at s a) st) in
       record { own = h.scene.own; history = h.scene.history; of_history = kept.0; in_step = kept.1; listed = listed_ended }
 
 -- it isn't written

@@ -22,6 +22,7 @@ use Rattle.hx_replicas.specs.Jobs.{ParticipantState, runs_of}
 use Rattle.hx_replicas.proofs.Searching.{found-in, found-first, found-none, find-map}
 use Rattle.hx_worlds.specs.World.{State, Job, Missing, participant_of}
 use Rattle.hx_worlds.specs.Jobs.{is_job, is_job_of, job_before, end_job, end_jobs, jobs_of, adopted}
+use Rattle.hx_scripted.proofs.Standing.{since}
 use Rattle.hx_agreed.specs.InStep.{of_instance}
 use Rattle.hx_safe.proofs.Ideals.{length-put}
 use Rattle.hx_agreed.proofs.Changes.{instance_same}
@@ -71,7 +72,7 @@ pub ending_first : (jobs : List OpenState) (staff : List ParticipantState) → A
 ending_first jobs staff of =
     let s = of.scene in
     subst (λ (js : List OpenState). AreEnding js staff) of.has_jobs (subst (λ (ps : List ParticipantState). AreEnding s.jobs ps) of.has_staff (record {
-      out = out_there s.spec (valid_in s of.is) s.board.cluster.line (at s Missing) (stands_in s of.is Missing);
+      out = out_there s.spec (valid_in s of.is) (since s.board.cluster.line) (at s Missing) (stands_in s of.is Missing);
       listed = of.is.listed;
     }))
 
@@ -264,7 +265,7 @@ module _ {i : InstanceId} {first jobs : List OpenState} {before staff : List Par
 
   pub rests : any_out p.plain ≡ false
   rests =
-      let none = ended_none_out of.scene.spec (valid_in of.scene of.is) of.scene.board.cluster.line i (at of.scene Missing) (stands_in of.scene of.is Missing) has_it in
+      let none = ended_none_out of.scene.spec (valid_in of.scene of.is) (since of.scene.board.cluster.line) i (at of.scene Missing) (stands_in of.scene of.is Missing) has_it in
       let same : end_jobs (jobs_of i (at of.scene Missing)) (at of.scene Missing) ≡ with_parts jobs staff (at of.scene Missing) =
       ap (λ (x : State). end_jobs (jobs_of i x) x) (sym scene_is) ∙ all (at of.scene Missing) in
       subst (λ (w : Participant). any_out w ≡ false) plain_is (subst (λ (x : State). any_out (participant_of x.world i) ≡ false) same none)

@@ -11,10 +11,11 @@ use Rattle.hx_worlds.specs.Runs.{gives}
 use Rattle.hx_safe.proofs.Ends.{same-self}
 use Rattle.hx_scripted.proofs.Keeping.{Keeps}
 use Rattle.hx_scripted.proofs.Stepping.{IsNext, next_there, call_there, plan_there, fault_there}
+use Rattle.hx_scripted.proofs.Standing.{Last}
 use Rattle.hx_agreed.proofs.Going.{IsGoing, happens_then, own_of_board, board_happens}
 use Rattle.hx_scene.specs.Advances.{advanced, advance}
 
-module _ (spec : Spec) (valid : IsValid spec) (last : Option ℕ) where
+module _ (spec : Spec) (valid : IsValid spec) (last : Last) where
   advance_made : (k : Controller) (step : Step) (x : State) → IsGoing spec last x → IsNext spec x.world k step → Keeps (IsGoing spec last) (advanced k step x)
   advance_made k (Calls e o) x s n =
       happens_then (IsGoing spec last) e x (λ y. gives (with_controller (after_step x.world.cluster k (Calls e o)) y) (Ok o)) s

@@ -31,7 +31,7 @@ scene_charged s n room is = record {
   };
   of_history = record {
     given = is.of_history.given;
-    lawful = is.of_history.lawful;
+    legal = is.of_history.legal;
     cluster = is.of_history.cluster;
     controllers = is.of_history.controllers;
     turns = is.of_history.turns;

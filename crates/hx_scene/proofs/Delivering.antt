@@ -14,7 +14,7 @@ use Rattle.hx_print.specs.Texts.{accept_text}
 use Rattle.hx_board.specs.declared.faults.RoomFault.{RoomFault}
 use Rattle.hx_board.specs.declared.faults.RoomFault.TheVariants as rooms
 use Rattle.hx_replicas.specs.declared.DeliverFault.{DeliverFault}
-use Rattle.hx_replicas.specs.Participants.{Participant, Slot, slot_of, slot_in, Fits, deliver_fault, accept, accepted}
+use Rattle.hx_replicas.specs.Participants.{Participant, Slot, slot_of, slot_in, Fits, deliver_fault, accept, accepted, is_session}
 use Rattle.hx_replicas.specs.Jobs.{ParticipantState}
 use Rattle.hx_worlds.specs.World.{Answers, Missing, State, participant_of, with_participant}
 use Rattle.hx_worlds.specs.declared.Voice.{Voice}
@@ -22,6 +22,7 @@ use Rattle.hx_worlds.specs.declared.Voice.TheVariants.{Quiet}
 use Rattle.hx_worlds.specs.Runs.{Deed, note, say_if_loud}
 use Rattle.hx_worlds.specs.Jobs.{deliver, delivered, note_of}
 use Rattle.hx_scripted.proofs.Keeping.{Keeps as Leaves}
+use Rattle.hx_scripted.proofs.Standing.{since}
 use Rattle.hx_agreed.proofs.DoingTurns.{Stands}
 use Rattle.hx_agreed.proofs.Operations.{fits, deliver_keeps}
 use Rattle.hx_scene.specs.Scenes.{SceneState, IsBagged, at, world_of, lists_of}
@@ -52,7 +53,7 @@ at_same s i p q is plain a =
 lists_same : (s : SceneState) (i : InstanceId) (p q : ParticipantState) → IsIn s i p q → lists_of (put_staff s i q) ≡ lists_of s
 lists_same s i p q is = map-set_same (λ (p : ParticipantState). p.listed) s.staff i.0 q p (is.listed ∙ ap (λ (p : ParticipantState). p.listed) is.was)
 
-scene_put : (s : SceneState) (i : InstanceId) (p q : ParticipantState) → IsIn s i p q → IsScene s → Stands s.spec s.board.cluster.line (at (put_staff s i q) Missing) → IsScene (put_staff s i q)
+scene_put : (s : SceneState) (i : InstanceId) (p q : ParticipantState) → IsIn s i p q → IsScene s → Stands s.spec (since s.board.cluster.line) (at (put_staff s i q) Missing) → IsScene (put_staff s i q)
 scene_put s i p q is scene stands = record {
   own = scene.own;
   history = scene.history;
@@ -101,16 +102,19 @@ below_accepted p q m made plain most b = record {
 -- only its room changed
 pub same_scene : {s : SceneState} (i : InstanceId) (p q : ParticipantState) → IsIn s i p q → q.plain ≡ p.plain → IsScene s → IsScene (put_staff s i q)
 same_scene {s} i p q is plain scene =
-    scene_put s i p q is scene (subst (λ (x : State). Stands s.spec s.board.cluster.line x) (sym (at_same s i p q is plain Missing)) (stands_in s scene Missing))
+    scene_put s i p q is scene (subst (λ (x : State). Stands s.spec (since s.board.cluster.line) x) (sym (at_same s i p q is plain Missing)) (stands_in s scene Missing))
 
 pub same_reaches : {s : SceneState} (f : State → Deed) (i : InstanceId) (p q : ParticipantState) (page : List ℕ) → IsIn s i p q → q.plain ≡ p.plain → Reaches f s page f (put_staff s i q) page
 same_reaches {s} f i p q page is plain =
     one_step f f s page (put_staff s i q) [] (λ a given. ap f (sym (at_same s i p q is plain a))) refl refl (keeps_put s i p q is (below_same p q is.made plain))
 
 -- a message fits
-pub fits_it : {s : SceneState} (i : InstanceId) (m : Message) (p : ParticipantState) → i.0 < length s.staff → p ≡ slice_index_or s.staff i.0 p → IsScene s → IsBagged s.bag m → Fits p.plain m
-fits_it {s} i m p range was scene bagged =
-    subst (λ (w : Participant). Fits w m) (participant_is s.staff i p range was) (fits s.spec (valid_in s scene) s.board.cluster.line i m (at s Missing) (stands_in s scene Missing) bagged)
+pub fits_it : {s : SceneState} (i : InstanceId) (m : Message) (p : ParticipantState) → i.0 < length s.staff → p ≡ slice_index_or s.staff i.0 p → IsScene s → IsBagged s.bag m
+    → is_session p.plain.session m.session ≡ true → Fits p.plain m
+fits_it {s} i m p range was scene bagged mine =
+    subst (λ (w : Participant). Fits w m) (participant_is s.staff i p range was)
+    (fits s.spec (valid_in s scene) (since s.board.cluster.line) i m (at s Missing) (stands_in s scene Missing) bagged
+    (subst (λ (w : Participant). is_session w.session m.session ≡ true) (sym (participant_is s.staff i p range was)) mine))
 
 -- it was accepted
 module _ {s : SceneState} (v : Voice) (i : InstanceId) (m : Message) (p q : ParticipantState) (is : IsIn s i p q) (plain : q.plain ≡ accept p.plain m) (free : deliver_fault p.plain m ≡ None) where
@@ -129,9 +133,9 @@ module _ {s : SceneState} (v : Voice) (i : InstanceId) (m : Message) (p q : Part
 
   pub accepted_scene : IsScene s → IsBagged s.bag m → IsScene (put_staff s i q)
   accepted_scene scene bagged =
-      let kept : Leaves (Stands s.spec s.board.cluster.line) (deliver Quiet i m (at s Missing)) = deliver_keeps s.spec (valid_in s scene) s.board.cluster.line Quiet i m (at s Missing) (stands_in s scene Missing) bagged in
-      let left : Leaves (Stands s.spec s.board.cluster.line) (delivered Quiet i m None (at s Missing)) = subst (λ o. Leaves (Stands s.spec s.board.cluster.line) (delivered Quiet i m o (at s Missing))) free_there kept in
-      scene_put s i p q is scene (subst (λ (x : State). Stands s.spec s.board.cluster.line x) (at_accepted Missing) left.left)
+      let kept : Leaves (Stands s.spec (since s.board.cluster.line)) (deliver Quiet i m (at s Missing)) = deliver_keeps s.spec (valid_in s scene) (since s.board.cluster.line) Quiet i m (at s Missing) (stands_in s scene Missing) bagged in
+      let left : Leaves (Stands s.spec (since s.board.cluster.line)) (delivered Quiet i m None (at s Missing)) = subst (λ o. Leaves (Stands s.spec (since s.board.cluster.line)) (delivered Quiet i m o (at s Missing))) free_there kept in
+      scene_put s i p q is scene (subst (λ (x : State). Stands s.spec (since s.board.cluster.line) x) (at_accepted Missing) left.left)
 
 -- it was refused
 pub refused_reaches : {s : SceneState} (v : Voice) (i : InstanceId) (m : Message) (p q : ParticipantState) (fault : DeliverFault) (page : List ℕ) → IsIn s i p q → q.plain ≡ p.plain → deliver_fault p.plain m ≡ Some fault

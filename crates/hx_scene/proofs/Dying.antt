@@ -24,6 +24,7 @@ use Rattle.hx_worlds.specs.declared.Voice.{Voice}
 use Rattle.hx_worlds.specs.Jobs.{adopt_in}
 use Rattle.hx_worlds.specs.Runs.{and_then, done, note}
 use Rattle.hx_worlds.specs.Scripts.{died, do_die}
+use Rattle.hx_scripted.proofs.Standing.{since}
 use Rattle.hx_agreed.proofs.Operations.{die_keeps}
 use Rattle.hx_scene.specs.Scenes.{SceneState, OpenState, at, lists_of}
 use Rattle.hx_scene.specs.Kept.{IsScene, IsListed}
@@ -62,7 +63,7 @@ pub scene_died : {s : SceneState} (v : Voice) (i : InstanceId) (b : Held) (later
     → step_refusal s.board (steps.End i) ≡ None → b ≡ on_board s.board (ended i) → Adopts i None s.jobs later s.staff after → KeepsParts s.jobs later s.staff after
     → IsScene (record s { board = b; jobs = later; staff = after })
 scene_died {s} v i b later after is history has free made adopts kept =
-    let there = kept_going (died_ends v i s b later after free made adopts kept) is.of_history is.in_step (λ a going. die_keeps s.spec (valid_in s is) s.board.cluster.line v i (at s a) going has) in
+    let there = kept_going (died_ends v i s b later after free made adopts kept) is.of_history is.in_step (λ a going. die_keeps s.spec (valid_in s is) (since s.board.cluster.line) v i (at s a) going has) in
     record {
       own = ap (λ d. d.spec) made ∙ is.own;
       history = history;

@@ -25,6 +25,7 @@ use Rattle.hx_worlds.specs.World.{State, Answers, Answered, Missing}
 use Rattle.hx_worlds.specs.Runs.{done, and_then, make, happened}
 use Rattle.hx_worlds.specs.Jobs.{do_fetch, fetched_as, bagged, put_in_bag, put_all}
 use Rattle.hx_scripted.proofs.Keeping.{Keeps as Leaves}
+use Rattle.hx_scripted.proofs.Standing.{since}
 use Rattle.hx_agreed.specs.InStep.{Each}
 use Rattle.hx_agreed.proofs.Lists.{each-all}
 use Rattle.hx_agreed.proofs.Frames.{one_number}
@@ -71,8 +72,8 @@ module _ (s : SceneState) (i : InstanceId) (b : Held) (made : b ≡ on_board s.b
 
   scene_of_event : IsScene s → has_instance s.board.cluster i ≡ true → HasHistory b → IsScene (record s { board = b })
   scene_of_event is there history =
-      scene_happened b (fetch_event s i) s.board.cluster.line is history made
-      (fetch_stands s.spec (valid_in s is) s.board.cluster.line i (at s (Answered [])) (stands_in s is (Answered [])) there (room_is s.board.limit (weight_at s.board + 1) room))
+      scene_happened b (fetch_event s i) (since s.board.cluster.line) is history made
+      (fetch_stands s.spec (valid_in s is) (since s.board.cluster.line) i (at s (Answered [])) (stands_in s is (Answered [])) there (room_is s.board.limit (weight_at s.board + 1) room))
 
   pub event_scene : (bag : List Message) → bag ≡ s.bag → IsScene s → has_instance s.board.cluster i ≡ true → HasHistory b → IsScene (record s { board = b; bag = bag })
   event_scene bag same is there history = subst (λ (ms : List Message). IsScene (record s { board = b; bag = ms })) (sym same) (scene_of_event is there history)
@@ -111,12 +112,12 @@ module _ (s : SceneState) (i : InstanceId) (b : Held) (made : b ≡ on_board s.b
 
     pub is_fetched_scene : IsScene s → has_instance s.board.cluster i ≡ true → HasHistory b → IsScene fetched_scene
     is_fetched_scene is there history =
-        let left : Leaves (Stands s.spec s.board.cluster.line) (do_fetch i (at s Missing)) = fetch_keeps s.spec (valid_in s is) s.board.cluster.line i (at s Missing) (stands_in s is Missing) there in
-        let made_left : Leaves (Stands s.spec s.board.cluster.line) (and_then (make (fetch_event s i) (at s Missing)) (λ y. done (fetched_as i (fetched s.board.cluster i) y))) =
-        subst (λ r. Leaves (Stands s.spec s.board.cluster.line) (and_then r (λ y. done (fetched_as i (fetched s.board.cluster i) y)))) (made_here (fetch_event s i) (at s Missing) room) left in
+        let left : Leaves (Stands s.spec (since s.board.cluster.line)) (do_fetch i (at s Missing)) = fetch_keeps s.spec (valid_in s is) (since s.board.cluster.line) i (at s Missing) (stands_in s is Missing) there in
+        let made_left : Leaves (Stands s.spec (since s.board.cluster.line)) (and_then (make (fetch_event s i) (at s Missing)) (λ y. done (fetched_as i (fetched s.board.cluster i) y))) =
+        subst (λ r. Leaves (Stands s.spec (since s.board.cluster.line)) (and_then r (λ y. done (fetched_as i (fetched s.board.cluster i) y)))) (made_here (fetch_event s i) (at s Missing) room) left in
         let happens : happened (fetch_event s i) (at s Missing) ≡ at (record s { board = on_board s.board (fetch_event s i) }) Missing = at_happened (fetch_event s i) s (record s { board = on_board s.board (fetch_event s i) }) Missing refl in
-        let stands : Stands s.spec s.board.cluster.line (at fetched_scene Missing) =
-        subst (λ (x : State). Stands s.spec s.board.cluster.line x) (ap (λ (x : State). fetched_as i (fetched s.board.cluster i) x) happens ∙ at_fetched Missing) made_left.left in
+        let stands : Stands s.spec (since s.board.cluster.line) (at fetched_scene Missing) =
+        subst (λ (x : State). Stands s.spec (since s.board.cluster.line) x) (ap (λ (x : State). fetched_as i (fetched s.board.cluster i) x) happens ∙ at_fetched Missing) made_left.left in
         record {
           own = ap (λ (c : Held). c.spec) made ∙ is.own;
           history = history;
@@ -182,7 +183,7 @@ module _ (c : Cluster) (P : Message → Type 0) (alike : (m n : Message) → P m
 all_bagged : (s : SceneState) → IsScene s → (i : InstanceId) (bag : List Message) → bag ≡ put_all s.bag (fetched s.board.cluster i).messages → All (IsBagged bag) (fetched s.board.cluster i).messages
 all_bagged s is i bag put =
     let c = s.board.cluster in
-    let k = kept_now s.spec (valid_in s is) s.board.cluster.line (at s Missing) (stands_in s is Missing) in
+    let k = kept_now s.spec (valid_in s is) (since s.board.cluster.line) (at s Missing) (stands_in s is Missing) in
     subst (λ (xs : List Message). All (IsBagged xs) (fetched s.board.cluster i).messages) (sym put)
     (each-all (IsBagged (put_all s.bag (fetched s.board.cluster i).messages)) (fetched s.board.cluster i).messages
     (each_one c (λ m. message_of c.mail m.session m.part ≡ Some m) (λ m n a b e. one_number c k m.session n.session m.part n.part m n a b e) (fetched s.board.cluster i).messages (mail_found c k (session_of c i)) s.bag))

@@ -30,6 +30,7 @@ use Rattle.hx_worlds.specs.declared.Voice.{Voice}
 use Rattle.hx_worlds.specs.Runs.{Run, Deed, Stops, state_of, happened, make, happen, note}
 use Rattle.hx_worlds.specs.Scripts.{stepped, do_step}
 use Rattle.hx_scripted.proofs.Keeping.{Keeps as Leaves}
+use Rattle.hx_scripted.proofs.Standing.{Last, since}
 use Rattle.hx_agreed.proofs.DoingTurns.{Stands}
 use Rattle.hx_agreed.proofs.Operations.{stands_there, line_stands, step_keeps}
 use Rattle.hx_scene.specs.Scenes.{SceneState, at}
@@ -55,13 +56,13 @@ prints_last {T} {E} {p} {q} {result} roll z x es h e spec is found same printed 
     subst (λ y. Prints (event_text spec roll y) p result q) (last_is es h e x is found) (subst (λ y. Prints (event_text y roll x) p result q) same printed)
 
 -- a scene stands, and is one after an event after which it stands
-pub scene_stands : {s : SceneState} (a : Answers) → IsScene s → Stands s.spec s.board.cluster.line (at s a)
+pub scene_stands : {s : SceneState} (a : Answers) → IsScene s → Stands s.spec (since s.board.cluster.line) (at s a)
 scene_stands {s} a is = stands_there s.spec (at s a) is.of_history is.in_step
 
 pub scene_valid : {s : SceneState} → IsScene s → IsValid s.spec
 scene_valid is = subst IsValid is.own is.history.valid
 
-pub scene_happened : {s : SceneState} (b : Held) (e : Event) (last : Option ℕ) → IsScene s → HasHistory b → b ≡ on_board s.board e → Stands s.spec last (happened e (at s (Answered [])))
+pub scene_happened : {s : SceneState} (b : Held) (e : Event) (last : Last) → IsScene s → HasHistory b → b ≡ on_board s.board e → Stands s.spec last (happened e (at s (Answered [])))
     → IsScene (record s { board = b })
 scene_happened {s} b e last is history made stands =
     let there : Stands s.spec last (at (record s { board = b }) (Answered [])) =
@@ -152,8 +153,8 @@ pub scene_of_line : {s : SceneState} (b : Held) (n : ℕ) → IsScene s → HasH
     → b ≡ line_taken s.board (next_line_of s.board) → IsScene (record s { board = b })
 scene_of_line {s} b n is history next later free taken =
     let e = events.Line n in
-    scene_happened b e (Some n) is history (line_is s.board b n next taken)
-    (line_stands s.spec (scene_valid is) s.board.cluster.line n (at s (Answered [])) (scene_stands (Answered []) is) later
+    scene_happened b e (since (Some n)) is history (line_is s.board b n next taken)
+    (line_stands s.spec (scene_valid is) (since s.board.cluster.line) n (at s (Answered [])) (scene_stands (Answered []) is) later
     (room_is s.board.limit (weight_at s.board + 1) (room_of s.board 1 rooms.HistoryFull (sym (line_room s.board n next) ∙ free))))
 
 -- a step of the cluster
@@ -224,9 +225,9 @@ step_front {R} {T} {E} {roll} v step s b p q fault result free made is printed f
 pub scene_of_step : {s : SceneState} (b : Held) (v : Voice) (step : Admin) → IsScene s → HasHistory b → is_in_range s.board.cluster step ≡ true → step_refusal s.board step ≡ None
     → b ≡ on_board s.board (events.Admin step (did_of s.board.cluster step)) → IsScene (record s { board = b })
 scene_of_step {s} b v step is history well free made =
-    scene_happened b (events.Admin step (did_of s.board.cluster step)) s.board.cluster.line is history made
-    (subst (Stands s.spec s.board.cluster.line) (ap state_of (step_made s v step (Answered []) free))
-    (step_keeps s.spec (scene_valid is) s.board.cluster.line v step (at s (Answered [])) (scene_stands (Answered []) is) well).left)
+    scene_happened b (events.Admin step (did_of s.board.cluster step)) (since s.board.cluster.line) is history made
+    (subst (Stands s.spec (since s.board.cluster.line)) (ap state_of (step_made s v step (Answered []) free))
+    (step_keeps s.spec (scene_valid is) (since s.board.cluster.line) v step (at s (Answered [])) (scene_stands (Answered []) is) well).left)
 
 pub step_noted : {R : Type 0} (v : Voice) (step : Admin) (fault : StepFault) (s u : SceneState) (b : Held) (p q : List ℕ) (result : Result R RoomFault)
     → (boards.Step fault ≡ boards.OutOfMemory) ⊎ (step_refusal s.board step ≡ Some (boards.Step fault)) → b ≡ s.board

@@ -6,6 +6,7 @@ pub mod Happening
 pub mod Turning
 pub mod Dying
 pub mod Standing
+pub mod OfParts
 pub mod Ending
 pub mod Bags
 pub mod Numbers

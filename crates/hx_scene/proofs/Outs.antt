@@ -18,6 +18,7 @@ use Rattle.hx_safe.proofs.Counting.{and-first, and-second, and-both, any-append,
 use Rattle.hx_safe.proofs.Ends.{same-self, find-filter_kept}
 use Rattle.hx_safe.proofs.Ideals.{length-put}
 use Rattle.hx_covers.proofs.Sorting.{count-sort}
+use Rattle.hx_scripted.proofs.Standing.{Last}
 use Rattle.hx_agreed.specs.InStep.{Each, of_instance, IsHeldJob}
 use Rattle.hx_agreed.proofs.Lists.{each-le, each-filter, in_range}
 use Rattle.hx_agreed.proofs.Slots.{all_slots}
@@ -57,7 +58,7 @@ out_in_range ws j out = one (in_range ws j.instance.0)
         let idle : (slot_of new_participant j.message.part).work ≡ Out j.message (is_some j.handler) = subst (λ (w : Participant). (slot_of w j.message.part).work ≡ Out j.message (is_some j.handler)) new out in
         absurd (let z : false ≡ true = ap is_out idle in (cc))
 
-pub out_there : (spec : Spec) (valid : IsValid spec) (last : Option ℕ) (x : State) → Stands spec last x → AreOut x.world.participants x.world.jobs
+pub out_there : (spec : Spec) (valid : IsValid spec) (last : Last) (x : State) → Stands spec last x → AreOut x.world.participants x.world.jobs
 out_there spec valid last x s =
     let out = jobs_out spec valid last x s in
     record {

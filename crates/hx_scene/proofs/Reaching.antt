@@ -24,6 +24,7 @@ use Rattle.hx_worlds.specs.Brings.{Past, past_of, Brings}
 use Rattle.hx_worlds.proofs.Brought.{brings_nothing, brings_both, brings_event}
 use Rattle.hx_scripted.specs.OfHistory.{IsOfItsHistory}
 use Rattle.hx_scripted.proofs.Keeping.{Keeps as Leaves}
+use Rattle.hx_scripted.proofs.Standing.{since, scripted_since}
 use Rattle.hx_agreed.specs.InStep.{IsInStep}
 use Rattle.hx_agreed.proofs.Going.{IsGoing}
 use Rattle.hx_scene.specs.Scenes.{SceneState, at, world_of, lists_of}
@@ -756,24 +757,24 @@ does_keep f answer s p u q (Err (rooms.HistoryFull weight)) e I keep rest memory
 does_keep f answer s p u q (Err rooms.OutOfMemory) e I keep rest memory = memory refl
 
 -- so a world stays of its history, and in step
-pub going_at : {spec : Spec} (s : SceneState) → IsOfItsHistory spec (world_of s) → IsInStep (world_of s) → (a : Answers) → IsGoing spec s.board.cluster.line (at s a)
-going_at s of in_step a = record { scripted = record { of = of; line = refl }; in_step = in_step }
+pub going_at : {spec : Spec} (s : SceneState) → IsOfItsHistory spec (world_of s) → IsInStep (world_of s) → (a : Answers) → IsGoing spec (since s.board.cluster.line) (at s a)
+going_at {spec = spec} s of in_step a = record { scripted = scripted_since spec (world_of s) of; in_step = in_step }
 
 pub kept_going : {A : Type 0} {f : State → Run A} {s u : SceneState} {p q : List ℕ} {answer : A} {spec : Spec} → Ends f s p answer u q → IsOfItsHistory spec (world_of s) → IsInStep (world_of s)
-    → ((a : Answers) → IsGoing spec s.board.cluster.line (at s a) → Leaves (IsGoing spec s.board.cluster.line) (f (at s a))) → IsOfItsHistory spec (world_of u) × IsInStep (world_of u)
+    → ((a : Answers) → IsGoing spec (since s.board.cluster.line) (at s a) → Leaves (IsGoing spec (since s.board.cluster.line)) (f (at s a))) → IsOfItsHistory spec (world_of u) × IsInStep (world_of u)
 kept_going {A} {f} {s} {u} {p} {q} {answer} {spec} e of in_step keep =
-    let going : IsGoing spec s.board.cluster.line (at u (Answered [])) = kept e (IsGoing spec s.board.cluster.line) (λ a. keep a (going_at s of in_step a)) [] in
+    let going : IsGoing spec (since s.board.cluster.line) (at u (Answered [])) = kept e (IsGoing spec (since s.board.cluster.line)) (λ a. keep a (going_at s of in_step a)) [] in
     (going.scripted.of, going.in_step)
 
 pub kept_going_stopped : {A : Type 0} {f : State → Run A} {s u : SceneState} {p q : List ℕ} {spec : Spec} → StopsHere f s p u q → IsOfItsHistory spec (world_of s) → IsInStep (world_of s)
-    → ((a : Answers) → IsGoing spec s.board.cluster.line (at s a) → Leaves (IsGoing spec s.board.cluster.line) (f (at s a))) → IsOfItsHistory spec (world_of u) × IsInStep (world_of u)
+    → ((a : Answers) → IsGoing spec (since s.board.cluster.line) (at s a) → Leaves (IsGoing spec (since s.board.cluster.line)) (f (at s a))) → IsOfItsHistory spec (world_of u) × IsInStep (world_of u)
 kept_going_stopped {A} {f} {s} {u} {p} {q} {spec} e of in_step keep =
-    let going : IsGoing spec s.board.cluster.line (at u (Answered [])) = kept_stopped e (IsGoing spec s.board.cluster.line) (λ a. keep a (going_at s of in_step a)) [] in
+    let going : IsGoing spec (since s.board.cluster.line) (at u (Answered [])) = kept_stopped e (IsGoing spec (since s.board.cluster.line)) (λ a. keep a (going_at s of in_step a)) [] in
     (going.scripted.of, going.in_step)
 
 pub does_keep_going : {A R : Type 0} {spec : Spec} (f : State → Run A) (answer : R → A) (s : SceneState) (p : List ℕ) (u : SceneState) (q : List ℕ) (result : Result R RoomFault)
     → Does f answer s p u q result → IsOfItsHistory spec (world_of s) → IsInStep (world_of s)
-    → ((a : Answers) → IsGoing spec s.board.cluster.line (at s a) → Leaves (IsGoing spec s.board.cluster.line) (f (at s a)))
+    → ((a : Answers) → IsGoing spec (since s.board.cluster.line) (at s a) → Leaves (IsGoing spec (since s.board.cluster.line)) (f (at s a)))
     → (result ≡ Err rooms.OutOfMemory → IsOfItsHistory spec (world_of u) × IsInStep (world_of u)) → IsOfItsHistory spec (world_of u) × IsInStep (world_of u)
 does_keep_going f answer s p u q (Ok x) e of in_step keep memory = kept_going e of in_step keep
 does_keep_going f answer s p u q (Err (rooms.HistoryFull weight)) e of in_step keep memory = kept_going_stopped e.0 of in_step keep

@@ -14,7 +14,7 @@ use Rattle.hx_replicas.specs.Jobs.{ParticipantState}
 use Rattle.hx_worlds.specs.World.{Answers, Missing, Job, participant_of}
 use Rattle.hx_worlds.specs.Jobs.{is_job_of}
 use Rattle.hx_safe.proofs.Whole.{length-replicate}
-use Rattle.hx_scripted.proofs.Standing.{fixed_there}
+use Rattle.hx_scripted.proofs.Standing.{since, fixed_there}
 use Rattle.hx_agreed.proofs.DoingTurns.{Stands}
 use Rattle.hx_agreed.proofs.Operations.{stands_there, instance_there, controller_there, no_job_none_out}
 use Rattle.hx_scene.specs.Scenes.{SceneState, at, world_of, plain_job}
@@ -24,22 +24,22 @@ use Rattle.hx_scene.specs.Ending.{IsAtRest, plain_staff}
 pub valid_in : (s : SceneState) → IsScene s → IsValid s.spec
 valid_in s is = subst IsValid is.own is.history.valid
 
-pub stands_in : (s : SceneState) → IsScene s → (a : Answers) → Stands s.spec s.board.cluster.line (at s a)
+pub stands_in : (s : SceneState) → IsScene s → (a : Answers) → Stands s.spec (since s.board.cluster.line) (at s a)
 stands_in s is a = stands_there s.spec (at s a) is.of_history is.in_step
 
 pub has_staff : (s : SceneState) → IsScene s → (i : InstanceId) → has_instance s.board.cluster i ≡ true → i.0 < length s.staff
 has_staff s is i there =
-    subst (λ n. i.0 < n) (length-map s.staff (λ (p : ParticipantState). p.plain)) (instance_there s.spec (valid_in s is) s.board.cluster.line i (at s Missing) (stands_in s is Missing) there)
+    subst (λ n. i.0 < n) (length-map s.staff (λ (p : ParticipantState). p.plain)) (instance_there s.spec (valid_in s is) (since s.board.cluster.line) i (at s Missing) (stands_in s is Missing) there)
 
 pub staff_has : (s : SceneState) → IsScene s → (i : InstanceId) → i.0 < length s.staff → has_instance s.board.cluster i ≡ true
 staff_has s is i lt =
-    let instances : length s.board.cluster.instances ≡ length s.spec.instances = (fixed_there s.spec s.board.cluster.line (world_of s) (stands_in s is Missing).scripted).instances ∙ length-replicate (length s.spec.instances) false in
+    let instances : length s.board.cluster.instances ≡ length s.spec.instances = (fixed_there s.spec (since s.board.cluster.line) (world_of s) (stands_in s is Missing).scripted).instances ∙ length-replicate (length s.spec.instances) false in
     let many : length (plain_staff s.staff) ≡ length s.spec.instances = is.in_step.participants in
     let same = length-map s.staff (λ (p : ParticipantState). p.plain) in
     grind (arith, nat_tests, lt, instances, many, same)
 
 pub has_turn : (s : SceneState) → IsScene s → (k : ControllerId) → has_controller s.board.cluster k ≡ true → k.0 < length s.controllers
-has_turn s is k there = controller_there s.spec (valid_in s is) s.board.cluster.line k (at s Missing) (stands_in s is Missing) there
+has_turn s is k there = controller_there s.spec (valid_in s is) (since s.board.cluster.line) k (at s Missing) (stands_in s is Missing) there
 
 -- what a call read at a place stands there
 pub reads : {X : Type 0} (xs : List X) (n : ℕ) (x d : X) → n < length xs → x ≡ slice_index_or xs n x → x ≡ slice_index_or xs n d
@@ -55,4 +55,4 @@ pub all_at_rest : (s : SceneState) → IsScene s → s.jobs ≡ [] → All IsAtR
 all_at_rest s is none k d lt =
     let no_job : list_any (is_job_of (record { 0 = k })) (map plain_job s.jobs) ≡ false = ap (λ js. list_any (is_job_of (record { 0 = k })) (map plain_job js)) none in
     subst (λ (w : Participant). any_out w ≡ false) (get_or-map (λ (p : ParticipantState). p.plain) s.staff k d new_participant lt)
-    (no_job_none_out s.spec (valid_in s is) s.board.cluster.line (record { 0 = k }) (at s Missing) (stands_in s is Missing) no_job)
+    (no_job_none_out s.spec (valid_in s is) (since s.board.cluster.line) (record { 0 = k }) (at s Missing) (stands_in s is Missing) no_job)

@@ -34,6 +34,7 @@ use Rattle.hx_replicas.specs.declared.slots.Work.TheVariants.{Out}
 use Rattle.hx_replicas.specs.Jobs.{ParticipantState, Held, Job, Ran, Done, RunsWith, runs_of, is_failed}
 use Rattle.hx_replicas.proofs.Outs.{run-listed, out-job}
 use Rattle.hx_scripted.specs.OfHistory.{IsOfItsHistory}
+use Rattle.hx_scripted.proofs.Standing.{since}
 use Rattle.hx_agreed.specs.InStep.{IsInStep}
 use Rattle.hx_agreed.proofs.Operations.{take_keeps}
 use Rattle.hx_worlds.specs.World.{Answers, State, told_outcome, participant_of, with_participant}
@@ -244,7 +245,7 @@ module _ {s : SceneState} {i : InstanceId} {id : MsgId} {b : ParticipantState} {
   take_scene r k free history =
       let e : Event = events.Take job.message.session job.message.id in
       let text = entry_text s.spec s.board.cluster e in
-      let kept = kept_going {spec = s.spec} (take_ends Quiet r k free [] text refl) h.scene.of_history h.scene.in_step (λ a st. take_keeps s.spec (valid_in s h.scene) s.board.cluster.line Quiet i id (at s a) st) in
+      let kept = kept_going {spec = s.spec} (take_ends Quiet r k free [] text refl) h.scene.of_history h.scene.in_step (λ a st. take_keeps s.spec (valid_in s h.scene) (since s.board.cluster.line) Quiet i id (at s a) st) in
       record {
         own = h.scene.own;
         history = history;
@@ -309,7 +310,7 @@ module _ {s : SceneState} {i : InstanceId} {id : MsgId} {b : ParticipantState} {
 
   pub back_is : (c : ParticipantState) (fault : TakeFault) → IsPutBack b c job → take_refusal s.board.cluster job.message.session job.message.id ≡ Some fault → IsScene (back_scene s i b c)
   back_is c fault k full =
-      let kept = kept_going {spec = s.spec} (back_reaches Quiet c fault k full []) h.scene.of_history h.scene.in_step (λ a st. take_keeps s.spec (valid_in s h.scene) s.board.cluster.line Quiet i id (at s a) st) in
+      let kept = kept_going {spec = s.spec} (back_reaches Quiet c fault k full []) h.scene.of_history h.scene.in_step (λ a st. take_keeps s.spec (valid_in s h.scene) (since s.board.cluster.line) Quiet i id (at s a) st) in
       record {
         own = h.scene.own;
         history = h.scene.history;

@@ -30,6 +30,7 @@ use Rattle.hx_control.specs.Steps.{Step, Calls, Plans, Refuses, outcome_of, is_o
 use Rattle.hx_control.specs.Made.{step_fault, board_after, ends_turn, after_fault, IsMade, Takes}
 use Rattle.hx_worlds.specs.World.{State, Answers, Missing, controller_of, with_controller}
 use Rattle.hx_worlds.specs.Runs.{Run, Stops, items_of, gives, and_then, happen}
+use Rattle.hx_scripted.proofs.Standing.{since}
 use Rattle.hx_agreed.proofs.Operations.{controller_is, turn_planned, restart_stands}
 use Rattle.hx_scene.specs.Scenes.{SceneState, at, world_of}
 use Rattle.hx_scene.specs.Kept.{IsScene}
@@ -51,19 +52,19 @@ pub turn_read : {s : SceneState} (k : ControllerId) (x : Controller) → IsScene
 turn_read {s} k x is there e = get_or_read s.controllers k.0 x (has_turn s is k there) e (idle_controller k)
 
 turn_id : {s : SceneState} (k : ControllerId) → IsScene s → (turn_in s k).id ≡ k
-turn_id {s} k is = controller_is s.spec (valid_in s is) s.board.cluster.line k (at s Missing) (stands_in s is Missing)
+turn_id {s} k is = controller_is s.spec (valid_in s is) (since s.board.cluster.line) k (at s Missing) (stands_in s is Missing)
 
 pub turn_has : {s : SceneState} (k : ControllerId) (x : Controller) → IsScene s → has_controller s.board.cluster k ≡ true → x ≡ slice_index_or s.controllers k.0 x → has_controller s.board.cluster x.id ≡ true
 turn_has {s} k x is there e = subst (λ j. has_controller s.board.cluster j ≡ true) (sym (ap (λ z. z.id) (turn_read k x is there e) ∙ turn_id k is)) there
 
 pub turn_plans : {s : SceneState} (k : ControllerId) (x : Controller) → IsScene s → has_controller s.board.cluster k ≡ true → x ≡ slice_index_or s.controllers k.0 x → IsPlanOf s.spec x.turn x.plan
 turn_plans {s} k x is there e =
-    subst (λ z. IsPlanOf s.spec z.turn z.plan) (sym (turn_read k x is there e)) (turn_planned s.spec (valid_in s is) s.board.cluster.line k (at s Missing) (stands_in s is Missing))
+    subst (λ z. IsPlanOf s.spec z.turn z.plan) (sym (turn_read k x is there e)) (turn_planned s.spec (valid_in s is) (since s.board.cluster.line) k (at s Missing) (stands_in s is Missing))
 
 -- a turn is given up
 scene_idle : {s : SceneState} (k : ControllerId) → IsScene s → IsScene (record s { controllers = slice_set s.controllers k.0 (idle_controller k) })
 scene_idle {s} k is =
-    let there = restart_stands s.spec (valid_in s is) s.board.cluster.line k (at s Missing) (stands_in s is Missing) in
+    let there = restart_stands s.spec (valid_in s is) (since s.board.cluster.line) k (at s Missing) (stands_in s is Missing) in
     record { own = is.own; history = is.history; of_history = there.scripted.of; in_step = there.in_step; listed = is.listed }
 
 pub idle_is : {s : SceneState} (k : ControllerId) (x y : Controller) → IsScene s → has_controller s.board.cluster k ≡ true → x ≡ slice_index_or s.controllers k.0 x → y ≡ idle_controller x.id
@@ -141,7 +142,7 @@ front_after p q e front = record {
 scene_made : {s : SceneState} (k : ControllerId) (b : Held) (y : Controller) (outcome : Option PassOutcome) → IsScene s → HasHistory b → Takes (next_in s k) s.board b (turn_in s k) y (Ok outcome)
     → IsScene (with_turn s k b y)
 scene_made {s} k b y outcome is history takes =
-    let there = kept_going (made_ends k b y outcome (next_in s k) is refl takes.refused takes.made) is.of_history is.in_step (λ a going. keeps_advance s.spec (valid_in s is) s.board.cluster.line k (at s a) going) in
+    let there = kept_going (made_ends k b y outcome (next_in s k) is refl takes.refused takes.made) is.of_history is.in_step (λ a going. keeps_advance s.spec (valid_in s is) (since s.board.cluster.line) k (at s a) going) in
     record { own = spec_of (next_in s k) takes.made ∙ is.own; history = history; of_history = there.0; in_step = there.1; listed = is.listed }
   where
     spec_of : (step : Step) → IsMade step s.board b (turn_in s k) y outcome → b.spec ≡ s.board.spec

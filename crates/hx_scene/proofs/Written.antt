@@ -22,6 +22,7 @@ use Rattle.hx_board.specs.Board.{Held, HasHistory, happened as on_board}
 use Rattle.hx_replicas.proofs.Searching.{find-map, found-in, found-first, found-none}
 use Rattle.hx_safe.proofs.Ends.{same-self}
 use Rattle.hx_safe.proofs.Counting.{and-both}
+use Rattle.hx_scripted.proofs.Standing.{since}
 use Rattle.hx_agreed.specs.InStep.{IsHeldJob}
 use Rattle.hx_agreed.proofs.Going.{each-find}
 use Rattle.hx_agreed.proofs.Operations.{write_keeps}
@@ -166,7 +167,7 @@ module _ {s : SceneState} {i : InstanceId} {id : MsgId} {n : ℕ} {j : OpenState
   pub write_scene : j.is_written ≡ false → write_refusal s.board.cluster j.ran.message.session j.ran.message.id ≡ None → HasHistory (on_board s.board event) → IsScene (written_scene s n j event)
   write_scene unwritten free history =
       let kept = kept_going {spec = s.spec} (write_ends Quiet unwritten free [] (entry_text s.spec s.board.cluster event) refl) h.scene.of_history h.scene.in_step
-      (λ a st. write_keeps s.spec (valid_in s h.scene) s.board.cluster.line Quiet i id (at s a) st) in
+      (λ a st. write_keeps s.spec (valid_in s h.scene) (since s.board.cluster.line) Quiet i id (at s a) st) in
       record {
         own = h.scene.own;
         history = history;

@@ -3,11 +3,14 @@
 ghost use Rattle.std.specs.Prelude.{◌≡◌, true, [], IfOk};
 ghost use Rattle.std.specs.List.{All};
 ghost use Rattle.hx_cluster.specs.Steps.{has_instance, has_controller};
+ghost use Rattle.hx_board.specs.Board.{HasHistory};
 ghost use Rattle.hx_replicas.specs.Participants.{accepted_all};
 ghost use Rattle.hx_worlds.specs.World.{controller_of, participant_of};
+ghost use Rattle.hx_worlds.specs.Agree.{Agree, stationed_from};
+ghost use Rattle.hx_agreed.specs.OfParts.{IsOrderly};
 ghost use Rattle.hx_scene.specs.Scenes.{world_of};
 ghost use Rattle.hx_scene.specs.Kept.{IsScene};
-ghost use Rattle.hx_scene.specs.Ending.{IsAtRest};
+ghost use Rattle.hx_scene.specs.Ending.{IsAtRest, plain_staff};
 
 use crate::jobs::{OpenJob, end_all};
 use hx_board::Board;
@@ -98,15 +101,10 @@ impl<F: Factory> Scene<F> {
         controllers: Vec<Controller>,
         participants: Vec<Participant<F>>,
     ) -> Result<Scene<F>, AllocError>
-        requires { IsScene (record {
-          spec = spec;
-          board = board;
-          controllers = controllers.items;
-          staff = participants.items;
-          jobs = [];
-          bag = [];
-          handed = 0;
-        }) }
+        requires history { HasHistory board }
+        requires orderly { All IsOrderly (plain_staff participants.items) }
+        requires agree { Agree spec (record { spec = board.spec; history = board.history })
+            controllers.items (stationed_from 0 (plain_staff participants.items)) }
         ensures { IfOk result (λ scene. scene ≡ record {
           spec = spec;
           board = board;

@@ -27,7 +27,7 @@ use Rattle.hx_cluster.specs.Reads.{instance_before, live_shown, messages_for, fe
 use Rattle.hx_cluster.specs.Events.{replay, is_later, can_take, can_write, can_ack}
 use Rattle.hx_cluster.specs.Weight.{weight_of}
 use Rattle.hx_cluster.specs.Valid.{IsValid}
-use Rattle.hx_pass.specs.Lawful.{IsLawful}
+use Rattle.hx_pass.specs.Lawful.{IsProperAlong, IsLawful}
 use Rattle.hx_print.specs.declared.Note.TheVariants as notes
 use Rattle.hx_print.specs.Texts.{view_line, view_of_part, viewed_parts}
 use Rattle.hx_replicas.specs.declared.DeliverFault.{DeliverFault}
@@ -56,7 +56,7 @@ use Rattle.hx_covers.proofs.Sorting.{all-sort}
 use Rattle.hx_lawful.specs.Holding.{HoldsOfLawful}
 use Rattle.hx_lawful.proofs.Holding.{holds_of_lawful}
 use Rattle.hx_scripted.specs.OfHistory.{is_fetched, has_fetched, IsTurnOf, IsOfItsHistory}
-use Rattle.hx_scripted.proofs.Standing.{ranged_there, fixed_there, idle_there, scripted_other}
+use Rattle.hx_scripted.proofs.Standing.{Last, at_line, since, ranged_there, fixed_there, idle_there, scripted_other, scripted_since}
 use Rattle.hx_scripted.proofs.Lines.{step-line, write-line}
 use Rattle.hx_scripted.proofs.Asked.{IsAskedWell, instance_there, asked_well}
 use Rattle.hx_scripted.proofs.Keeping.{Keeps, keeps_on, keeps_then, keeps_each, keeps_those, keeps_gives, keeps_more, keeps_after, happens, happens_then, makes_then, done_then, line_then, choice}
@@ -69,7 +69,7 @@ fetched_history : (is_same : Bool) (i : InstanceId) (mail : Mail) (x : State)
 fetched_history true i mail x = refl
 fetched_history false i mail x = history_kept (Jobs.jobs_of i x) x
 
-module _ (spec : Spec) (valid : IsValid spec) (last : Option ℕ) where
+module _ (spec : Spec) (valid : IsValid spec) (last : Last) where
   -- a fetch
   mail_taken : (is_same : Bool) (i : InstanceId) (mail : Mail) (x : State) → Stands spec last x → list_all (is_fetched spec x.world.history) mail.messages ≡ true
       → Stands spec last (Jobs.bagged mail.messages (if is_same then x else Jobs.adopt_in i mail.session x))
@@ -83,7 +83,7 @@ module _ (spec : Spec) (valid : IsValid spec) (last : Option ℕ) where
   fetch_happens i x there s =
       let c = x.world.cluster in
       let e : Event = events.Fetch i (session_of c i) (length (messages_for c (session_of c i))) in
-      scripted_other spec last last x.world e (happened e x).world.weight s (instance_there spec c i (fixed_there spec last x.world s) there, refl, refl) tt s.line (λ k. refl)
+      scripted_other spec last last.line x.world e (happened e x).world.weight s (instance_there spec c i (fixed_there spec last x.world s) there, refl, refl) tt s.line (λ k. refl)
 
   mail_fetched : (i : InstanceId) (x : State) → Stands spec last x
       → list_all (is_fetched spec (x.world.history ++ events.Fetch i (session_of x.world.cluster i) (length (messages_for x.world.cluster (session_of x.world.cluster i))) ∷ []))
@@ -162,7 +162,7 @@ module _ (spec : Spec) (valid : IsValid spec) (last : Option ℕ) where
       let e : Event = events.Take m.session m.id in
       choice (Stands spec last) (can_take x.world.cluster m.session m.id) _ _
       (λ can. makes_then (Stands spec last) e x (λ y. done (Jobs.ran i m handler y))
-      (record { left = job_ran i m handler (happened e x) (scripted_other spec last last x.world e (happened e x).world.weight s can is s.line (λ k. refl)) }))
+      (record { left = job_ran i m handler (happened e x) (scripted_other spec last last.line x.world e (happened e x).world.weight s can is s.line (λ k. refl)) }))
       (λ can. keeps_note spec valid last v _ (Jobs.put_back i m handler x) (put_back_there spec last i m handler x s))
 
   taken : (v : Voice) (i : InstanceId) (id : MsgId) (o : Option Message) (x : State) → Stands spec last x → accepted_by (participant_of x.world i) id ≡ o
@@ -186,7 +186,7 @@ module _ (spec : Spec) (valid : IsValid spec) (last : Option ℕ) where
       (λ can. makes_then (Stands spec last) e x (λ y. done (Jobs.with_written j.instance j.message.id y))
       (record {
         left = jobs_there spec last y.world (map (Jobs.as_written_job j.instance j.message.id) y.world.jobs)
-            (scripted_other spec last last x.world e y.world.weight s can tt (write-line x.world.cluster j.message.session j.message.id j.outcome ∙ s.line) (λ k. refl));
+            (scripted_other spec last last.line x.world e y.world.weight s can tt (write-line x.world.cluster j.message.session j.message.id j.outcome ∙ s.line) (λ k. refl));
       }))
       (λ can. keeps_note spec valid last v notes.SessionEnded (Jobs.end_job j x) (job_ended spec last j x s)))
 
@@ -197,7 +197,7 @@ module _ (spec : Spec) (valid : IsValid spec) (last : Option ℕ) where
       choice (Stands spec last) (not j.is_written) _ _ (λ is. keeps_note spec valid last v _ x s)
       (λ is. choice (Stands spec last) (can_ack x.world.cluster j.message.session j.message.id) _ _
       (λ can. makes_then (Stands spec last) e x (λ y. done (Jobs.end_job j y))
-      (record { left = job_ended spec last j (happened e x) (scripted_other spec last last x.world e (happened e x).world.weight s can tt s.line (λ k. refl)) }))
+      (record { left = job_ended spec last j (happened e x) (scripted_other spec last last.line x.world e (happened e x).world.weight s can tt s.line (λ k. refl)) }))
       (λ can. keeps_note spec valid last v notes.SessionEnded (Jobs.end_job j x) (job_ended spec last j x s)))
 
   carried : (i : InstanceId) (id : MsgId) (x : State) → Stands spec last x → Keeps (Stands spec last) (Jobs.carry i id x)
@@ -264,7 +264,7 @@ module _ (spec : Spec) (valid : IsValid spec) (last : Option ℕ) where
       → Stands spec last (happened (events.Admin step (did_of x.world.cluster step)) x)
   step_happens step x well is s =
       let e : Event = events.Admin step (did_of x.world.cluster step) in
-      scripted_other spec last last x.world e (happened e x).world.weight s (well, is, refl) tt (step-line x.world.cluster step ∙ s.line) (λ k. refl)
+      scripted_other spec last last.line x.world e (happened e x).world.weight s (well, is, refl) tt (step-line x.world.cluster step ∙ s.line) (λ k. refl)
 
   stepped : (v : Voice) (step : Admin) (f : Option StepFault) (x : State) → refusal_of x.world.cluster step ≡ f → is_in_range x.world.cluster step ≡ true → Stands spec last x
       → Keeps (Stands spec last) (Scripts.stepped v step f x)
@@ -312,28 +312,28 @@ module _ (spec : Spec) (valid : IsValid spec) (last : Option ℕ) where
   what_done v what x is s = asked v (step_asked x.world.cluster what) x (asked_well spec x.world.cluster what valid (fixed_there spec last x.world s) is) s
 
 -- it holds of a state after some line
-record HasStood (spec : Spec) (x : State) : Type 0 where
-  pub last : Option ℕ
-  pub stands : Stands spec last x
+record HasStood (spec : Spec) (is_lawful : Bool) (x : State) : Type 0 where
+  pub line : Option ℕ
+  pub stands : Stands spec (record { line = line; is_lawful = is_lawful }) x
 
 -- lines, one after the other
-line_happens : (spec : Spec) (last : Option ℕ) (l : Line) (x : State) → is_later last l.number ≡ true → Stands spec last x → Stands spec (Some l.number) (happened (events.Line l.number) x)
+line_happens : (spec : Spec) (last : Last) (l : Line) (x : State) → is_later last.line l.number ≡ true → Stands spec last x → Stands spec (at_line last (Some l.number)) (happened (events.Line l.number) x)
 line_happens spec last l x later s =
     let e : Event = events.Line l.number in
     scripted_other spec last (Some l.number) x.world e (happened e x).world.weight s (ap (λ (o : Option ℕ). is_later o l.number) s.line ∙ later) tt refl (λ k. refl)
 
-lines_done : (spec : Spec) → IsValid spec → (last : Option ℕ) (ls : List Line) (x : State) → Scripts.are_next_lines spec last ls ≡ true → Stands spec last x
-    → Keeps (HasStood spec) (for_each Scripts.do_line ls x)
-lines_done spec valid last [] x all s = record { left = record { last = last; stands = s } }
+lines_done : (spec : Spec) → IsValid spec → (last : Last) (ls : List Line) (x : State) → Scripts.are_next_lines spec last.line ls ≡ true → Stands spec last x
+    → Keeps (HasStood spec last.is_lawful) (for_each Scripts.do_line ls x)
+lines_done spec valid last [] x all s = record { left = record { line = last.line; stands = s } }
 lines_done spec valid last (l ∷ ls) x all s =
-    let first = and-first (Scripts.is_next_line spec last l) (Scripts.are_next_lines spec (Some l.number) ls) all in
-    let later = and-first (is_later last l.number) (Ranges.is_line_in_range spec l) first in
-    let ranged = and-second (is_later last l.number) (Ranges.is_line_in_range spec l) first in
-    line_then (Stands spec (Some l.number)) (HasStood spec) (events.Line l.number) x (λ y. Scripts.do_what (Loud l.number) l.what y) (λ y. for_each Scripts.do_line ls y)
-    (record { last = last; stands = s })
-    (what_done spec valid (Some l.number) (Loud l.number) l.what (happened (events.Line l.number) x) ranged (line_happens spec last l x later s))
-    (λ y there. record { last = Some l.number; stands = there })
-    (λ y there. lines_done spec valid (Some l.number) ls y (and-second (Scripts.is_next_line spec last l) (Scripts.are_next_lines spec (Some l.number) ls) all) there)
+    let first = and-first (Scripts.is_next_line spec last.line l) (Scripts.are_next_lines spec (Some l.number) ls) all in
+    let later = and-first (is_later last.line l.number) (Ranges.is_line_in_range spec l) first in
+    let ranged = and-second (is_later last.line l.number) (Ranges.is_line_in_range spec l) first in
+    line_then (Stands spec (at_line last (Some l.number))) (HasStood spec last.is_lawful) (events.Line l.number) x (λ y. Scripts.do_what (Loud l.number) l.what y) (λ y. for_each Scripts.do_line ls y)
+    (record { line = last.line; stands = s })
+    (what_done spec valid (at_line last (Some l.number)) (Loud l.number) l.what (happened (events.Line l.number) x) ranged (line_happens spec last l x later s))
+    (λ y there. record { line = Some l.number; stands = there })
+    (λ y there. lines_done spec valid (at_line last (Some l.number)) ls y (and-second (Scripts.is_next_line spec last.line l) (Scripts.are_next_lines spec (Some l.number) ls) all) there)
 
 -- the opening
 idle_listed : (a n j k : ℕ) → k ≡ a + j → slice_index_or (map (λ i. idle_controller (record { 0 = i })) (numbers_from a n)) j (idle_controller (record { 0 = k })) ≡ idle_controller (record { 0 = k })
@@ -349,11 +349,11 @@ none_accepted : (spec : Spec) (n : ℕ) → list_all (has_fetched spec []) (repl
 none_accepted spec zero = refl
 none_accepted spec (suc n) = none_accepted spec n
 
-opening_stands : (spec : Spec) → Stands spec None (Scripts.opening_state spec)
+opening_stands : (spec : Spec) → Stands spec (record { line = None; is_lawful = true }) (Scripts.opening_state spec)
 opening_stands spec = record {
   of = record {
     given = refl;
-    lawful = (tt, tt);
+    legal = tt;
     cluster = refl;
     controllers = many_listed 0 spec.controllers;
     turns = λ k. subst (IsTurnOf spec [] k) (sym (idle_listed 0 spec.controllers k.0 k.0 (omega arith))) (idle_there spec [] k);
@@ -361,51 +361,73 @@ opening_stands spec = record {
     accepted = none_accepted spec (length spec.instances);
   };
   line = refl;
+  proper = λ is. tt;
 }
 
 -- a whole script
-script_done : (spec : Spec) → IsValid spec → (lines : List Line) → Scripts.are_next_lines spec None lines ≡ true → Keeps (HasStood spec) (Scripts.sim_run spec lines)
+script_done : (spec : Spec) → IsValid spec → (lines : List Line) → Scripts.are_next_lines spec None lines ≡ true → Keeps (HasStood spec true) (Scripts.sim_run spec lines)
 script_done spec valid lines all =
-    keeps_then (HasStood spec) (for_each Scripts.do_line lines (Scripts.opening_state spec)) Scripts.do_view
-    (lines_done spec valid None lines (Scripts.opening_state spec) all (opening_stands spec))
-    (λ y there. keeps_more (Stands spec there.last) (HasStood spec) (Scripts.do_view y) (view_done spec valid there.last y there.stands) (λ z here. record { last = there.last; stands = here }))
+    keeps_then (HasStood spec true) (for_each Scripts.do_line lines (Scripts.opening_state spec)) Scripts.do_view
+    (lines_done spec valid (record { line = None; is_lawful = true }) lines (Scripts.opening_state spec) all (opening_stands spec))
+    (λ y there. keeps_more (Stands spec (record { line = there.line; is_lawful = true })) (HasStood spec true) (Scripts.do_view y)
+    (view_done spec valid (record { line = there.line; is_lawful = true }) y there.stands) (λ z here. record { line = there.line; stands = here }))
+
+lawful_stood : (spec : Spec) (x : State) → HasStood spec true x → IsLawful spec x.world.history
+lawful_stood spec x s = (s.stands.of.legal, s.stands.proper refl)
 
 -- what a script, a line and a settle leave
 pub lawful_scripts : (spec : Spec) (lines : List Line) → IsValid spec → Scripts.are_next_lines spec None lines ≡ true → IsLawful spec (Scripts.sim_history spec lines)
 lawful_scripts spec lines valid all =
-    subst (λ (h : List Event). IsLawful spec h) (prints_its_history spec lines) (script_done spec valid lines all).left.stands.of.lawful
+    subst (λ (h : List Event). IsLawful spec h) (prints_its_history spec lines) (lawful_stood spec (state_of (Scripts.sim_run spec lines)) (script_done spec valid lines all).left)
+
+line_stood : (spec : Spec) (l : Line) (x : State) (is_lawful : Bool) → IsValid spec → IsOfItsHistory spec x.world → (is_lawful ≡ true → IsProperAlong spec [] x.world.history)
+    → Scripts.is_next_line spec x.world.cluster.line l ≡ true → HasStood spec is_lawful (state_of (Scripts.do_line l x))
+line_stood spec l x is_lawful valid of proper next =
+    let last : Last = record { line = x.world.cluster.line; is_lawful = is_lawful } in
+    let s : Stands spec last x = record { of = of; line = refl; proper = proper } in
+    let later = and-first (is_later x.world.cluster.line l.number) (Ranges.is_line_in_range spec l) next in
+    let ranged = and-second (is_later x.world.cluster.line l.number) (Ranges.is_line_in_range spec l) next in
+    let k = what_done spec valid (at_line last (Some l.number)) (Loud l.number) l.what (happened (events.Line l.number) x) ranged (line_happens spec last l x later s) in
+    (happens_then (HasStood spec is_lawful) (events.Line l.number) x (λ y. Scripts.do_what (Loud l.number) l.what y) (record { line = x.world.cluster.line; stands = s })
+    (keeps_more (Stands spec (at_line last (Some l.number))) (HasStood spec is_lawful) (Scripts.do_what (Loud l.number) l.what (happened (events.Line l.number) x)) k
+    (λ y there. record { line = Some l.number; stands = there }))).left
 
 pub line_left : (spec : Spec) (l : Line) (x : State) → IsValid spec → IsOfItsHistory spec x.world → Scripts.is_next_line spec x.world.cluster.line l ≡ true
     → IsOfItsHistory spec (state_of (Scripts.do_line l x)).world
-line_left spec l x valid of next =
-    let last = x.world.cluster.line in
-    let s : Stands spec last x = record { of = of; line = refl } in
-    let later = and-first (is_later last l.number) (Ranges.is_line_in_range spec l) next in
-    let ranged = and-second (is_later last l.number) (Ranges.is_line_in_range spec l) next in
-    let k = what_done spec valid (Some l.number) (Loud l.number) l.what (happened (events.Line l.number) x) ranged (line_happens spec last l x later s) in
-    (happens_then (HasStood spec) (events.Line l.number) x (λ y. Scripts.do_what (Loud l.number) l.what y) (record { last = last; stands = s })
-    (keeps_more (Stands spec (Some l.number)) (HasStood spec) (Scripts.do_what (Loud l.number) l.what (happened (events.Line l.number) x)) k (λ y there. record { last = Some l.number; stands = there }))).left.stands.of
+line_left spec l x valid of next = (line_stood spec l x false valid of (λ is. cc) next).stands.of
+
+pub line_lawful : (spec : Spec) (l : Line) (x : State) → IsValid spec → IsOfItsHistory spec x.world → IsLawful spec x.world.history → Scripts.is_next_line spec x.world.cluster.line l ≡ true
+    → IsLawful spec (state_of (Scripts.do_line l x)).world.history
+line_lawful spec l x valid of lawful next = lawful_stood spec (state_of (Scripts.do_line l x)) (line_stood spec l x true valid of (λ is. lawful.1) next)
 
 -- a line that is done is the last
-line_on : (spec : Spec) (n : ℕ) (stops : Bool) (e : Event) (x y : State) (is : List Item) (f : State → Deed) → Keeps (Stands spec (Some n)) (f (happened e x))
+line_on : (spec : Spec) (n : ℕ) (stops : Bool) (e : Event) (x y : State) (is : List Item) (f : State → Deed) → Keeps (Stands spec (since (Some n))) (f (happened e x))
     → and_then (if stops then Stops [] x else make e x) f ≡ GoesOn is y tt → y.world.cluster.line ≡ Some n
 line_on spec n true e x y is f keeps ends = cc
 line_on spec n false e x y is f keeps ends =
-    subst (λ (z : State). z.world.cluster.line ≡ Some n) (ap state_of ends) (keeps_after (Stands spec (Some n)) (Happens e ∷ []) (f (happened e x)) keeps).left.line
+    subst (λ (z : State). z.world.cluster.line ≡ Some n) (ap state_of ends) (keeps_after (Stands spec (since (Some n))) (Happens e ∷ []) (f (happened e x)) keeps).left.line
 
 pub line_done : (spec : Spec) (l : Line) (x y : State) (is : List Item) → IsValid spec → IsOfItsHistory spec x.world → Scripts.is_next_line spec x.world.cluster.line l ≡ true
     → Scripts.do_line l x ≡ GoesOn is y tt → y.world.cluster.line ≡ Some l.number
 line_done spec l x y is valid of next ends =
-    let last = x.world.cluster.line in
-    let s : Stands spec last x = record { of = of; line = refl } in
-    let later = and-first (is_later last l.number) (Ranges.is_line_in_range spec l) next in
-    let ranged = and-second (is_later last l.number) (Ranges.is_line_in_range spec l) next in
+    let last = since x.world.cluster.line in
+    let s : Stands spec last x = scripted_since spec x.world of in
+    let later = and-first (is_later x.world.cluster.line l.number) (Ranges.is_line_in_range spec l) next in
+    let ranged = and-second (is_later x.world.cluster.line l.number) (Ranges.is_line_in_range spec l) next in
     let e : Event = events.Line l.number in
     line_on spec l.number (nat_lt x.world.limit (x.world.weight + weight_of e)) e x y is (λ z. Scripts.do_what (Loud l.number) l.what z)
-    (what_done spec valid (Some l.number) (Loud l.number) l.what (happened e x) ranged (line_happens spec last l x later s)) ends
+    (what_done spec valid (since (Some l.number)) (Loud l.number) l.what (happened e x) ranged (line_happens spec last l x later s)) ends
+
+settle_stands : (spec : Spec) (last : Last) (x : State) → IsValid spec → Stands spec last x → Stands spec last (state_of (Settles.settle x))
+settle_stands spec last x valid s = (settled spec valid last x.world.cluster.leader x s).left
 
 pub settle_left : (spec : Spec) (x : State) → IsValid spec → IsOfItsHistory spec x.world → IsOfItsHistory spec (state_of (Settles.settle x)).world
-settle_left spec x valid of = (settled spec valid x.world.cluster.line x.world.cluster.leader x (record { of = of; line = refl })).left.of
+settle_left spec x valid of = (settle_stands spec (since x.world.cluster.line) x valid (scripted_since spec x.world of)).of
+
+pub settle_lawful : (spec : Spec) (x : State) → IsValid spec → IsOfItsHistory spec x.world → IsLawful spec x.world.history → IsLawful spec (state_of (Settles.settle x)).world.history
+settle_lawful spec x valid of lawful =
+    let s = settle_stands spec (record { line = x.world.cluster.line; is_lawful = true }) x valid (record { of = of; line = refl; proper = λ is. lawful.1 }) in
+    (s.of.legal, s.proper refl)
 
 -- and what holds at each place of a script's history
 pub holds_of_scripts : (spec : Spec) (lines : List Line) (h more : List Event) → IsValid spec → Scripts.are_next_lines spec None lines ≡ true → Scripts.sim_history spec lines ≡ h ++ more

@@ -24,16 +24,16 @@ use Rattle.hx_worlds.specs.declared.Voice.{Voice}
 use Rattle.hx_worlds.specs.declared.Voice.TheVariants.{Loud, Quiet}
 use Rattle.hx_worlds.specs.Runs.{Run, Deed, done, gives, happened, charged, say, note, say_if_loud}
 use Rattle.hx_worlds.specs.Turns
-use Rattle.hx_scripted.proofs.Standing.{IsScripted}
+use Rattle.hx_scripted.proofs.Standing.{Last, IsScripted}
 use Rattle.hx_scripted.proofs.Keeping.{Keeps, keeps_on, keeps_then, keeps_each, keeps_gives, happens_then, says}
 use Rattle.hx_scripted.proofs.Taking.{weighed_there}
 use Rattle.hx_scripted.proofs.Stepping.{IsNext, next_there, call_there, plan_there, fault_there}
 
 -- what holds of a state
-abbrev pub Stands : Spec → Option ℕ → State → Type 0
+abbrev pub Stands : Spec → Last → State → Type 0
 Stands spec last x = IsScripted spec last x.world
 
-module _ (spec : Spec) (valid : IsValid spec) (last : Option ℕ) where
+module _ (spec : Spec) (valid : IsValid spec) (last : Last) where
   -- notes and lines
   pub keeps_line : (charge : ℕ) (text : List ℕ) (x : State) → Stands spec last x → Keeps (Stands spec last) (say charge text x)
   keeps_line charge text x s = says (Stands spec last) charge text x s (weighed_there spec last x.world (charged charge x).world.weight s)

@@ -1,4 +1,4 @@
--- What holds of a world along a script: its history is lawful, led to its cluster and to the turns of its controllers, and its participants
+-- What holds of a world along a script: its history is legal, led to its cluster and to the turns of its controllers, and its participants
 -- have accepted only what was fetched.
 use Rattle.std.proofs.Common.{◌≡◌, ℕ, zero, suc, ◌||◌, ◌==◌, Bool, true, false, List, [], ◌∷◌, ◌++◌, append_assoc, append-nil, length, Option, refl, sym, ap, ◌∙◌, subst, inl, arith}
 use Rattle.std.specs.Prelude.{slice_set, slice_index_or}
@@ -29,16 +29,32 @@ use Rattle.hx_safe.proofs.Whole.{reached_ranged}
 use Rattle.hx_covers.proofs.Covered.{replay_more}
 use Rattle.hx_covers.proofs.Whole.{fixed_along}
 
+-- the last line of a world, and whether its history was lawful from the beginning
+pub record Last : Type 0 where
+  pub line : Option ℕ
+  pub is_lawful : Bool
+
+abbrev pub at_line : Last → Option ℕ → Last
+at_line last line = record { line = line; is_lawful = last.is_lawful }
+
+-- where nothing is said of what came before
+abbrev pub since : Option ℕ → Last
+since line = record { line = line; is_lawful = false }
+
 -- a world is of its history, and its last line has a number
-pub record IsScripted (spec : Spec) (last : Option ℕ) (w : World) : Type 0 where
+pub record IsScripted (spec : Spec) (last : Last) (w : World) : Type 0 where
   pub of : IsOfItsHistory spec w
-  pub line : w.cluster.line ≡ last
+  pub line : w.cluster.line ≡ last.line
+  pub proper : last.is_lawful ≡ true → IsProperAlong spec [] w.history
+
+pub scripted_since : (spec : Spec) (w : World) → IsOfItsHistory spec w → IsScripted spec (since w.cluster.line) w
+scripted_since spec w of = record { of = of; line = refl; proper = λ is. cc }
 
 -- its cluster is in range, and has what the description has
-pub ranged_there : (spec : Spec) (last : Option ℕ) (w : World) → IsValid spec → IsScripted spec last w → IsRanged w.cluster
-ranged_there spec last w valid s = subst IsRanged (sym s.of.cluster) (reached_ranged spec valid w.history s.of.lawful.0)
+pub ranged_there : (spec : Spec) (last : Last) (w : World) → IsValid spec → IsScripted spec last w → IsRanged w.cluster
+ranged_there spec last w valid s = subst IsRanged (sym s.of.cluster) (reached_ranged spec valid w.history s.of.legal)
 
-pub fixed_there : (spec : Spec) (last : Option ℕ) (w : World) → IsScripted spec last w → IsFixed (opening spec) w.cluster
+pub fixed_there : (spec : Spec) (last : Last) (w : World) → IsScripted spec last w → IsFixed (opening spec) w.cluster
 fixed_there spec last w s = subst (λ (c : Cluster). IsFixed (opening spec) c) (sym s.of.cluster) (fixed_along (opening spec) w.history)
 
 -- a lawful history with one event more
@@ -131,17 +147,14 @@ turn_called spec h e xs y k own board old =
     (λ is. turn_other spec h e k (slice_index_or xs k.0 (idle_controller k)) (own k ∙ is) old)
 
 -- an event that may happen and is proper, with the controllers as they then are
-pub scripted_next : (spec : Spec) (last later : Option ℕ) (w : World) (e : Event) (cs : List Controller) (weight : ℕ) → IsScripted spec last w
+pub scripted_next : (spec : Spec) (last : Last) (later : Option ℕ) (w : World) (e : Event) (cs : List Controller) (weight : ℕ) → IsScripted spec last w
     → IsStep w.cluster e → IsProper spec w.history e → (next w.cluster e).line ≡ later → length cs ≡ spec.controllers
     → ((k : ControllerId) → IsTurnOf spec (w.history ++ e ∷ []) k (slice_index_or cs k.0 (idle_controller k)))
-    → IsScripted spec later (record w { cluster = next w.cluster e; history = w.history ++ e ∷ []; weight = weight; controllers = cs })
+    → IsScripted spec (at_line last later) (record w { cluster = next w.cluster e; history = w.history ++ e ∷ []; weight = weight; controllers = cs })
 scripted_next spec last later w e cs weight s step proper line few turns = record {
   of = record {
     given = s.of.given;
-    lawful = (
-      legal_more (opening spec) w.history e s.of.lawful.0 (subst (λ (c : Cluster). IsStep c e) s.of.cluster step),
-      proper_more spec [] w.history e s.of.lawful.1 proper,
-    );
+    legal = legal_more (opening spec) w.history e s.of.legal (subst (λ (c : Cluster). IsStep c e) s.of.cluster step);
     cluster = ap (λ (c : Cluster). next c e) s.of.cluster ∙ sym (replay_more (opening spec) w.history e);
     controllers = few;
     turns = turns;
@@ -149,12 +162,13 @@ scripted_next spec last later w e cs weight s step proper line few turns = recor
     accepted = all-le (has_fetched spec w.history) (has_fetched spec (w.history ++ e ∷ [])) (still_accepted spec w.history e) w.participants s.of.accepted;
   };
   line = line;
+  proper = λ is. proper_more spec [] w.history e (s.proper is) proper;
 }
 
 -- one that is no controller's own
-pub scripted_other : (spec : Spec) (last later : Option ℕ) (w : World) (e : Event) (weight : ℕ) → IsScripted spec last w
+pub scripted_other : (spec : Spec) (last : Last) (later : Option ℕ) (w : World) (e : Event) (weight : ℕ) → IsScripted spec last w
     → IsStep w.cluster e → IsProper spec w.history e → (next w.cluster e).line ≡ later → ((k : ControllerId) → is_own k e ≡ false)
-    → IsScripted spec later (record w { cluster = next w.cluster e; history = w.history ++ e ∷ []; weight = weight })
+    → IsScripted spec (at_line last later) (record w { cluster = next w.cluster e; history = w.history ++ e ∷ []; weight = weight })
 scripted_other spec last later w e weight s step proper line other =
     scripted_next spec last later w e w.controllers weight s step proper line s.of.controllers
     (λ k. turn_other spec w.history e k (controller_of w k) (other k) (s.of.turns k))

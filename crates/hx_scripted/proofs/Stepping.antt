@@ -32,7 +32,7 @@ use Rattle.hx_safe.proofs.Counting.{and-both}
 use Rattle.hx_safe.proofs.Ends.{same-self}
 use Rattle.hx_safe.proofs.Fixed.{IsFixed}
 use Rattle.hx_safe.proofs.Ideals.{length-put}
-use Rattle.hx_scripted.proofs.Standing.{IsScripted, ranged_there, fixed_there, turn_put, turn_called, scripted_next}
+use Rattle.hx_scripted.proofs.Standing.{Last, IsScripted, ranged_there, fixed_there, turn_put, turn_called, scripted_next}
 use Rattle.hx_control.proofs.Proposed.{HasGiven, proposed, posted}
 use Rattle.hx_scripted.proofs.Lines.{pass-line, dispatch-line}
 use Rattle.hx_scripted.proofs.Asked.{controller_there}
@@ -174,7 +174,7 @@ pub record IsNext (spec : Spec) (w : World) (x : Controller) (s : Step) : Type 0
   pub called : AreCalls spec w.cluster w.history x.id s
   pub keeps : OfBoard spec (w.history ++ calls_of s) (after_step w.cluster x s)
 
-pub next_there : (spec : Spec) (last : Option ℕ) (w : World) (k : ControllerId) → IsValid spec → IsScripted spec last w
+pub next_there : (spec : Spec) (last : Last) (w : World) (k : ControllerId) → IsValid spec → IsScripted spec last w
     → IsNext spec w (controller_of w k) (step_of w.spec w.cluster (controller_of w k))
 next_there spec last w k valid s =
     let x = controller_of w k in
@@ -191,12 +191,12 @@ next_there spec last w k valid s =
     })
 
 -- the world with a controller put, where nothing happens, and where a call of its happens
-pub put_there : (spec : Spec) (last : Option ℕ) (w : World) (y : Controller) → IsScripted spec last w → OfBoard spec w.history y
+pub put_there : (spec : Spec) (last : Last) (w : World) (y : Controller) → IsScripted spec last w → OfBoard spec w.history y
     → IsScripted spec last (record w { controllers = slice_set w.controllers y.id.0 y })
 put_there spec last w y s board = record {
   of = record {
     given = s.of.given;
-    lawful = s.of.lawful;
+    legal = s.of.legal;
     cluster = s.of.cluster;
     controllers = length-put w.controllers y.id.0 y ∙ s.of.controllers;
     turns = λ k. turn_put spec w.history w.controllers y k board (s.of.turns k);
@@ -204,21 +204,22 @@ put_there spec last w y s board = record {
     accepted = s.of.accepted;
   };
   line = s.line;
+  proper = s.proper;
 }
 
-pub call_there : (spec : Spec) (last : Option ℕ) (x : State) (k : Controller) (e : Event) (outcome : Option PassOutcome) → IsScripted spec last x.world
+pub call_there : (spec : Spec) (last : Last) (x : State) (k : Controller) (e : Event) (outcome : Option PassOutcome) → IsScripted spec last x.world
     → IsNext spec x.world k (Calls e outcome) → IsScripted spec last (with_controller (after_step x.world.cluster k (Calls e outcome)) (happened e x)).world
 call_there spec last x k e outcome s n =
     let w = x.world in
     let y = after_step w.cluster k (Calls e outcome) in
-    scripted_next spec last last w e (slice_set w.controllers k.id.0 y) (happened e x).world.weight s n.called.step n.called.proper (n.called.line ∙ s.line)
+    scripted_next spec last last.line w e (slice_set w.controllers k.id.0 y) (happened e x).world.weight s n.called.step n.called.proper (n.called.line ∙ s.line)
     (length-put w.controllers k.id.0 y ∙ s.of.controllers) (λ j. turn_called spec w.history e w.controllers y j n.called.own n.keeps (s.of.turns j))
 
-pub plan_there : (spec : Spec) (last : Option ℕ) (x : State) (k : Controller) (p : Plan) → IsScripted spec last x.world
+pub plan_there : (spec : Spec) (last : Last) (x : State) (k : Controller) (p : Plan) → IsScripted spec last x.world
     → IsNext spec x.world k (Plans p) → IsScripted spec last (with_controller (after_step x.world.cluster k (Plans p)) x).world
 plan_there spec last x k p s n =
     let y = after_step x.world.cluster k (Plans p) in
     put_there spec last x.world y s (subst (λ (h : List Event). OfBoard spec h y) (append-nil x.world.history) n.keeps)
 
-pub fault_there : (spec : Spec) (last : Option ℕ) (x : State) (k : ControllerId) → IsScripted spec last x.world → IsScripted spec last (with_controller (idle_controller k) x).world
+pub fault_there : (spec : Spec) (last : Last) (x : State) (k : ControllerId) → IsScripted spec last x.world → IsScripted spec last (with_controller (idle_controller k) x).world
 fault_there spec last x k s = put_there spec last x.world (idle_controller k) s (record { told = inl refl; planned = tt })

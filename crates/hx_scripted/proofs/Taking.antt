@@ -26,14 +26,14 @@ use Rattle.hx_safe.proofs.Counting.{and-first, and-second, any-append, all-le, a
 use Rattle.hx_safe.proofs.Ends.{same-self}
 use Rattle.hx_safe.proofs.Ideals.{all-put}
 use Rattle.hx_scripted.specs.OfHistory.{is_fetched, is_work_fetched, is_slot_fetched, has_fetched}
-use Rattle.hx_scripted.proofs.Standing.{IsScripted, fetched_more, or-second, item_at}
+use Rattle.hx_scripted.proofs.Standing.{Last, IsScripted, fetched_more, or-second, item_at}
 
 -- worlds that differ in what the history doesn't tell
-pub weighed_there : (spec : Spec) (last : Option ℕ) (w : World) (weight : ℕ) → IsScripted spec last w → IsScripted spec last (record w { weight = weight })
+pub weighed_there : (spec : Spec) (last : Last) (w : World) (weight : ℕ) → IsScripted spec last w → IsScripted spec last (record w { weight = weight })
 weighed_there spec last w weight s = record {
   of = record {
     given = s.of.given;
-    lawful = s.of.lawful;
+    legal = s.of.legal;
     cluster = s.of.cluster;
     controllers = s.of.controllers;
     turns = s.of.turns;
@@ -41,13 +41,14 @@ weighed_there spec last w weight s = record {
     accepted = s.of.accepted;
   };
   line = s.line;
+  proper = s.proper;
 }
 
-pub jobs_there : (spec : Spec) (last : Option ℕ) (w : World) (jobs : List Job) → IsScripted spec last w → IsScripted spec last (record w { jobs = jobs })
+pub jobs_there : (spec : Spec) (last : Last) (w : World) (jobs : List Job) → IsScripted spec last w → IsScripted spec last (record w { jobs = jobs })
 jobs_there spec last w jobs s = record {
   of = record {
     given = s.of.given;
-    lawful = s.of.lawful;
+    legal = s.of.legal;
     cluster = s.of.cluster;
     controllers = s.of.controllers;
     turns = s.of.turns;
@@ -55,14 +56,15 @@ jobs_there spec last w jobs s = record {
     accepted = s.of.accepted;
   };
   line = s.line;
+  proper = s.proper;
 }
 
-bag_there : (spec : Spec) (last : Option ℕ) (w : World) (bag : List Message) → IsScripted spec last w → list_all (is_fetched spec w.history) bag ≡ true
+bag_there : (spec : Spec) (last : Last) (w : World) (bag : List Message) → IsScripted spec last w → list_all (is_fetched spec w.history) bag ≡ true
     → IsScripted spec last (record w { bag = bag })
 bag_there spec last w bag s all = record {
   of = record {
     given = s.of.given;
-    lawful = s.of.lawful;
+    legal = s.of.legal;
     cluster = s.of.cluster;
     controllers = s.of.controllers;
     turns = s.of.turns;
@@ -70,14 +72,15 @@ bag_there spec last w bag s all = record {
     accepted = s.of.accepted;
   };
   line = s.line;
+  proper = s.proper;
 }
 
-pub participant_put : (spec : Spec) (last : Option ℕ) (w : World) (i : InstanceId) (p : Participant) → IsScripted spec last w → has_fetched spec w.history p ≡ true
+pub participant_put : (spec : Spec) (last : Last) (w : World) (i : InstanceId) (p : Participant) → IsScripted spec last w → has_fetched spec w.history p ≡ true
     → IsScripted spec last (record w { participants = slice_set w.participants i.0 p })
 participant_put spec last w i p s is = record {
   of = record {
     given = s.of.given;
-    lawful = s.of.lawful;
+    legal = s.of.legal;
     cluster = s.of.cluster;
     controllers = s.of.controllers;
     turns = s.of.turns;
@@ -85,9 +88,10 @@ participant_put spec last w i p s is = record {
     accepted = all-put (has_fetched spec w.history) w.participants i.0 p s.of.accepted is;
   };
   line = s.line;
+  proper = s.proper;
 }
 
-pub participant_there : (spec : Spec) (last : Option ℕ) (w : World) (i : InstanceId) → IsScripted spec last w → has_fetched spec w.history (participant_of w i) ≡ true
+pub participant_there : (spec : Spec) (last : Last) (w : World) (i : InstanceId) → IsScripted spec last w → has_fetched spec w.history (participant_of w i) ≡ true
 participant_there spec last w i s = item_at (has_fetched spec w.history) w.participants i.0 new_participant s.of.accepted refl
 
 -- slots
@@ -136,18 +140,18 @@ accepted_fetched spec h w id m all e = one (find (λ x. has_accepted id x.work) 
     one (Some x) is e = work-accepted spec h x.work m (all-find (is_slot_fetched spec h) (λ x. has_accepted id x.work) w.slots x all is) e
 
 -- jobs that end, and a session that is adopted
-pub job_ended : (spec : Spec) (last : Option ℕ) (j : Job) (x : State) → IsScripted spec last x.world → IsScripted spec last (Jobs.end_job j x).world
+pub job_ended : (spec : Spec) (last : Last) (j : Job) (x : State) → IsScripted spec last x.world → IsScripted spec last (Jobs.end_job j x).world
 job_ended spec last j x s =
     let w = participant_of x.world j.instance in
     let y = finish w j.message (Some j.outcome) j.handler in
     let put = participant_put spec last x.world j.instance y s (finished_fetched spec x.world.history w j.message (Some j.outcome) j.handler (participant_there spec last x.world j.instance s)) in
     jobs_there spec last (with_participant j.instance y x).world (Jobs.end_job j x).world.jobs put
 
-jobs_ended : (spec : Spec) (last : Option ℕ) (js : List Job) (x : State) → IsScripted spec last x.world → IsScripted spec last (Jobs.end_jobs js x).world
+jobs_ended : (spec : Spec) (last : Last) (js : List Job) (x : State) → IsScripted spec last x.world → IsScripted spec last (Jobs.end_jobs js x).world
 jobs_ended spec last [] x s = s
 jobs_ended spec last (j ∷ js) x s = jobs_ended spec last js (Jobs.end_job j x) (job_ended spec last j x s)
 
-pub adopted_there : (spec : Spec) (last : Option ℕ) (i : InstanceId) (session : Option SessionId) (x : State) → IsScripted spec last x.world → IsScripted spec last (Jobs.adopt_in i session x).world
+pub adopted_there : (spec : Spec) (last : Last) (i : InstanceId) (session : Option SessionId) (x : State) → IsScripted spec last x.world → IsScripted spec last (Jobs.adopt_in i session x).world
 adopted_there spec last i session x s =
     let y = Jobs.end_jobs (Jobs.jobs_of i x) x in
     participant_put spec last y.world i (adopt (participant_of y.world i) session) (jobs_ended spec last (Jobs.jobs_of i x) x s)
@@ -168,7 +172,7 @@ put-messages p bag [] all more = all
 put-messages p bag (m ∷ ms) all more =
     put-messages p (Jobs.put_in_bag bag m) ms (put-message p bag m all (and-first (p m) (list_all p ms) more)) (and-second (p m) (list_all p ms) more)
 
-pub bagged_there : (spec : Spec) (last : Option ℕ) (ms : List Message) (x : State) → IsScripted spec last x.world → list_all (is_fetched spec x.world.history) ms ≡ true
+pub bagged_there : (spec : Spec) (last : Last) (ms : List Message) (x : State) → IsScripted spec last x.world → list_all (is_fetched spec x.world.history) ms ≡ true
     → IsScripted spec last (Jobs.bagged ms x).world
 bagged_there spec last ms x s more =
     bag_there spec last x.world (Jobs.put_all x.world.bag ms) s (put-messages (is_fetched spec x.world.history) x.world.bag ms s.of.bag more)
@@ -194,19 +198,19 @@ fetch_fetched spec h i s n =
     ms (each-there ms)
 
 -- a message is handed out, and put back
-pub handed_there : (spec : Spec) (last : Option ℕ) (i : InstanceId) (m : Message) (is_failed : Bool) (x : State) → IsScripted spec last x.world
+pub handed_there : (spec : Spec) (last : Last) (i : InstanceId) (m : Message) (is_failed : Bool) (x : State) → IsScripted spec last x.world
     → IsScripted spec last (with_participant i (hand_out (participant_of x.world i) m is_failed) x).world
 handed_there spec last i m is_failed x s =
     participant_put spec last x.world i (hand_out (participant_of x.world i) m is_failed) s
     (handed_fetched spec x.world.history (participant_of x.world i) m is_failed (participant_there spec last x.world i s))
 
-pub put_back_there : (spec : Spec) (last : Option ℕ) (i : InstanceId) (m : Message) (handler : Option ℕ) (x : State) → IsScripted spec last x.world
+pub put_back_there : (spec : Spec) (last : Last) (i : InstanceId) (m : Message) (handler : Option ℕ) (x : State) → IsScripted spec last x.world
     → IsScripted spec last (Jobs.put_back i m handler x).world
 put_back_there spec last i m handler x s =
     participant_put spec last x.world i (finish (participant_of x.world i) m None handler) s
     (finished_fetched spec x.world.history (participant_of x.world i) m None handler (participant_there spec last x.world i s))
 
-pub accepted_there : (spec : Spec) (last : Option ℕ) (i : InstanceId) (m : Message) (x : State) → IsScripted spec last x.world → is_fetched spec x.world.history m ≡ true
+pub accepted_there : (spec : Spec) (last : Last) (i : InstanceId) (m : Message) (x : State) → IsScripted spec last x.world → is_fetched spec x.world.history m ≡ true
     → IsScripted spec last (with_participant i (accept (participant_of x.world i) m) x).world
 accepted_there spec last i m x s is =
     participant_put spec last x.world i (accept (participant_of x.world i) m) s

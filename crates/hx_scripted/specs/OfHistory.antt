@@ -7,8 +7,8 @@ use Rattle.hx_cluster.specs.declared.state.Message.{Message}
 use Rattle.hx_cluster.specs.declared.happenings.Event.{Event}
 use Rattle.hx_cluster.specs.Steps.{opening}
 use Rattle.hx_cluster.specs.Messages.{has_id}
-use Rattle.hx_cluster.specs.Events.{replay}
-use Rattle.hx_pass.specs.Lawful.{fetched_from, IsLawful}
+use Rattle.hx_cluster.specs.Events.{replay, IsLegal}
+use Rattle.hx_pass.specs.Lawful.{fetched_from}
 use Rattle.hx_replicas.specs.declared.slots.Work.{Work}
 use Rattle.hx_replicas.specs.declared.slots.Work.TheVariants.{Accepted}
 use Rattle.hx_replicas.specs.Participants.{Participant, Slot}
@@ -35,11 +35,11 @@ pub record IsTurnOf (spec : Spec) (h : List Event) (k : ControllerId) (x : Contr
   pub id : x.id ≡ k
   pub of_board : OfBoard spec h x
 
--- a world's history is lawful. It led to the world's cluster, and to the turns of its controllers; and all in the bag was fetched, and
+-- a world's history is legal. It led to the world's cluster, and to the turns of its controllers; and all in the bag was fetched, and
 -- all that participants have accepted
 pub record IsOfItsHistory (spec : Spec) (w : World) : Type 0 where
   pub given : w.spec ≡ spec
-  pub lawful : IsLawful spec w.history
+  pub legal : IsLegal (opening spec) w.history
   pub cluster : w.cluster ≡ replay (opening spec) w.history
   pub controllers : length w.controllers ≡ spec.controllers
   pub turns : (k : ControllerId) → IsTurnOf spec w.history k (controller_of w k)

@@ -17,17 +17,23 @@ ghost use Rattle.hx_lawful.specs.Holding.{HoldsOfLawful};
 ghost use Rattle.hx_scripted.specs.OfHistory.{IsOfItsHistory};
 
 /// A line that a world can be given next leaves it one of its history, whatever handlers answer,
-/// and also where the history has no room: the history stays lawful.
+/// and also where the history has no room. A history that was lawful stays lawful.
 pub fn lines_keep_worlds_of_their_histories()
-    ensures { (spec : Spec) (line : Line) (x : State) → IsValid spec → IsOfItsHistory spec x.world
-        → is_next_line spec x.world.cluster.line line ≡ true
+    ensures kept { (spec : Spec) (line : Line) (x : State) → IsValid spec
+        → IsOfItsHistory spec x.world → is_next_line spec x.world.cluster.line line ≡ true
         → IsOfItsHistory spec (state_of (do_line line x)).world }
+    ensures lawful { (spec : Spec) (line : Line) (x : State) → IsValid spec
+        → IsOfItsHistory spec x.world → IsLawful spec x.world.history
+        → is_next_line spec x.world.cluster.line line ≡ true
+        → IsLawful spec (state_of (do_line line x)).world.history }
 {}
 
 /// So does a settle by itself.
 pub fn settles_keep_worlds_of_their_histories()
-    ensures { (spec : Spec) (x : State) → IsValid spec → IsOfItsHistory spec x.world
+    ensures kept { (spec : Spec) (x : State) → IsValid spec → IsOfItsHistory spec x.world
         → IsOfItsHistory spec (state_of (settle x)).world }
+    ensures lawful { (spec : Spec) (x : State) → IsValid spec → IsOfItsHistory spec x.world
+        → IsLawful spec x.world.history → IsLawful spec (state_of (settle x)).world.history }
 {}
 
 /// The history of a script is lawful, if a world can be given its lines in turn.

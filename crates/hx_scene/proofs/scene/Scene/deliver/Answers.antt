@@ -1,5 +1,5 @@
-use Rattle.std.proofs.Common.{arith, None, Some, ap, sym, subst, ◌∙◌}
-use Rattle.hx_replicas.specs.Participants.{Participant, Fits}
+use Rattle.std.proofs.Common.{◌≡◌, true, arith, None, Some, ap, sym, subst, ◌∙◌}
+use Rattle.hx_replicas.specs.Participants.{Participant, Fits, is_session}
 use Rattle.hx_replicas.specs.Jobs.{ParticipantState}
 use Rattle.hx_scene.specs.Scenes.{SceneState}
 use Rattle.hx_scene.proofs.Reaching.{does_after}
@@ -28,7 +28,8 @@ pub deliver-requires-clause-fits : goal.deliver-requires-clause-fits
 deliver-requires-clause-fits g c κs within mine =
     let lt = has_staff _ c.self.invariant.0 c.args.instance (rw (← c.self.view_is) at c.requires.instance) in
     subst (λ (w : Participant). Fits w c.args.message.now) (sym (plain_reserved c.index_mut-participant.result.now c.reserve.new.self c.reserve.ensures.rest))
-    (fits_it c.args.instance c.args.message.now c.index_mut-participant.result.now lt c.index_mut-participant.ensures.value c.self.invariant.0 (rw (← c.self.view_is) at c.requires.bagged))
+    (fits_it c.args.instance c.args.message.now c.index_mut-participant.result.now lt c.index_mut-participant.ensures.value c.self.invariant.0 (rw (← c.self.view_is) at c.requires.bagged)
+    (subst (λ (w : Participant). is_session w.session c.args.message.now.session ≡ true) (plain_reserved c.index_mut-participant.result.now c.reserve.new.self c.reserve.ensures.rest) mine))
 
 pub invariant_of-self-in-Ok : goal.invariant_of-self-in-Ok
 invariant_of-self-in-Ok g c =
