@@ -1,10 +1,11 @@
 //! A controller: its number, where its turn is, and what the turn was shown.
-ghost use Rattle.std.specs.Prelude.{◌≡◌, length};
+ghost use Rattle.std.specs.Prelude.{◌≡◌, ◌↔◌, IsTrue, length};
 ghost use Rattle.hx_lists.specs.Lists.{count};
 ghost use Rattle.hx_cluster.specs.Reads.{nothing_shown};
 ghost use Rattle.hx_control.specs.Controllers.{idle_controller, stage};
 ghost use Rattle.hx_control.specs.Controllers.{is_mail_call, is_states_call};
 ghost use Rattle.hx_control.specs.Turning.{others_at};
+ghost use Rattle.hx_pass.specs.Turns.{idle_turn};
 
 use crate::Stage;
 use hx_cluster::{Begun, Ideals, Plan, View};
@@ -53,6 +54,32 @@ pub(crate) fn nothing_shown(alloc: Global) -> View
             resets: Seq::new(alloc),
         },
     }
+}
+
+/// Whether nothing was shown.
+fn shows_nothing(view: &View) -> bool
+    ensures { IsTrue result ↔ (view.now ≡ nothing_shown) }
+{
+    view.live.is_empty()
+        && view.mail.is_empty()
+        && view.rows.is_empty()
+        && view.ideals.resources.is_empty()
+        && view.ideals.drained.is_empty()
+        && view.ideals.resets.is_empty()
+}
+
+/// Whether no turn has begun.
+fn is_unbegun(begun: Begun) -> bool
+    ensures { IsTrue result ↔ (begun ≡ idle_turn.begun) }
+{
+    begun.epoch == Epoch(0) && begun.pass == PassNo(0) && begun.change == 0
+}
+
+/// Whether a turn begins next.
+fn is_first(next: Next) -> bool
+    ensures { IsTrue result ↔ (next ≡ Next.Begin) }
+{
+    matches!(next, Next::Begin)
 }
 
 /// A controller with its turn. Contracts see its number, the turn, and the plan where it was made.
@@ -115,6 +142,16 @@ impl Controller {
             Next::Send => Stage::Send,
             Next::Post => Stage::Post,
         }
+    }
+
+    /// Whether it is without a turn. It takes no memory.
+    pub fn idle(&self) -> bool
+        ensures { IsTrue result ↔ (self.now ≡ idle_controller self.now.id) }
+    {
+        is_first(self.next)
+            && is_unbegun(self.begun)
+            && shows_nothing(&self.view)
+            && self.plan.is_none()
     }
 
     /// How many sessions the turn was shown. It takes no memory.

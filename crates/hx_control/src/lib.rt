@@ -12,6 +12,7 @@ ghost use Rattle.hx_control.specs.OfBoard.{OfBoard, StepKeeps, is_own};
 
 mod controller;
 mod faults;
+pub mod laws;
 mod reads;
 mod sends;
 mod steps;

@@ -1,6 +1,7 @@
 //! Participants.
 ghost use Rattle.std.specs.Prelude.{◌≡◌, ◌+◌, ◌<◌, ◌≤◌, ◌==◌, Bool, true, false, List, [], length};
 ghost use Rattle.std.specs.Prelude.{map, vec_len, vec_capacity, None, Some, OnOk, OnErr, IfOk};
+ghost use Rattle.std.specs.Prelude.{slice_get};
 ghost use Rattle.std.specs.Prelude.{IfSome, IfNone, is_none, is_some, if◌then◌else◌, MatchResult};
 ghost use Rattle.std.specs.Option.{option_map, ForSome};
 ghost use Rattle.std.specs.List.{All};
@@ -135,6 +136,21 @@ impl<F: Factory> Participant<F> {
             None => None,
             Some(place) => self.slots[place].initial,
         }
+    }
+
+    /// How many slots it has, one for each part that it ever used.
+    pub fn slots(&self) -> usize
+        ensures { result ≡ length self.now.plain.slots }
+    {
+        self.slots.len()
+    }
+
+    /// The part of the slot in a place.
+    pub fn part_at(&self, place: usize) -> PartId
+        requires { place < length self.now.plain.slots }
+        ensures { option_map (λ x. x.part) (slice_get self.now.plain.slots place) ≡ Some result }
+    {
+        self.slots[place].part
     }
 
     /// How many parts have accepted a message in this session.
