@@ -1,4 +1,5 @@
 pub mod AllWords
+pub mod Entries
 mod Examples
 pub mod FormsAgain
 pub mod Joined

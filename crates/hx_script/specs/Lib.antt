@@ -8,3 +8,4 @@ pub mod Modes
 pub mod NewIdeals
 pub mod Ranges
 pub mod Asked
+pub mod History

@@ -3,6 +3,7 @@
 
 mod faults;
 mod forms;
+mod history;
 mod log;
 mod modes;
 mod parsing;
@@ -11,6 +12,7 @@ mod verbs;
 mod words;
 
 pub use faults::{ScriptFault, ScriptKind, ScriptRefusal};
+pub use history::{Printer, logs_grow_by_entries, print_history};
 use hx_ids::{ControllerId, InstanceId, ModelId, MsgId, StateId};
 use hx_lists::Seq;
 pub use hx_print::{Note, Word};

@@ -2,6 +2,7 @@ use hx_cluster::Spec;
 use std::alloc::Global;
 use std::test::Fail;
 
+mod histories;
 mod printing;
 mod scripts;
 
