@@ -14,3 +14,4 @@ pub mod Calling
 pub mod Words
 pub mod Settling
 pub mod Enough
+pub mod Ended

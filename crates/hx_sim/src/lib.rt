@@ -11,5 +11,7 @@ mod views;
 mod work;
 mod world;
 
+pub use hx_agree::agree;
+pub use settles::Settle;
 pub use summaries::summary_of;
 pub use world::World;

@@ -18,6 +18,15 @@ use hx_text::Page;
 use hx_worlds::{Settled, Voice};
 use std::alloc::AllocError;
 
+/// What a settle came to.
+#[derive(Debug, PartialEq, Drop)]
+pub enum Settle {
+    /// Nobody leads.
+    NoLeader,
+    /// Where every replica stands is explained: after so many rounds, the last one among them.
+    Settled { passes: u64, report: Report },
+}
+
 /// How many parts there are.
 fn all_parts(resources: &[Resource]) -> Option<u64>
     ensures { IfSome result (λ parts. parts ≡ all_parts resources.now) }

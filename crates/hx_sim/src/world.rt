@@ -1,12 +1,17 @@
 //! A world: a board with controllers and participants, one script line at a time.
 
 ghost use Rattle.std.specs.Prelude.{◌≡◌, true, [], Some, IfOk};
-ghost use Rattle.hx_board.specs.Board.{next_line_of};
-ghost use Rattle.hx_worlds.specs.Scripts.{is_next_line, do_line};
-ghost use Rattle.hx_worlds.specs.Settles.{settle as settles};
+ghost use Rattle.std.specs.List.{All};
+ghost use Rattle.hx_board.specs.Board.{HasHistory, next_line_of};
+ghost use Rattle.hx_worlds.specs.Scripts.{do_line, is_next_line};
+ghost use Rattle.hx_worlds.specs.Agree.{Agree, stationed_from};
+ghost use Rattle.hx_agreed.specs.OfParts.{IsOrderly};
 ghost use Rattle.hx_scene.specs.Kept.{IsScene};
-ghost use Rattle.hx_scene.specs.Doing.{Does, DoesDeed};
+ghost use Rattle.hx_scene.specs.Ending.{plain_staff};
+ghost use Rattle.hx_scene.specs.Doing.{DoesDeed};
+ghost use Rattle.hx_sim.specs.Settling.{Settles};
 
+use crate::settles::Settle;
 use hx_board::{Board, RoomFault};
 use hx_cluster::Spec;
 use hx_control::Controller;
@@ -43,15 +48,10 @@ impl<F: Factory> World<F> {
         controllers: Vec<Controller>,
         participants: Vec<Participant<F>>,
     ) -> Result<World<F>, AllocError>
-        requires { IsScene (record {
-          spec = spec;
-          board = board;
-          controllers = controllers.items;
-          staff = participants.items;
-          jobs = [];
-          bag = [];
-          handed = 0;
-        }) }
+        requires history { HasHistory board }
+        requires orderly { All IsOrderly (plain_staff participants.items) }
+        requires agree { Agree spec (record { spec = board.spec; history = board.history })
+            controllers.items (stationed_from 0 (plain_staff participants.items)) }
         ensures { IfOk result (λ world. world ≡ record {
           spec = spec;
           board = board;
@@ -92,10 +92,18 @@ impl<F: Factory> World<F> {
         self.what(Voice::Loud(line.number), &line.what, out)
     }
 
-    /// Settles the cluster, if somebody leads, and prints the log of it.
-    pub fn settle(&mut self, out: &mut Page) -> Result<Option<Settled>, RoomFault>
-        ensures { Does (λ x. settles x) (λ s. s) self.old out.old self.new out.new result }
+    /// Settles the cluster, if somebody leads. Its log is printed nowhere.
+    pub fn settle(&mut self) -> Result<Settle, RoomFault>
+        ensures { Settles self.old self.new result }
     {
-        self.settle_led(out)
+        self.scene.board();
+        let mut log = Page::new(self.scene.alloc());
+        let Some(Settled { passes, report }) = self.settle_led(&mut log)? else {
+            return Ok(Settle::NoLeader);
+        };
+        match report {
+            Some(report) => Ok(Settle::Settled { passes, report }),
+            None => unreachable!(),
+        }
     }
 }
