@@ -1,6 +1,8 @@
 -- A run keeps what its status promises.
 use Rattle.std.proofs.Common.{◌≡◌, ℕ, ◌<◌, ◌≤◌, List, [], ◌∷◌, length, map, Result, Ok, Err, ◌⊎◌, refl, sym, ap, subst, ◌∙◌, inl, inr, arith}
 use Rattle.std.specs.Io.KnownBytes.{Consumes, IsAtEnd}
+use Rattle.hx_words.specs.declared.RunMode.{RunMode}
+use Rattle.hx_words.specs.declared.RunMode.TheVariants as modes
 use Rattle.hx_words.specs.declared.Task.{Task}
 use Rattle.hx_words.specs.declared.Words.{Words}
 use Rattle.hx_words.specs.declared.Words.TheVariants as asks
@@ -8,26 +10,26 @@ use Rattle.hx_words.specs.declared.WordsFault.{WordsFault}
 use Rattle.hx_words.specs.declared.WordsFault.TheVariants as faults
 use Rattle.hx_words.specs.Tasks.{HoldsOfAsked}
 use Rattle.hx_replies.specs.Constants.{most_bytes, no_memory}
-use Rattle.hx_replies.specs.Answers.{Answer, answer_of, usage, version, words_refused}
+use Rattle.hx_replies.specs.Answers.{Answer, answer_to, usage, version, words_refused}
 use Rattle.hx_app.specs.Writes.{SinkAt, Writes}
-use Rattle.hx_app.specs.Runs.{SourceAt, Runs, Tells, RunsWords, HoldsOfTold}
-use Rattle.hx_replies.proofs.SafeScripts.{run_safe}
+use Rattle.hx_app.specs.Runs.{SourceAt, RunsIn, RunsInput, Tells, RunsWords, HoldsOfTold}
+use Rattle.hx_replies.proofs.Given.{run_sound}
 
 same_answer : (status : ℕ) (text : List ℕ) (a : Answer) → status ≡ a.status → text ≡ a.text → record { status = status; text = text } ≡ a
 same_answer status text a status_is text_is = rw (status_is, text_is) refl
 
 -- the answer to an input that was read is written
-pub runs_answer : (task : Task) (source source' : SourceAt) (sink sink' : SinkAt) (bytes text : List ℕ) (status result : ℕ)
+pub runs_answer : (source source' : SourceAt) (sink sink' : SinkAt) (bytes text : List ℕ) (status result : ℕ)
     → Consumes source.left source'.left bytes → IsAtEnd source'.left → length bytes ≤ most_bytes → source.faults ≤ source'.faults
-    → status ≡ (answer_of task bytes).status → text ≡ (answer_of task bytes).text
+    → status ≡ (answer_to bytes).status → text ≡ (answer_to bytes).text
     → Writes (record { status = status; text = text }) sink sink' result
-    → Runs task source source' sink sink' result
-runs_answer task source source' sink sink' bytes text status result given end short later status_is text_is w =
+    → RunsInput source source' sink sink' result
+runs_answer source source' sink sink' bytes text status result given end short later status_is text_is w =
     let answer : Answer = record { status = status; text = text } in
     record {
       ended = inl (
         answer,
-        inl (bytes, record { given = given; end = end; short = short; safe = run_safe bytes }, same_answer status text (answer_of task bytes) status_is text_is),
+        inl (bytes, record { given = given; end = end; short = short; sound = run_sound bytes }, same_answer status text (answer_to bytes) status_is text_is),
         w,
       );
       source_later = later;
@@ -41,8 +43,12 @@ as_asked asked found source source' sink sink' status is runs =
     let P : Result Words WordsFault → Type 0 = λ r. RunsWords source source' sink sink' status r in subst P (sym is) runs
 
 -- memory was wanted before anything was read or written
+run_unheard : (mode : RunMode) (task : Task) (source : SourceAt) (sink : SinkAt) → RunsIn mode task source source sink sink no_memory
+run_unheard modes.Sim task source sink = record { ended = inr (record { wanted = refl; got = refl }); source_later = omega arith; sink_later = omega arith }
+run_unheard modes.Gen task source sink = record { ended = inr (refl, refl); unread = refl }
+
 pub words_unheard : (asked : Result Words WordsFault) (source : SourceAt) (sink : SinkAt) → RunsWords source source sink sink no_memory asked
-words_unheard (Ok (asks.Run task)) source sink = record { ended = inr (record { wanted = refl; got = refl }); source_later = omega arith; sink_later = omega arith }
+words_unheard (Ok (asks.Run task)) source sink = run_unheard task.mode task source sink
 words_unheard (Ok asks.Help) source sink = record { ended = inr (refl, refl); unread = refl }
 words_unheard (Ok asks.Version) source sink = record { ended = inr (refl, refl); unread = refl }
 words_unheard (Err faults.Refused) source sink = record { ended = inr (refl, refl); unread = refl }

@@ -5,6 +5,8 @@ use Rattle.std.specs.declared.io.ErrorKind.{ErrorKind}
 use Rattle.std.specs.declared.io.ErrorKind.TheVariants as kinds
 use Rattle.hx_lists.specs.Counts.{Rose}
 use Rattle.hx_io.specs.Whole.{Gave}
+use Rattle.hx_words.specs.declared.RunMode.{RunMode}
+use Rattle.hx_words.specs.declared.RunMode.TheVariants as modes
 use Rattle.hx_words.specs.declared.Task.{Task}
 use Rattle.hx_words.specs.declared.Words.{Words}
 use Rattle.hx_words.specs.declared.Words.TheVariants as asks
@@ -12,8 +14,8 @@ use Rattle.hx_words.specs.declared.WordsFault.{WordsFault}
 use Rattle.hx_words.specs.declared.WordsFault.TheVariants as faults
 use Rattle.hx_words.specs.Tasks.{HoldsOfAsked}
 use Rattle.hx_replies.specs.Constants.{most_bytes, no_memory}
-use Rattle.hx_replies.specs.History.{IsSafeRun}
-use Rattle.hx_replies.specs.Answers.{Answer, answer_of, usage, version, words_refused, read_fault, too_long}
+use Rattle.hx_replies.specs.History.{IsSoundRun}
+use Rattle.hx_replies.specs.Answers.{Answer, answer_to, generated_answer, usage, version, words_refused, read_fault, too_long}
 use Rattle.hx_app.specs.Writes.{SinkAt, Writes}
 
 -- a source at one moment: the bytes that are left, where it tells them, and how many calls have failed
@@ -21,12 +23,13 @@ pub record SourceAt : Type 0 where
   pub left : Option (List ℕ)
   pub faults : ℕ
 
--- the source was read to its end and gave these bytes. They aren't too many, and their run is safe
+-- the source was read to its end and gave these bytes. They aren't too many, and the history of their run is sound: lawful, safe at each
+-- place, with one run of each taken message, and without a refused proposal
 pub record IsRead (old new : SourceAt) (bytes : List ℕ) : Type 0 where
   pub given : Consumes old.left new.left bytes
   pub end : IsAtEnd new.left
   pub short : length bytes ≤ most_bytes
-  pub safe : IsSafeRun bytes
+  pub sound : IsSoundRun bytes
 
 -- the source failed before it gave too many bytes
 pub record IsFailed (old new : SourceAt) : Type 0 where
@@ -37,10 +40,10 @@ pub record IsFailed (old new : SourceAt) : Type 0 where
 abbrev pub IsTooLong : SourceAt → SourceAt → Type 0
 IsTooLong old new = Gave old.left new.left (λ bytes. most_bytes < length bytes)
 
--- what became of the source calls for an answer of the task
-abbrev pub CallsFor : Task → SourceAt → SourceAt → Answer → Type 0
-CallsFor task old new answer =
-    ((bytes : List ℕ) × IsRead old new bytes × (answer ≡ answer_of task bytes))
+-- what became of the source calls for an answer
+abbrev pub CallsFor : SourceAt → SourceAt → Answer → Type 0
+CallsFor old new answer =
+    ((bytes : List ℕ) × IsRead old new bytes × (answer ≡ answer_to bytes))
     ⊎ (IsFailed old new × (answer ≡ read_fault))
     ⊎ (IsTooLong old new × (answer ≡ too_long))
 
@@ -49,18 +52,31 @@ pub record IsUnwritten (old new : SinkAt) (status : ℕ) : Type 0 where
   pub wanted : status ≡ no_memory
   pub got : new.got ≡ old.got
 
--- a run of a task on a source and a sink. Their counts of faults never fall
-pub record Runs (task : Task) (source source' : SourceAt) (sink sink' : SinkAt) (status : ℕ) : Type 0 where
+-- the run of an input on a source and a sink. Their counts of faults never fall
+pub record RunsInput (source source' : SourceAt) (sink sink' : SinkAt) (status : ℕ) : Type 0 where
   pub ended :
-      ((answer : Answer) × CallsFor task source source' answer × Writes answer sink sink' status)
+      ((answer : Answer) × CallsFor source source' answer × Writes answer sink sink' status)
       ⊎ IsUnwritten sink sink' status
   pub source_later : source.faults ≤ source'.faults
   pub sink_later : sink.faults ≤ sink'.faults
 
--- an answer to the words alone: nothing is read
+-- an answer was written, whole or cut; or memory was wanted, and nothing was written
+abbrev pub EndsTold : Answer → SinkAt → SinkAt → ℕ → Type 0
+EndsTold answer sink sink' status = Writes answer sink sink' status ⊎ ((status ≡ no_memory) × (sink' ≡ sink))
+
+-- an answer for which nothing is read
 pub record Tells (answer : Answer) (source source' : SourceAt) (sink sink' : SinkAt) (status : ℕ) : Type 0 where
-  pub ended : Writes answer sink sink' status ⊎ ((status ≡ no_memory) × (sink' ≡ sink))
+  pub ended : EndsTold answer sink sink' status
   pub unread : source' ≡ source
+
+-- a run of a task. Where its input is generated nothing is read
+abbrev pub RunsIn : RunMode → Task → SourceAt → SourceAt → SinkAt → SinkAt → ℕ → Type 0
+RunsIn modes.Sim task source source' sink sink' status = RunsInput source source' sink sink' status
+RunsIn modes.Gen task source source' sink sink' status =
+    Tells (generated_answer task) source source' sink sink' status
+
+abbrev pub Runs : Task → SourceAt → SourceAt → SinkAt → SinkAt → ℕ → Type 0
+Runs task source source' sink sink' status = RunsIn task.mode task source source' sink sink' status
 
 -- what the words ask for is done. For want of memory nothing is read or written
 abbrev pub RunsWords : SourceAt → SourceAt → SinkAt → SinkAt → ℕ → Result Words WordsFault → Type 0

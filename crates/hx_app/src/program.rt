@@ -3,13 +3,13 @@ ghost use Rattle.std.specs.Prelude.{◌<◌, length, map, Err, MatchResult};
 ghost use Rattle.std.specs.String.{string_bytes};
 ghost use Rattle.std.specs.IoError.{error_kind};
 ghost use Rattle.hx_words.specs.Tasks.{HasRanges, HoldsOfAsked};
-ghost use Rattle.hx_replies.specs.Answers.{words_refused};
+ghost use Rattle.hx_replies.specs.Answers.{generated_answer, words_refused};
 ghost use Rattle.hx_app.specs.Writes.{Writes};
-ghost use Rattle.hx_app.specs.Runs.{Runs, RunsWords, HoldsOfTold, untold_by};
+ghost use Rattle.hx_app.specs.Runs.{EndsTold, Runs, RunsInput, RunsWords, HoldsOfTold, untold_by};
 
 use hx_io::{ReadFault, Sink, Source, read_all, write_all};
-use hx_replies::{MOST_BYTES, Status, answer};
-use hx_words::{Task, Words, WordsFault, read_words, usage, version};
+use hx_replies::{MOST_BYTES, Status, answer, generated};
+use hx_words::{RunMode, Task, Words, WordsFault, read_words, usage, version};
 use std::alloc::{AllocError, Global};
 use std::io;
 use std::io::ErrorKind;
@@ -39,14 +39,43 @@ pub fn run_script<S: Source, K: Sink>(alloc: Global, task: Task, src: &mut S, ou
         (record { got = K.got out.new; faults = K.faults out.new })
         result.0 }
 {
+    match task.mode {
+        RunMode::Sim => run_input(alloc, src, out),
+        RunMode::Gen => run_generated(alloc, task, out),
+    }
+}
+
+/// Runs the input that the source gives.
+fn run_input<S: Source, K: Sink>(alloc: Global, src: &mut S, out: &mut K) -> Status
+    ensures { RunsInput
+        (record { left = S.left src.old; faults = S.faults src.old })
+        (record { left = S.left src.new; faults = S.faults src.new })
+        (record { got = K.got out.old; faults = K.faults out.old })
+        (record { got = K.got out.new; faults = K.faults out.new })
+        result.0 }
+{
     let bytes = match read_all(alloc, src, MOST_BYTES) {
         Ok(bytes) => bytes,
         Err(ReadFault::Failed) => return write(Status::READ_FAULT, b"read fault\n", out),
         Err(ReadFault::TooLong) => return write(Status::TOO_LONG, b"input too long\n", out),
         Err(ReadFault::OutOfMemory) => return Status::NO_MEMORY,
     };
-    match answer(alloc, task, &bytes) {
+    match answer(alloc, &bytes) {
         Ok(reply) => write(reply.status, reply.text.as_bytes(), out),
+        Err(AllocError) => Status::NO_MEMORY,
+    }
+}
+
+/// Runs the input that a task generates.
+fn run_generated<K: Sink>(alloc: Global, task: Task, out: &mut K) -> Status
+    requires { HasRanges task }
+    ensures { EndsTold (generated_answer task)
+        (record { got = K.got out.old; faults = K.faults out.old })
+        (record { got = K.got out.new; faults = K.faults out.new })
+        result.0 }
+{
+    match generated(alloc, task) {
+        Ok(made) => write(made.status, made.text.as_bytes(), out),
         Err(AllocError) => Status::NO_MEMORY,
     }
 }

@@ -70,13 +70,52 @@ line 5
 = db#0/1 n1:ONLINE
 ";
 
-/// A valid description that isn't the demo's.
-const ONE_PARTITION: &str =
-    r#"{"version":1,"controllers":2,"timeout":30,"instances":["n1","n2","n3"],
+/// Sessions that end thirty ticks after their last beat, and two that begin anew.
+const TICKS: &str = r#"{"version":1,"controllers":2,"timeout":30,"instances":["n1","n2","n3"],
  "resources":[{"name":"db","model":"MasterSlave","replicas":3,"partitions":1,
  "mode":"SEMI_AUTO","lists":[["n1","n2","n3"]]}]}
 ---
+join n1
+join n2
+tick 10
+beat n2
+tick 19
+tick 1
+tick 10
+join n2
+join n1
+beat n2
+tick 30
 "#;
+
+const ITS_ENDS: &str = "line 1
+join n1 s1
+line 2
+join n2 s2
+line 3
+tick 10
+line 4
+beat n2 s2
+line 5
+tick 19
+line 6
+tick 1
+  end n1 s1
+line 7
+tick 10
+  end n2 s2
+line 8
+join n2 s3
+line 9
+join n1 s4
+line 10
+beat n2 s3
+line 11
+tick 30
+  end n1 s4
+  end n2 s3
+= db#0/0 -
+";
 
 const UNKNOWN_INSTANCE: &str =
     r#"{"version":1,"controllers":2,"timeout":30,"instances":["n1","n2","n3"],
@@ -100,6 +139,12 @@ fn inputs_are_answered(rt: HostRuntime) -> Result<(), Fail> {
         (EMPTY, Status::DONE, EMPTY_VIEW),
         (ONE_INSTANCE, Status::DONE, ITS_OUTPUT),
         (
+            "builtin demo\n---\npass c1\nwork n3\n",
+            Status::DONE,
+            "line 1\n! 1 not-leader -\nline 2\nfetch n3 - 0\n= db#0/0 -\n= db#0/1 -\n",
+        ),
+        (TICKS, Status::DONE, ITS_ENDS),
+        (
             "builtin demo\n",
             Status::DESCRIPTION_REFUSED,
             "description no-separator $\n",
@@ -120,11 +165,6 @@ fn inputs_are_answered(rt: HostRuntime) -> Result<(), Fail> {
             "description zero-bound $.models[0].states[0].bound\n",
         ),
         (
-            ONE_PARTITION,
-            Status::DESCRIPTION_REFUSED,
-            "description not-built $\n",
-        ),
-        (
             "builtin demo\n---\njoin n1\nsettle\njion n1\n",
             Status::SCRIPT_REFUSED,
             "script 3 unknown-word\n",
@@ -133,11 +173,6 @@ fn inputs_are_answered(rt: HostRuntime) -> Result<(), Fail> {
             "builtin demo\n---\ntick 1\nwork n9\n",
             Status::SCRIPT_REFUSED,
             "script 2 unknown-instance\n",
-        ),
-        (
-            "builtin demo\n---\n#\ntick 1\n",
-            Status::SCRIPT_REFUSED,
-            "script 2 not-built\n",
         ),
     ] {
         let ran = run_on(rt.alloc(), input, &[], PLENTY)?;
@@ -214,6 +249,17 @@ fn words_are_answered(rt: HostRuntime) -> Result<(), Fail> {
             [name, b"--mode=sim".as_slice()].as_slice(),
             Status::DONE,
             EMPTY_VIEW,
+        ),
+        (
+            [
+                name,
+                b"--mode=gen".as_slice(),
+                b"--seed=7".as_slice(),
+                b"--size=64".as_slice(),
+            ]
+            .as_slice(),
+            Status::DONE,
+            "= summary sent 1472 ok 1472 failed 0 sessions 12 ended 0\n",
         ),
         (
             [name, b"--version".as_slice()].as_slice(),

@@ -1,19 +1,16 @@
 -- What is found of an input whose parts were read.
-use Rattle.std.proofs.Common.{◌≡◌, ℕ, List, length, None, Some, Result, Ok, Err, refl, sym, subst, ◌∙◌}
+use Rattle.std.proofs.Common.{◌≡◌, ℕ, List, Some, Result, Ok, Err, refl, sym, subst, ◌∙◌}
 use Rattle.std.specs.Prelude.{IfErr, IsErrAnd}
-use Rattle.hx_text.specs.Lines.{cut_of, lines_of}
+use Rattle.hx_text.specs.Lines.{cut_of}
 use Rattle.hx_cluster.specs.declared.description.Spec.{Spec}
-use Rattle.hx_script.specs.declared.Line.{Line}
 use Rattle.hx_script.specs.declared.faults.ScriptRefusal.{ScriptRefusal}
 use Rattle.hx_script.specs.declared.faults.ScriptRefusal.TheVariants as scripts
-use Rattle.hx_desc.specs.Demo.{demo}
 use Rattle.hx_desc.specs.Description.{input_spec}
 use Rattle.hx_replies.specs.declared.input.Scenario.{Scenario}
 use Rattle.hx_replies.specs.declared.input.InputFault.{InputFault}
 use Rattle.hx_replies.specs.declared.input.InputRefusal.{InputRefusal}
-use Rattle.hx_replies.specs.Input.{script_in, not_built_of, scenario_in, scenario_of}
+use Rattle.hx_replies.specs.Input.{script_in, scenario_in, scenario_of}
 use Rattle.hx_replies.specs.Refusals.{Refuses, RefusesScript, by_script}
-use Rattle.hx_replies.proofs.Scenarios.{is_run}
 
 -- the description and the cut are there: the rest is found of the script
 found_in : (bytes description script : List ℕ) (spec : Spec) → input_spec bytes ≡ Ok spec → Some (description, script) ≡ cut_of bytes → scenario_of bytes ≡ scenario_in (description, script) spec
@@ -28,11 +25,3 @@ script_refused bytes description script spec (scripts.Fault f) is cut refused = 
 pub handed_on : {A : Type 0} (r : Result A InputRefusal) (refusal : InputRefusal) (found : Result Scenario InputFault) → IsErrAnd r (λ e. e ≡ refusal) → Refuses found refusal → IfErr r (Refuses found)
 handed_on (Ok x) refusal found is refused = tt
 handed_on (Err e) refusal found is refused = let P : InputRefusal → Type 0 = λ x. Refuses found x in subst P (sym is) refused
-
-pub is_demo_there : (bytes description script : List ℕ) (spec new : Spec) (lines : List Line) (count : ℕ) → input_spec bytes ≡ Ok spec → Some (description, script) ≡ cut_of bytes
-    → script_in script spec ≡ Ok (lines, new) → count ≡ length (lines_of script) → not_built_of description count lines ≡ None → new ≡ demo
-is_demo_there bytes description script spec new lines count is cut read count_is built =
-    let s : Scenario = record { spec = new; lines = lines } in
-    let unbuilt : not_built_of description (length (lines_of script)) lines ≡ None = rw (← count_is) built in
-    let found : scenario_in (description, script) spec ≡ Ok s = rw (read, unbuilt) refl in
-    (is_run bytes s (found_in bytes description script spec is cut ∙ found)).spec

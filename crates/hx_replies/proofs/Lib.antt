@@ -1,12 +1,11 @@
-mod Examples
-pub mod Items
-pub mod Kept
-pub mod InDemo
-pub mod Proposed
-pub mod Histories
 pub mod Parts
 pub mod Described
-pub mod Named
-pub mod Scenarios
+pub mod Given
 pub mod Inputs
-pub mod SafeScripts
+pub mod Numbers
+pub mod Along
+pub mod Staff
+pub mod Opening
+pub mod Ended
+pub mod Answered
+pub mod Made

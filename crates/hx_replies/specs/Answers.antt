@@ -1,16 +1,16 @@
 -- The status and the text that answer words and an input.
-use Rattle.std.specs.Prelude.{◌≡◌, ℕ, List, ◌++◌, Result, Ok, Err, codes, decimal}
-use Rattle.hx_cluster.specs.Steps.{opening}
+use Rattle.std.specs.Prelude.{◌≡◌, ℕ, Bool, true, false, List, ◌++◌, Result, Ok, Err, codes, decimal}
 use Rattle.hx_words.specs.Usage.{usage_text, version_text}
-use Rattle.hx_words.specs.declared.RunMode.{RunMode}
-use Rattle.hx_words.specs.declared.RunMode.TheVariants as modes
 use Rattle.hx_words.specs.declared.Task.{Task}
+use Rattle.hx_genwork.specs.Made.{made}
+use Rattle.hx_print.specs.Texts.{history_full_text}
+use Rattle.hx_worlds.specs.Runs.{Deed, GoesOn, Stops}
+use Rattle.hx_worlds.specs.Scripts.{sim_run, sim_text, is_full_after}
+use Rattle.hx_worlds.specs.Summaries.{summary_of}
 use Rattle.hx_replies.specs.Constants as statuses
-use Rattle.hx_replies.specs.FirstPath.{script_text}
 use Rattle.hx_replies.specs.KindNames.{desc_kind_name, script_kind_name}
 use Rattle.hx_replies.specs.declared.reply.Reply.{Reply}
 use Rattle.hx_replies.specs.declared.input.Scenario.{Scenario}
-use Rattle.hx_replies.specs.declared.input.NotBuilt.TheVariants as unbuilt
 use Rattle.hx_replies.specs.declared.input.InputFault.{InputFault}
 use Rattle.hx_replies.specs.declared.input.InputFault.TheVariants as faults
 use Rattle.hx_replies.specs.Input.{scenario_of}
@@ -29,26 +29,34 @@ fault_answer (faults.Script f) = record {
   status = statuses.script_refused;
   text = codes "script " ++ decimal f.line ++ codes " " ++ script_kind_name f.kind ++ codes "\n";
 }
-fault_answer (faults.NotBuilt unbuilt.Description) = record {
-  status = statuses.description_refused;
-  text = codes "description not-built $\n";
-}
-fault_answer (faults.NotBuilt (unbuilt.Line n)) = record {
-  status = statuses.script_refused;
-  text = codes "script " ++ decimal n ++ codes " not-built\n";
-}
 
--- one that is
-abbrev pub answer_by : Result Scenario InputFault → Answer
-answer_by (Ok s) = record { status = statuses.done; text = script_text s.spec (opening s.spec) s.lines }
-answer_by (Err f) = fault_answer f
+-- a script that is run to its end, or up to where the history has no room
+abbrev pub ended_status : Bool → ℕ
+ended_status true = statuses.history_full
+ended_status false = statuses.done
 
--- the answer to an input that was read, in a mode and for a task
-abbrev pub answer_in : RunMode → List ℕ → Answer
-answer_in modes.Sim bytes = answer_by (scenario_of bytes)
+abbrev pub sim_answer : Scenario → Answer
+sim_answer s = record { status = ended_status (is_full_after s.spec s.lines); text = sim_text s.spec s.lines }
 
-abbrev pub answer_of : Task → List ℕ → Answer
-answer_of task bytes = answer_in task.mode bytes
+-- the same, of which the summary alone is told, or that the history is full
+abbrev pub summary_text : Deed → List ℕ
+summary_text (GoesOn items x answer) = summary_of x.world.history
+summary_text (Stops items x) = history_full_text x.world.weight
+
+abbrev pub summary_answer : Scenario → Answer
+summary_answer s = record { status = ended_status (is_full_after s.spec s.lines); text = summary_text (sim_run s.spec s.lines) }
+
+-- the answer to an input that was read
+abbrev pub answer_by : (Scenario → Answer) → Result Scenario InputFault → Answer
+answer_by run (Ok s) = run s
+answer_by run (Err f) = fault_answer f
+
+abbrev pub answer_to : List ℕ → Answer
+answer_to bytes = answer_by sim_answer (scenario_of bytes)
+
+-- the answer to a generated input, which nobody gives
+abbrev pub generated_answer : Task → Answer
+generated_answer task = answer_by summary_answer (scenario_of (made task.seed task.size))
 
 -- the other answers
 abbrev pub usage : Answer

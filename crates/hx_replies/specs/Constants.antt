@@ -25,6 +25,10 @@ write_fault = 6
 abbrev pub no_memory : ℕ
 no_memory = 7
 
+-- the history has no room
+abbrev pub history_full : ℕ
+history_full = 8
+
 -- the input is too long
 abbrev pub too_long : ℕ
 too_long = 10
@@ -36,7 +40,3 @@ most_bytes = 16777216
 -- the most bytes that a line of a script has
 abbrev pub most_line : ℕ
 most_line = 16384
-
--- how many lines a script may have so far, comments among them
-abbrev pub most_lines : ℕ
-most_lines = 1000

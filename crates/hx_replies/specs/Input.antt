@@ -5,17 +5,13 @@ use Rattle.hx_text.specs.Lines.{cut_of, lines_of}
 use Rattle.hx_text.specs.declared.line_table.TextFault.{TextFault}
 use Rattle.hx_text.specs.declared.line_table.TextFault.TheVariants as texts
 use Rattle.hx_cluster.specs.declared.description.Spec.{Spec}
-use Rattle.hx_script.specs.declared.What.{What}
-use Rattle.hx_script.specs.declared.What.TheVariants as asks
 use Rattle.hx_script.specs.declared.Line.{Line}
 use Rattle.hx_script.specs.declared.faults.ScriptKind.TheVariants as kinds
 use Rattle.hx_script.specs.declared.faults.ScriptFault.{ScriptFault}
 use Rattle.hx_script.specs.Grammar.{then_ok, script_of}
-use Rattle.hx_desc.specs.Description.{is_demo, input_spec}
-use Rattle.hx_replies.specs.Constants.{most_line, most_lines}
+use Rattle.hx_desc.specs.Description.{input_spec}
+use Rattle.hx_replies.specs.Constants.{most_line}
 use Rattle.hx_replies.specs.declared.input.Scenario.{Scenario}
-use Rattle.hx_replies.specs.declared.input.NotBuilt.{NotBuilt}
-use Rattle.hx_replies.specs.declared.input.NotBuilt.TheVariants as unbuilt
 use Rattle.hx_replies.specs.declared.input.InputFault.{InputFault}
 use Rattle.hx_replies.specs.declared.input.InputFault.TheVariants as faults
 
@@ -36,36 +32,6 @@ unless_fault (Some f) read = Err f
 abbrev pub script_in : List ℕ → Spec → Result (List Line × Spec) ScriptFault
 script_in script spec = unless_fault (text_fault script) (script_of (lines_of script) spec)
 
--- the words that are built so far, and the first line with another
-abbrev pub is_built : What → Bool
-is_built (asks.Join i) = true
-is_built (asks.Lead k) = true
-is_built (asks.Pass k) = true
-is_built (asks.Work i) = true
-is_built asks.View = true
-is_built _ = false
-
-abbrev pub first_unbuilt : List Line → Option ℕ
-first_unbuilt lines = option_map (λ l. l.number) (find (λ l. not (is_built l.what)) lines)
-
--- the first line past those that a script may have
-abbrev pub line_past : ℕ → Option ℕ
-line_past count = if nat_lt most_lines count then Some (most_lines + 1) else None
-
-abbrev pub lower : Option ℕ → Option ℕ → Option ℕ
-lower None m = m
-lower (Some n) None = Some n
-lower (Some n) (Some m) = Some (min n m)
-
--- what is valid and isn't built so far, in an input of so many script lines
-abbrev pub not_built_of : List ℕ → ℕ → List Line → Option NotBuilt
-not_built_of description count lines =
-    if is_demo description then option_map unbuilt.Line (lower (first_unbuilt lines) (line_past count)) else Some unbuilt.Description
-
-abbrev pub if_built : Option NotBuilt → Scenario → Result Scenario InputFault
-if_built None scenario = Ok scenario
-if_built (Some part) scenario = Err (faults.NotBuilt part)
-
 -- a fault of a part is a fault of the input
 abbrev pub map_err : {A E F : Type 0} → (E → F) → Result A E → Result A F
 map_err f (Ok x) = Ok x
@@ -73,10 +39,8 @@ map_err f (Err e) = Err (f e)
 
 -- the script of an input in two parts, whose first describes the cluster
 abbrev pub scenario_in : List ℕ × List ℕ → Spec → Result Scenario InputFault
-scenario_in parts spec =
-    then_ok (map_err faults.Script (script_in parts.1 spec)) (λ read.
-    if_built (not_built_of parts.0 (length (lines_of parts.1)) read.0) (record { spec = read.1; lines = read.0 }))
+scenario_in parts spec = then_ok (map_err faults.Script (script_in parts.1 spec)) (λ read. Ok (record { spec = read.1; lines = read.0 }))
 
--- the first fault of the description, or else of the script, or else what isn't built; or what the input asks for
+-- the first fault of the description, or else of the script; or what the input asks for
 abbrev pub scenario_of : List ℕ → Result Scenario InputFault
 scenario_of bytes = then_ok (map_err faults.Description (input_spec bytes)) (scenario_in (unwrap_or (cut_of bytes) ([], [])))

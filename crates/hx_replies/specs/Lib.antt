@@ -1,10 +1,7 @@
 pub mod Constants
-pub mod Demo
-pub mod DemoPlan
-pub mod FirstPath
 pub mod Input
 pub mod KindNames
 pub mod History
+pub mod Simulation
 pub mod Answers
 pub mod Refusals
-pub mod Brings

@@ -26,6 +26,9 @@ impl Status {
     /// Memory was wanted.
     pub const NO_MEMORY: Status = Status(7);
 
+    /// The history has no room.
+    pub const HISTORY_FULL: Status = Status(8);
+
     /// The input is too long.
     pub const TOO_LONG: Status = Status(10);
 }
@@ -36,5 +39,5 @@ pub const MOST_BYTES: usize = 16_777_216;
 /// The most bytes that a line of a script has.
 pub(crate) const MOST_LINE: usize = 16_384;
 
-/// How many lines a script may have so far, comments among them.
-pub(crate) const MOST_LINES: u32 = 1000;
+/// What the history of a run may weigh.
+pub(crate) const MOST_WEIGHT: u64 = 4_000_000;

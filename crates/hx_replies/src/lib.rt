@@ -2,13 +2,11 @@
 #![tactic(auto)]
 
 mod constants;
-mod demo_plan;
 mod input;
 mod kind_names;
 pub mod laws;
 mod reply;
-mod script;
-mod world;
+mod simulation;
 
 pub use constants::{MOST_BYTES, Status};
-pub use reply::{Reply, answer};
+pub use reply::{Reply, answer, generated};

@@ -1,16 +1,31 @@
 //! The answer to an input: a status with its text.
-ghost use Rattle.std.specs.Prelude.{◌≡◌, ◌≤◌, length, IfOk};
-ghost use Rattle.hx_replies.specs.Constants.{most_bytes};
-ghost use Rattle.hx_replies.specs.Answers.{AnswersAs, fault_answer, answer_in, answer_of};
+ghost use Rattle.std.specs.Prelude.{◌≡◌, ◌≤◌, ◌++◌, length, IfOk};
+ghost use Rattle.hx_print.specs.Texts.{history_full_text};
+ghost use Rattle.hx_worlds.specs.Summaries.{summary_of};
+ghost use Rattle.hx_replies.specs.Constants.{most_bytes, history_full};
+ghost use Rattle.hx_words.specs.Tasks.{HasRanges};
+ghost use Rattle.hx_replies.specs.Simulation.{IsGiven};
+ghost use Rattle.hx_replies.specs.Answers.{
+  AnswersAs,
+  answer_to,
+  fault_answer,
+  generated_answer,
+  sim_answer,
+  summary_answer,
+};
 
 use crate::constants::Status;
-use crate::input::{InputFault, InputRefusal, NotBuilt, read_scenario};
+use crate::input::{InputFault, InputRefusal, Scenario, read_scenario};
 use crate::kind_names::{desc_kind_name, script_kind_name};
-use crate::script::script_page;
+use crate::simulation::{print_full, simulate};
+use hx_board::Board;
 use hx_desc::DescFault;
+use hx_genwork::make;
+use hx_scene::print_counts;
 use hx_script::ScriptFault;
+use hx_sim::summary_of;
 use hx_text::{Page, Piece};
-use hx_words::{RunMode, Task};
+use hx_words::Task;
 use std::alloc::{AllocError, Global};
 
 /// A status with its text.
@@ -27,7 +42,6 @@ fn refused(alloc: Global, fault: &InputFault) -> Result<Reply, AllocError>
     match fault {
         InputFault::Description(fault) => description_refused(alloc, fault),
         InputFault::Script(fault) => script_refused(alloc, fault),
-        InputFault::NotBuilt(part) => not_built(alloc, *part),
     }
 }
 
@@ -65,53 +79,80 @@ fn script_refused(alloc: Global, fault: &ScriptFault) -> Result<Reply, AllocErro
     })
 }
 
-fn not_built(alloc: Global, part: NotBuilt) -> Result<Reply, AllocError>
-    ensures { IfOk result (AnswersAs (fault_answer (InputFault.NotBuilt part))) }
+/// A text behind which the history had no room.
+fn ended_full(weight: u64, text: Page) -> Result<Reply, AllocError>
+    ensures status { IfOk result (λ reply. reply.status.0 ≡ history_full) }
+    ensures text { IfOk result (λ reply. reply.text ≡ text ++ history_full_text weight) }
 {
-    let mut text = Page::new(alloc);
-    match part {
-        NotBuilt::Description => {
-            text.push_str("description not-built $\n")?;
-            Ok(Reply {
-                status: Status::DESCRIPTION_REFUSED,
-                text,
-            })
-        }
-        NotBuilt::Line(line) => {
-            text.push_all(&[
-                Piece::Text("script "),
-                Piece::Number(line as u64),
-                Piece::Text(" not-built\n"),
-            ])?;
-            Ok(Reply {
-                status: Status::SCRIPT_REFUSED,
-                text,
-            })
-        }
+    let mut text = text;
+    print_full(weight, &mut text)?;
+    Ok(Reply {
+        status: Status::HISTORY_FULL,
+        text,
+    })
+}
+
+/// The answer to a script that is run line by line.
+fn simulated(alloc: Global, scenario: Scenario) -> Result<Reply, AllocError>
+    requires { IsGiven scenario }
+    ensures { IfOk result (AnswersAs (sim_answer scenario)) }
+{
+    let run = simulate(alloc, scenario)?;
+    match run.full {
+        None => Ok(Reply {
+            status: Status::DONE,
+            text: run.page,
+        }),
+        Some(weight) => ended_full(weight, run.page),
     }
 }
 
-/// The answer to an input whose script is run line by line.
-fn simulated(alloc: Global, bytes: &[u8]) -> Result<Reply, AllocError>
+/// The summary of what happened on a board.
+fn summary_page(alloc: Global, board: &Board) -> Result<Page, AllocError>
+    ensures { IfOk result (λ page. page ≡ summary_of board.now.history) }
+{
+    let summary = summary_of(board.history().entries.as_slice())?;
+    let mut text = Page::new(alloc);
+    print_counts(&summary, &mut text)?;
+    Ok(text)
+}
+
+/// The answer to a generated script: its summary alone.
+fn summarized(alloc: Global, scenario: Scenario) -> Result<Reply, AllocError>
+    requires { IsGiven scenario }
+    ensures { IfOk result (AnswersAs (summary_answer scenario)) }
+{
+    let run = simulate(alloc, scenario)?;
+    match run.full {
+        None => Ok(Reply {
+            status: Status::DONE,
+            text: summary_page(alloc, &run.board)?,
+        }),
+        Some(weight) => ended_full(weight, Page::new(alloc)),
+    }
+}
+
+/// The answer to an input.
+pub fn answer(alloc: Global, bytes: &[u8]) -> Result<Reply, AllocError>
     requires { length bytes.now ≤ most_bytes }
-    ensures { IfOk result (AnswersAs (answer_in RunMode.Sim bytes.now)) }
+    ensures { IfOk result (AnswersAs (answer_to bytes.now)) }
 {
     match read_scenario(alloc, bytes) {
-        Ok(scenario) => Ok(Reply {
-            status: Status::DONE,
-            text: script_page(alloc, &scenario.spec, scenario.lines.as_slice())?,
-        }),
+        Ok(scenario) => simulated(alloc, scenario),
         Err(InputRefusal::Fault(fault)) => refused(alloc, &fault),
         Err(InputRefusal::OutOfMemory) => Err(AllocError),
     }
 }
 
-/// The answer to an input, as the task asks.
-pub fn answer(alloc: Global, task: Task, bytes: &[u8]) -> Result<Reply, AllocError>
-    requires { length bytes.now ≤ most_bytes }
-    ensures { IfOk result (AnswersAs (answer_of task bytes.now)) }
+/// The answer to no input: that of the one which is generated.
+pub fn generated(alloc: Global, task: Task) -> Result<Reply, AllocError>
+    requires { HasRanges task }
+    ensures { IfOk result (AnswersAs (generated_answer task)) }
 {
-    match task.mode {
-        RunMode::Sim => simulated(alloc, bytes),
+    let input = make(alloc, task.seed, task.size)?;
+    match read_scenario(alloc, input.as_bytes()) {
+        Ok(scenario) => summarized(alloc, scenario),
+        Err(InputRefusal::Fault(fault)) => refused(alloc, &fault),
+        Err(InputRefusal::OutOfMemory) => Err(AllocError),
     }
 }

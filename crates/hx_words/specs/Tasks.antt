@@ -26,7 +26,10 @@ number_in least most default (Some text) = if is_unsigned_in least most text the
 
 -- the mode of a name, which the command line has tested too
 abbrev pub mode_named : List ℕ → Option RunMode
-mode_named text = if bytes_eq text (codes "sim") then Some modes.Sim else None
+mode_named text =
+    if bytes_eq text (codes "sim") then Some modes.Sim
+    else if bytes_eq text (codes "gen") then Some modes.Gen
+    else None
 
 abbrev pub mode_in : Option (List ℕ) → RunMode
 mode_in None = modes.Sim

@@ -15,6 +15,7 @@ usage_text =
     ++ codes "\n"
     ++ codes "Modes:\n"
     ++ codes "  sim             runs the script in one thread, line by line\n"
+    ++ codes "  gen             makes an input of a size, runs it and prints its summary\n"
     ++ codes "\n"
     ++ codes "Options:\n"
     ++ codes "  --mode MODE     the mode [default: sim]\n"

@@ -17,6 +17,8 @@ pub use texts::{usage, version};
 pub enum RunMode {
     /// A script is run in one thread, line by line.
     Sim,
+    /// An input is generated and run, and its summary printed.
+    Gen,
 }
 
 /// A mode with the numbers that the modes need.

@@ -20,6 +20,8 @@ fn mode_named(text: &str) -> Option<RunMode>
 {
     if text == "sim" {
         Some(RunMode::Sim)
+    } else if text == "gen" {
+        Some(RunMode::Gen)
     } else {
         None
     }
@@ -101,5 +103,5 @@ pub fn read_words(alloc: Global, words: &[String]) -> Result<Words, WordsFault>
     ensures asked { HoldsOfAsked (map string_bytes words.now) (IsAnswer result) }
     ensures ranges { IfOk result MeetsRanges }
 {
-    read_words_with(alloc, &["sim"], words)
+    read_words_with(alloc, &["sim", "gen"], words)
 }

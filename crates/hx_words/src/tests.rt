@@ -50,6 +50,15 @@ fn options_have_ranges_and_defaults(rt: HostRuntime) -> Result<(), Fail> {
         ..DEFAULTS
     });
     assert_eq!(rt; asked(alloc, most.as_slice())?, Ok(want));
+    let want = Words::Run(Task {
+        mode: RunMode::Gen,
+        size: 8,
+        ..DEFAULTS
+    });
+    assert_eq!(rt;
+        asked(alloc, ["--mode", "gen", "--size", "8"].as_slice())?,
+        Ok(want)
+    );
     Ok(())
 }
 

@@ -15,6 +15,7 @@ Every step that is accepted is printed, then what each line came to, and last th
 
 Modes:
   sim             runs the script in one thread, line by line
+  gen             makes an input of a size, runs it and prints its summary
 
 Options:
   --mode MODE     the mode [default: sim]
