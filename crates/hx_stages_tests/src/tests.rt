@@ -1,0 +1,5 @@
+mod fixtures;
+mod goals;
+mod moves;
+mod plans;
+mod texts;
