@@ -1,0 +1,6 @@
+mod calls;
+mod fixtures;
+mod reads;
+mod scripts;
+mod steps;
+mod tables;
