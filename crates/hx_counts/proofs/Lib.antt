@@ -1,3 +1,1 @@
-pub mod Repeats
-pub mod Orders
 pub mod Kept

@@ -8,7 +8,7 @@ use Rattle.hx_lists.specs.Choices.{with_chosen, left_after}
 use Rattle.hx_lists.proofs.Choosing.{chosen_more, chosen_same, left_more, left_same}
 use Rattle.hx_ids.specs.declared.InstanceId.{InstanceId}
 use Rattle.hx_ids.specs.declared.SessionId.{SessionId}
-use Rattle.hx_counts.specs.Tally.{Tally, loads_of}
+use Rattle.hx_counts.specs.Tally.{Numbers, loads_of}
 use Rattle.hx_cluster.specs.declared.description.Rule.{Rule}
 use Rattle.hx_cluster.specs.declared.description.Scope.TheVariants as scopes
 use Rattle.hx_cluster.specs.declared.happenings.Proposal.{Proposal}
@@ -21,7 +21,7 @@ use Rattle.hx_throttle.specs.Loads.{AreLoads, counts_under, transition_of}
 use Rattle.hx_throttle.proofs.Counting.{count-push}
 
 -- what the table says is a rule's load under a candidate's key
-pub load_found : (rules : List Rule) (view : View) (sent : List Candidate) (table : Tally) (live : List (SessionId × InstanceId)) (c : Candidate) (place m key load : ℕ) (rule : Rule)
+pub load_found : (rules : List Rule) (view : View) (sent : List Candidate) (table : Numbers) (live : List (SessionId × InstanceId)) (c : Candidate) (place m key load : ℕ) (rule : Rule)
     → live ≡ view.live → AreLoads rules (loading view sent) table → slice_get rules place ≡ Some rule
     → m ≡ place → key ≡ key_of rule.scope live c.session c.part → load ≡ loads_of table m key → load ≡ loading view sent rule (key_for view rule c)
 load_found rules view sent table live c place m key load rule shown loads here m_is key_is is =
@@ -68,13 +68,13 @@ abbrev pub said : List Rule → View → List Candidate → Candidate → List H
 said rules view sent c = option_to_list (held_by rules 0 view sent c)
 
 -- so many of the accepted are sent or held
-pub record IsWalked (rules : List Rule) (view : View) (accepted : List Candidate) (i : ℕ) (sent : List Candidate) (held : List Held) (table : Tally) : Type 0 where
+pub record IsWalked (rules : List Rule) (view : View) (accepted : List Candidate) (i : ℕ) (sent : List Candidate) (held : List Held) (table : Numbers) : Type 0 where
   pub sending : fold (with_chosen (is_sent rules view)) sent (drop i accepted) ≡ sent_of rules view accepted
   pub holding : held ++ left_after (is_sent rules view) (said rules view) sent (drop i accepted) ≡ held_of rules view accepted
   pub loaded : AreLoads rules (loading view sent) table
 
 -- one more is sent
-pub walked_sent : (rules : List Rule) (view : View) (accepted : List Candidate) (i : ℕ) (sent : List Candidate) (held : List Held) (old new : Tally) (d : Candidate) (q : Proposal) (live : List (SessionId × InstanceId))
+pub walked_sent : (rules : List Rule) (view : View) (accepted : List Candidate) (i : ℕ) (sent : List Candidate) (held : List Held) (old new : Numbers) (d : Candidate) (q : Proposal) (live : List (SessionId × InstanceId))
     → q ≡ transition_of (get_or accepted i d) → i < length accepted → live ≡ view.live → held_by rules 0 view sent (get_or accepted i d) ≡ None
     → ((n : ℕ) (r : Rule) (key : ℕ) → slice_get rules n ≡ Some r → loads_of new n key ≡ loads_of old n key + (if counts_under live r key q then 1 else 0))
     → IsWalked rules view accepted i sent held old → IsWalked rules view accepted (i + 1) (sent ++ get_or accepted i d ∷ []) held new
@@ -94,7 +94,7 @@ walked_sent rules view accepted i sent held old new d q live is_its lt shown fre
     }
 
 -- one more is held
-pub walked_held : (rules : List Rule) (view : View) (accepted : List Candidate) (i : ℕ) (sent : List Candidate) (held : List Held) (table : Tally) (d : Candidate) (h : Held)
+pub walked_held : (rules : List Rule) (view : View) (accepted : List Candidate) (i : ℕ) (sent : List Candidate) (held : List Held) (table : Numbers) (d : Candidate) (h : Held)
     → i < length accepted → held_by rules 0 view sent (get_or accepted i d) ≡ Some h
     → IsWalked rules view accepted i sent held table → IsWalked rules view accepted (i + 1) sent (held ++ h ∷ []) table
 walked_held rules view accepted i sent held table d h lt some w =
@@ -127,10 +127,10 @@ no_candidate = record {
 }
 
 -- the same under other names
-pub walked_same : (rules : List Rule) (view : View) (accepted : List Candidate) (i : ℕ) (sent other_sent : List Candidate) (held other_held : List Held) (table other_table : Tally)
+pub walked_same : (rules : List Rule) (view : View) (accepted : List Candidate) (i : ℕ) (sent other_sent : List Candidate) (held other_held : List Held) (table other_table : Numbers)
     → sent ≡ other_sent → held ≡ other_held → table ≡ other_table → IsWalked rules view accepted i sent held table → IsWalked rules view accepted i other_sent other_held other_table
 walked_same rules view accepted i sent other_sent held other_held table other_table a b c w =
     let P : List Candidate → Type 0 = λ x. IsWalked rules view accepted i x other_held other_table in
     let Q : List Held → Type 0 = λ x. IsWalked rules view accepted i sent x other_table in
-    let R : Tally → Type 0 = λ x. IsWalked rules view accepted i sent held x in
+    let R : Numbers → Type 0 = λ x. IsWalked rules view accepted i sent held x in
     subst P a (subst Q b (subst R c w))

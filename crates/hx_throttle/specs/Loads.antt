@@ -2,14 +2,14 @@
 use Rattle.std.specs.Prelude.{◌≡◌, ℕ, Bool, ◌==◌, ◌&&◌, List, Some, slice_get}
 use Rattle.hx_ids.specs.declared.InstanceId.{InstanceId}
 use Rattle.hx_ids.specs.declared.SessionId.{SessionId}
-use Rattle.hx_counts.specs.Tally.{Tally, loads_of}
+use Rattle.hx_counts.specs.Tally.{Numbers, loads_of}
 use Rattle.hx_cluster.specs.declared.description.Rule.{Rule}
 use Rattle.hx_cluster.specs.declared.happenings.Proposal.{Proposal}
 use Rattle.hx_cluster.specs.declared.planning.Candidate.{Candidate}
 use Rattle.hx_cluster.specs.Ends.{matches, key_of}
 
 -- the table has the load of each rule, by its place, under each key
-abbrev pub AreLoads : List Rule → (Rule → ℕ → ℕ) → Tally → Type 0
+abbrev pub AreLoads : List Rule → (Rule → ℕ → ℕ) → Numbers → Type 0
 AreLoads rules load table = (n : ℕ) (r : Rule) (key : ℕ) → slice_get rules n ≡ Some r → loads_of table n key ≡ load r key
 
 -- whether a rule counts a transition of a live session's part under a key

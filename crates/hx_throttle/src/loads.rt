@@ -21,7 +21,7 @@ fn number(n: usize) -> Result<u32, AllocError>
 }
 
 /// A load more. One past the end of its type is want of memory.
-fn raise(loads: &mut Counts, rule: u32, key: u32) -> Result<(), AllocError>
+fn raise(loads: &mut Counts, rule: usize, key: u32) -> Result<(), AllocError>
     ensures { OnOk result ((r : ℕ) (k : ℕ)
         → loads_of loads.new r k
         ≡ loads_of loads.old r k + (if is_load r k (rule, key) then 1 else 0)) }
@@ -48,7 +48,7 @@ pub fn count(
     for (place, rule) in rules.iter().enumerate() {
         if rule.matches(transition.from, transition.to) {
             let key = shown.key_of(rule.scope, transition.session, transition.part);
-            raise(loads, number(place)?, key)?;
+            raise(loads, place, key)?;
         }
     }
     Ok(())
@@ -94,7 +94,7 @@ pub fn held_by(
         if rule.matches(candidate.from, candidate.to) {
             let number = number(place)?;
             let key = shown.key_of(rule.scope, candidate.session, candidate.part);
-            let load = loads.load(number, key);
+            let load = loads.load(place, key);
             if rule.limit <= load {
                 return Ok(Some(Held {
                     candidate: *candidate,

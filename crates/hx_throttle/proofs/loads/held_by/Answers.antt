@@ -1,4 +1,4 @@
-use Rattle.std.proofs.Common.{◌∙◌, ℕ, Some, get_or, ap, arith}
+use Rattle.std.proofs.Common.{◌∙◌, ℕ, Some, get_or, refl, ap, arith}
 use Rattle.hx_cluster.specs.declared.planning.Held.{Held}
 use Rattle.std.proofs.lemmas.Bool.Decides.{nat_tests}
 use Rattle.std.proofs.lemmas.Option.{slice_get-get_or}
@@ -13,7 +13,7 @@ loop-place-preserved c = λ view sent shown loads.
     let here = slice_get-get_or rules place no_rule c.loop-place-test.true in
     elim c.if-matches.branch [
       | then-matches+in_ok-number+else-rule-load w ↦
-          let load = load_found rules view sent c.args.loads.now c.args.shown.now c.args.candidate.now place _ _ _ _ shown loads here w.in_ok-number.ensures w.key_of-key.ensures w.load-load.ensures in
+          let load = load_found rules view sent c.args.loads.now c.args.shown.now c.args.candidate.now place _ _ _ _ shown loads here refl w.key_of-key.ensures w.load-load.ensures in
           rule_passed rules view sent c.args.candidate.now place no_rule c.loop-place-test.true (grind (arith, nat_tests, load, w.if-rule-load.false)) ∙ c.loop-place.invariant view sent shown loads
       | else-matches w ↦
           rule_passed rules view sent c.args.candidate.now place no_rule c.loop-place-test.true (grind (arith, nat_tests, c.matches.ensures, w.if-matches.false)) ∙ c.loop-place.invariant view sent shown loads
@@ -26,7 +26,7 @@ returns-then-rule-load c = λ view sent shown loads.
     let candidate = c.args.candidate.now in
     let rule = get_or rules place no_rule in
     let here = slice_get-get_or rules place no_rule c.loop-place-test.true in
-    let load = load_found rules view sent c.args.loads.now c.args.shown.now candidate place _ _ _ rule shown loads here c.in_ok-number.ensures c.key_of-key.ensures c.load-load.ensures in
+    let load = load_found rules view sent c.args.loads.now c.args.shown.now candidate place _ _ _ rule shown loads here refl c.key_of-key.ensures c.load-load.ensures in
     ap (λ (k : ℕ). let h : Held = record { candidate = candidate; rule = k; load = c.load-load.result; limit = rule.limit } in Some h) c.in_ok-number.ensures
     ∙ ap (λ (k : ℕ). let h : Held = record { candidate = candidate; rule = place; load = k; limit = rule.limit } in Some h) load
     ∙ rule_holds rules view sent candidate place no_rule c.loop-place-test.true (grind (arith, nat_tests, load, c.matches.ensures, c.if-matches.true, c.if-rule-load.true))

@@ -1,7 +1,7 @@
 use Rattle.std.proofs.Common.{◌∙◌, List, take, get_or, sym, ap, arith}
 use Rattle.std.proofs.lemmas.Grind.{common_steps, take_at_read}
 use Rattle.std.proofs.lemmas.Bool.Decides.{nat_tests}
-use Rattle.hx_counts.specs.Tally.{Tally, loads_of}
+use Rattle.hx_counts.specs.Tally.{Numbers, loads_of}
 use Rattle.hx_cluster.specs.declared.state.Message.{Message}
 use Rattle.hx_cluster.specs.Ends.{load_over}
 use Rattle.hx_throttle.proofs.Counting.{load-push, no_message}
@@ -19,10 +19,10 @@ loop-message-preserved c = λ n r key at.
       | then-has+in_ok-count w ↦
           let shown = sym c.has.ensures ∙ w.if-has.true in
           let gives = w.in_ok-count.ensures n r key at in
-          ap (λ (t : Tally). loads_of t n key) w.loads-is ∙ grind (arith, nat_tests, more, before, shown, gives)
+          ap (λ (t : Numbers). loads_of t n key) w.loads-is ∙ grind (arith, nat_tests, more, before, shown, gives)
       | else-has w ↦
           let unshown = sym c.has.ensures ∙ w.if-has.false in
-          ap (λ (t : Tally). loads_of t n key) w.loads-is ∙ grind (arith, nat_tests, more, before, unshown)
+          ap (λ (t : Numbers). loads_of t n key) w.loads-is ∙ grind (arith, nat_tests, more, before, unshown)
     ]
 
 pub returns : goal.returns
