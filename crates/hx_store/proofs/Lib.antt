@@ -1,8 +1,9 @@
 pub mod Entries
-pub mod Pairs
+pub mod Sets
 pub mod Owning
-pub mod Within
 pub mod Drafting
 pub mod InOrder
 pub mod Sorted
 pub mod Together
+pub mod Nexts
+pub mod Shelved

@@ -1,40 +1,27 @@
 -- Owners of records and their pairs, through changes of the records.
-use Rattle.std.proofs.Common.{◌≡◌, ℕ, ◌<◌, ◌+◌, Bool, true, false, not, ◌&&◌, ◌||◌, cond, List, [], ◌∷◌, length, Some, None, Option, refl, sym, ap, ◌∙◌, subst, arith}
+use Rattle.std.proofs.Common.{◌≡◌, ℕ, ◌+◌, Bool, true, false, not, ◌&&◌, ◌||◌, cond, List, [], ◌∷◌, length, Some, None, Option, refl, sym, ap, ◌∙◌, arith}
 use Rattle.std.specs.Prelude.{◌==◌, if◌then◌else◌}
-use Rattle.std.specs.List.{IsDistinct}
+use Rattle.std.specs.List.{IsDistinct, list_any}
 use Rattle.std.specs.Ordering.{nat_cmp, eq_by_cmp}
-use Rattle.std.specs.Cmp.{unsigned_tied}
-use Rattle.std.specs.Map.{keys_of, set_value}
-use Rattle.std.specs.BTreeMap.{is_at}
-use Rattle.std.proofs.lemmas.Bool.{eq-eqb}
+use Rattle.std.specs.Map.{keys_of}
 use Rattle.std.proofs.lemmas.Bool.Decides.{nat_tests}
 use Rattle.std.proofs.lemmas.Map.Keys.{IsDistinct-tail, IsDistinct-from_sorted}
-use Rattle.std.specs.Option.{MatchOption}
-use Rattle.std.specs.Bool.{IsTrue}
 use Rattle.hx_lists.specs.Lists.{insert_by}
 use Rattle.hx_ids.specs.declared.SessionId.{SessionId}
 use Rattle.hx_store.specs.declared.Record.{Record}
 use Rattle.hx_store.specs.Records.{record_at, is_before, deleted, owns, is_owned_by, without_owner, owned_by}
 use Rattle.hx_store.specs.Owners.{has, owner_of, IsIndexed, IsStore}
 use Rattle.std.specs.List.Sorted.{IsStrictlySortedBy}
-use Rattle.hx_store.proofs.Entries.{length-filter, lookup-insert_by, lookup-filter, filter-absent, absent-past_head}
+use Rattle.hx_store.proofs.Sorted.{same_records, sorted-where}
+use Rattle.hx_store.proofs.Entries.{lookup-insert_by, lookup-filter, absent-past_head}
 
--- a write that keeps the owner changes no owner
-pub owner-set_value : {X : Type 0} (key : ℕ) (w : Record X) (es : List (ℕ × Record X)) (r : Record X) → record_at es key ≡ Some r → w.owner ≡ r.owner
-    → (q : ℕ) → owner_of (record_at (set_value (is_at (nat_cmp key)) es w) q) ≡ owner_of (record_at es q)
-owner-set_value key w [] r is same q = refl
-owner-set_value {X = X} key w (e ∷ es) r is same q = rw (unsigned_tied key e.0) (one (key == e.0) refl (q == e.0) refl is (λ i. owner-set_value key w es r i same q))
-  where
-    one : (b : Bool) → (key == e.0) ≡ b → (d : Bool) → (q == e.0) ≡ d → cond b (Some e.1) (record_at es key) ≡ Some r
-        → (record_at es key ≡ Some r → owner_of (record_at (set_value (is_at (nat_cmp key)) es w) q) ≡ owner_of (record_at es q))
-        → owner_of (record_at (cond b ((e.0, w) ∷ es) (e ∷ set_value (is_at (nat_cmp key)) es w)) q) ≡ owner_of (cond d (Some e.1) (record_at es q))
-    one true eb true ed i rest = let v : e.1 ≡ r = cc in rw ed (same ∙ ap (λ (x : Record X). x.owner) (sym v))
-    one true eb false ed i rest = rw ed refl
-    one false eb true ed i rest = rw ed refl
-    one false eb false ed i rest = rw ed (rest i)
+-- nothing is a store
+pub empty_store : {X : Type 0} (records : List (ℕ × Record X)) (pairs : List (SessionId × List ℕ)) → records ≡ [] → pairs ≡ [] → IsStore records pairs
+unfolding IsStrictlySortedBy
+empty_store records pairs none free = rw (none, free) (record { ordered = tt; indexed = λ s k. refl })
 
 -- an index stays where no owner changes
-pub indexed-same : {X : Type 0} (es fs : List (ℕ × Record X)) (pairs : List (SessionId × ℕ)) → ((q : ℕ) → owner_of (record_at fs q) ≡ owner_of (record_at es q)) → IsIndexed es pairs → IsIndexed fs pairs
+pub indexed-same : {X : Type 0} (es fs : List (ℕ × Record X)) (pairs : List (SessionId × List ℕ)) → ((q : ℕ) → owner_of (record_at fs q) ≡ owner_of (record_at es q)) → IsIndexed es pairs → IsIndexed fs pairs
 indexed-same es fs pairs same i = λ s k. i s k ∙ ap (λ o. owns o s) (sym (same k))
 
 or_true : (b : Bool) → (false || (b && true)) ≡ b
@@ -58,7 +45,7 @@ and_none false true = refl
 and_none false false = refl
 
 -- a record more
-pub indexed-inserted : {X : Type 0} (es : List (ℕ × Record X)) (key : ℕ) (x : Record X) (old new : List (SessionId × ℕ)) → IsIndexed es old → record_at es key ≡ None
+pub indexed-inserted : {X : Type 0} (es : List (ℕ × Record X)) (key : ℕ) (x : Record X) (old new : List (SessionId × List ℕ)) → IsIndexed es old → record_at es key ≡ None
     → ((s : SessionId) (k : ℕ) → has new s k ≡ (has old s k || (owns x.owner s && (key == k)))) → IsIndexed (insert_by is_before (key, x) es) new
 indexed-inserted es key x old new i absent claims = λ s k. claims s k ∙ rw (lookup-insert_by key x k es, i s k) (one s k (key == k) refl)
   where
@@ -67,7 +54,7 @@ indexed-inserted es key x old new i absent claims = λ s k. claims s k ∙ rw (l
     one s k false e = or_false (owns (owner_of (record_at es k)) s) (owns x.owner s)
 
 -- a record less
-pub indexed-deleted : {X : Type 0} (es : List (ℕ × Record X)) (key : ℕ) (x : Record X) (old new : List (SessionId × ℕ)) → IsIndexed es old → record_at es key ≡ Some x
+pub indexed-deleted : {X : Type 0} (es : List (ℕ × Record X)) (key : ℕ) (x : Record X) (old new : List (SessionId × List ℕ)) → IsIndexed es old → record_at es key ≡ Some x
     → ((s : SessionId) (k : ℕ) → has new s k ≡ (has old s k && not (owns x.owner s && (key == k)))) → IsIndexed (deleted es key) new
 indexed-deleted es key x old new i there less = λ s k. less s k ∙ rw (lookup-filter key k es, i s k) (one s k (key == k) refl)
   where
@@ -75,60 +62,53 @@ indexed-deleted es key x old new i there less = λ s k. less s k ∙ rw (lookup-
     one s k true e = let same : k ≡ key = grind (arith, nat_tests) in rw (same, there) (and_all (owns x.owner s))
     one s k false e = and_none (owns (owner_of (record_at es k)) s) (owns x.owner s)
 
--- where a session owns no key, it owns no record
-pub without_owner-none : {X : Type 0} (owner : SessionId) (es : List (ℕ × Record X)) → IsDistinct (eq_by_cmp nat_cmp) (keys_of es) → ((k : ℕ) → owns (owner_of (record_at es k)) owner ≡ false) → without_owner es owner ≡ es
-without_owner-none owner [] distinct none = refl
-without_owner-none owner (e ∷ es) distinct none =
-    let free : is_owned_by owner e ≡ false = one (e.0 == e.0) (eq-eqb e.0 e.0 refl) (none e.0) in
-    rw free (ap (λ xs. e ∷ xs) (without_owner-none owner es (IsDistinct-tail _ _ _ distinct) (λ k. two k (k == e.0) refl (none k))))
-  where
-    one : (b : Bool) → b ≡ true → owns (owner_of (cond b (Some e.1) (record_at es e.0))) owner ≡ false → owns e.1.owner owner ≡ false
-    one true is h = h
-    one false is h = cc
-
-    two : (k : ℕ) (b : Bool) → (k == e.0) ≡ b → owns (owner_of (cond b (Some e.1) (record_at es k))) owner ≡ false → owns (owner_of (record_at es k)) owner ≡ false
-    two k true is h = rw (absent-past_head k e es distinct is) refl
-    two k false is h = h
-
--- without the records of an owner, one of them may as well be taken out first
-pub without_owner-deleted : {X : Type 0} (owner : SessionId) (key : ℕ) (es : List (ℕ × Record X)) → IsDistinct (eq_by_cmp nat_cmp) (keys_of es) → owns (owner_of (record_at es key)) owner ≡ true
-    → without_owner (deleted es key) owner ≡ without_owner es owner
-without_owner-deleted owner key [] distinct own = refl
-without_owner-deleted owner key (e ∷ es) distinct own =
-    one (key == e.0) refl own (λ i. without_owner-deleted owner key es (IsDistinct-tail _ _ _ distinct) i)
-  where
-    one : (b : Bool) → (key == e.0) ≡ b → owns (owner_of (cond b (Some e.1) (record_at es key))) owner ≡ true
-        → (owns (owner_of (record_at es key)) owner ≡ true → without_owner (deleted es key) owner ≡ without_owner es owner)
-        → without_owner (deleted (e ∷ es) key) owner ≡ without_owner (e ∷ es) owner
-    one true is o rest = rw (is, filter-absent key es (absent-past_head key e es distinct is), o) refl
-    one false is o rest = rw is (two (is_owned_by owner e) (rest o))
-      where
-        two : (b : Bool) → without_owner (deleted es key) owner ≡ without_owner es owner
-            → cond (not b) (e ∷ without_owner (deleted es key) owner) (without_owner (deleted es key) owner) ≡ cond (not b) (e ∷ without_owner es owner) (without_owner es owner)
-        two b i = rw i refl
-
 -- what is owned and what isn't are all
 pub owned-and_rest : {X : Type 0} (owner : SessionId) (es : List (ℕ × Record X)) → owned_by es owner + length (without_owner es owner) ≡ length es
 owned-and_rest owner [] = omega arith
 owned-and_rest owner (e ∷ es) = grind (arith, owned-and_rest owner es)
 
--- the answer of the index is one on the records
-pub a_key_of : {X : Type 0} (owner : SessionId) (es now : List (ℕ × Record X)) (pairs : List (SessionId × ℕ)) (r : Option ℕ) → es ≡ now → IsStore es pairs
-    → MatchOption r ((k : ℕ) → has pairs owner k ≡ false) (λ k. has pairs owner k ≡ true) → MatchOption r (without_owner now owner ≡ now) (λ k. IsTrue (owns (owner_of (record_at now k)) owner))
-a_key_of {X = X} owner es now pairs None same is none =
-    let P : List (ℕ × Record X) → Type 0 = λ xs. without_owner xs owner ≡ xs in
-    subst P same (without_owner-none owner es (IsDistinct-from_sorted _ _ is.ordered) (λ k. sym (is.indexed owner k) ∙ none k))
-a_key_of {X = X} owner es now pairs (Some k) same is there =
-    let P : List (ℕ × Record X) → Type 0 = λ xs. owns (owner_of (record_at xs k)) owner ≡ true in
-    subst P same (sym (is.indexed owner k) ∙ there)
-
--- one owned record less
-pub shorter : {X : Type 0} (owner : SessionId) (key : ℕ) (es fs : List (ℕ × Record X)) → IsTrue (owns (owner_of (record_at es key)) owner) → fs ≡ deleted es key → length fs < length es
-shorter {X = X} owner key es fs own is = one (record_at es key) refl own
+-- the records without those of an owner, by key
+lookup-without : {X : Type 0} (owner : SessionId) (q : ℕ) (es : List (ℕ × Record X)) → IsDistinct (eq_by_cmp nat_cmp) (keys_of es)
+    → record_at (without_owner es owner) q ≡ (if owns (owner_of (record_at es q)) owner then None else record_at es q)
+lookup-without owner q [] distinct = refl
+lookup-without {X = X} owner q (e ∷ es) distinct = one (q == e.0) refl (is_owned_by owner e) refl (lookup-without owner q es (IsDistinct-tail _ _ _ distinct))
   where
-    one : (o : Option (Record X)) → record_at es key ≡ o → owns (owner_of o) owner ≡ true → length fs < length es
-    one None e h = cc
-    one (Some r) e h = rw is (length-filter key r es e)
+    one : (b : Bool) → (q == e.0) ≡ b → (d : Bool) → is_owned_by owner e ≡ d → record_at (without_owner es owner) q ≡ (if owns (owner_of (record_at es q)) owner then None else record_at es q)
+        → record_at (cond (not d) (e ∷ without_owner es owner) (without_owner es owner)) q
+        ≡ (if owns (owner_of (cond b (Some e.1) (record_at es q))) owner then None else cond b (Some e.1) (record_at es q))
+    one true i true j rest = rest ∙ rw (absent-past_head q e es distinct i, j) refl
+    one true i false j rest = rw (i, j) refl
+    one false i true j rest = rest
+    one false i false j rest = rw i rest
 
-pub rest_same : {X : Type 0} (owner : SessionId) (key : ℕ) (es fs : List (ℕ × Record X)) → IsStrictlySortedBy nat_cmp (keys_of es) → IsTrue (owns (owner_of (record_at es key)) owner) → fs ≡ deleted es key → without_owner fs owner ≡ without_owner es owner
-rest_same owner key es fs ordered own is = rw is (without_owner-deleted owner key es (IsDistinct-from_sorted _ _ ordered) own)
+-- the keys of an owner are taken out
+pub ended : {X : Type 0} (owner : SessionId) (es new : List (ℕ × Record X)) (pairs : List (SessionId × List ℕ)) (ks : List ℕ) → IsStore es pairs → IsStrictlySortedBy nat_cmp (keys_of new)
+    → ((k : ℕ) → list_any (λ j. k == j) ks ≡ has pairs owner k) → ((q : ℕ) → record_at new q ≡ (if list_any (λ k. q == k) ks then None else record_at es q)) → new ≡ without_owner es owner
+ended owner es new pairs ks is ordered keys taken =
+    same_records new (without_owner es owner) ordered (sorted-where (λ e. not (is_owned_by owner e)) es is.ordered)
+    (λ q. taken q ∙ rw (keys q, is.indexed owner q) (sym (lookup-without owner q es (IsDistinct-from_sorted _ _ is.ordered))))
+
+apart : (a b c : ℕ) → (a == b) ≡ false → ((a == c) && not (b == c)) ≡ (a == c)
+apart a b c other = grind (arith, nat_tests)
+
+alike : (a b c : ℕ) → (a == b) ≡ true → ((a == c) && not (b == c)) ≡ false
+alike a b c same = grind (arith, nat_tests)
+
+pub store_ended : {X : Type 0} (owner : SessionId) (es new : List (ℕ × Record X)) (pairs pairs2 : List (SessionId × List ℕ)) → IsStore es pairs → IsStrictlySortedBy nat_cmp (keys_of new) → new ≡ without_owner es owner
+    → ((s : SessionId) (k : ℕ) → has pairs2 s k ≡ (has pairs s k && not (owner.0 == s.0))) → IsStore new pairs2
+store_ended {X = X} owner es new pairs pairs2 is ordered gone rest = record {
+  ordered = ordered;
+  indexed = λ s k. rest s k ∙ rw (is.indexed s k, gone, lookup-without owner k es (IsDistinct-from_sorted _ _ is.ordered)) (one s (record_at es k));
+}
+  where
+    two : (s : SessionId) (r : Record X) (w : Option SessionId) → r.owner ≡ w → (owns w s && not (owner.0 == s.0)) ≡ owns (owner_of (if owns w owner then None else Some r)) s
+    two s r None e = rw e refl
+    two s r (Some t) e = three (t.0 == owner.0) refl
+      where
+        three : (b : Bool) → (t.0 == owner.0) ≡ b → ((t.0 == s.0) && not (owner.0 == s.0)) ≡ owns (owner_of (if b then None else Some r)) s
+        three true j = alike t.0 owner.0 s.0 j
+        three false j = apart t.0 owner.0 s.0 j ∙ rw e refl
+
+    one : (s : SessionId) (o : Option (Record X)) → (owns (owner_of o) s && not (owner.0 == s.0)) ≡ owns (owner_of (if owns (owner_of o) owner then None else o)) s
+    one s None = refl
+    one s (Some r) = two s r r.owner refl

@@ -1,7 +1,7 @@
 -- Lists in order of key.
 use Rattle.std.proofs.Common.{Less, ◌≡◌, ℕ, ◌<◌, ◌⊎◌, inl, inr, Bool, true, false, cond, not, List, [], ◌∷◌, map, filter, Some, None, Option, refl, sym, ap, ◌∙◌, subst, arith}
-use Rattle.std.specs.Prelude.{◌==◌, nat_lt, if◌then◌else◌, IsSome}
-use Rattle.std.specs.List.{AllByRecursion}
+use Rattle.std.specs.Prelude.{◌==◌, ◌||◌, nat_lt, if◌then◌else◌, is_some, IsSome}
+use Rattle.std.specs.List.{AllByRecursion, list_any}
 use Rattle.std.specs.List.Sorted.{IsStrictlySortedBy}
 use Rattle.std.specs.Ordering.{nat_cmp}
 use Rattle.std.specs.Cmp.{nat_cmp_total}
@@ -13,14 +13,14 @@ use Rattle.std.proofs.lemmas.Map.{lookup-none}
 use Rattle.std.proofs.lemmas.Map.Keys.{sorted_tail, IsDistinct-from_sorted}
 use Rattle.std.proofs.lemmas.Map.Entries.{none_below_head}
 use Rattle.hx_lists.specs.Lists.{insert_by}
-use Rattle.hx_store.proofs.Entries.{lookup-at, absent-past_head}
+use Rattle.hx_store.proofs.Entries.{lookup-at, lookup-insert_by, absent-past_head}
 
 -- a key is found where it stands first
 found_first : {X : Type 0} (e : ℕ × X) (es : List (ℕ × X)) → lookup (λ k. e.0 == k) (e ∷ es) ≡ Some e.1
 found_first e es = rw (eq-eqb e.0 e.0 refl) refl
 
 -- a key below the first isn't there
-below_first : {X : Type 0} (q : ℕ) (e : ℕ × X) (es : List (ℕ × X)) → IsStrictlySortedBy nat_cmp (keys_of (e ∷ es)) → q < e.0 → lookup (λ k. q == k) (e ∷ es) ≡ None
+pub below_first : {X : Type 0} (q : ℕ) (e : ℕ × X) (es : List (ℕ × X)) → IsStrictlySortedBy nat_cmp (keys_of (e ∷ es)) → q < e.0 → lookup (λ k. q == k) (e ∷ es) ≡ None
 below_first q e es ordered h =
     let less : nat_cmp q e.0 ≡ Less = grind (arith, nat_tests) in
     sym (lookup-at q (e ∷ es)) ∙ lookup-none _ (e ∷ es) (none_below_head nat_cmp_total q e es ordered less)
@@ -32,7 +32,7 @@ not_some (Some x) e h = cc
 some_is : {X : Type 0} (x y : X) → Some x ≡ Some y → x ≡ y
 some_is x y h = cc
 
-which : (a b : ℕ) → (a < b) ⊎ ((a ≡ b) ⊎ (b < a))
+pub which : (a b : ℕ) → (a < b) ⊎ ((a ≡ b) ⊎ (b < a))
 which a b = grind (arith, nat_tests)
 
 -- lists in order of key that answer alike are the same
@@ -61,6 +61,37 @@ same_records {X = X} (e ∷ es) (f ∷ fs) s t same = by (which e.0 f.0) (λ h. 
         let tail : es ≡ fs = again (λ q. rest key q (q == e.0) refl) in
         λ i. head i ∷ tail i
 
+-- the keys of entries
+pub any-keys : {X : Type 0} (q : ℕ) (es : List (ℕ × X)) → list_any (λ k. q == k) (keys_of es) ≡ is_some (lookup (λ k. q == k) es)
+any-keys q [] = refl
+any-keys {X = X} q (e ∷ es) = one (q == e.0) (any-keys q es)
+  where
+    one : (b : Bool) → list_any (λ k. q == k) (keys_of es) ≡ is_some (lookup (λ k. q == k) es) → (b || list_any (λ k. q == k) (keys_of es)) ≡ is_some (cond b (Some e.1) (lookup (λ k. q == k) es))
+    one true rest = refl
+    one false rest = rest
+
+-- so are lists of keys in order that have the same
+abbrev as_entries : List ℕ → List (ℕ × Unit {0})
+as_entries ks = map (λ k. (k, tt)) ks
+
+keys-as_entries : (ks : List ℕ) → keys_of (as_entries ks) ≡ ks
+keys-as_entries [] = refl
+keys-as_entries (k ∷ ks) = ap (λ xs. k ∷ xs) (keys-as_entries ks)
+
+found-as_entries : (q : ℕ) (ks : List ℕ) → lookup (λ k. q == k) (as_entries ks) ≡ (if list_any (λ k. q == k) ks then Some tt else None)
+found-as_entries q [] = refl
+found-as_entries q (k ∷ ks) = one (q == k) (found-as_entries q ks)
+  where
+    one : (b : Bool) → lookup (λ j. q == j) (as_entries ks) ≡ (if list_any (λ j. q == j) ks then Some tt else None)
+        → cond b (Some tt) (lookup (λ j. q == j) (as_entries ks)) ≡ (if b || list_any (λ j. q == j) ks then Some tt else None)
+    one true rest = refl
+    one false rest = rest
+
+pub same_keys : (ks js : List ℕ) → IsStrictlySortedBy nat_cmp ks → IsStrictlySortedBy nat_cmp js → ((q : ℕ) → list_any (λ k. q == k) ks ≡ list_any (λ k. q == k) js) → ks ≡ js
+same_keys ks js s t same =
+    let both = same_records (as_entries ks) (as_entries js) (rw (keys-as_entries ks) s) (rw (keys-as_entries js) t) (λ q. found-as_entries q ks ∙ rw (same q) (sym (found-as_entries q js))) in
+    sym (keys-as_entries ks) ∙ ap (λ (es : List (ℕ × Unit {0})). keys_of es) both ∙ keys-as_entries js
+
 -- what holds of each key and of a new one holds with it
 all-insert_by : {X : Type 0} (P : ℕ → Type 0) (key : ℕ) (x : X) (es : List (ℕ × X)) → AllByRecursion P (keys_of es) → P key → AllByRecursion P (keys_of (insert_by (λ a b. nat_lt a.0 b.0) (key, x) es))
 all-insert_by P key x [] all p = (p, tt)
@@ -87,6 +118,11 @@ sorted-insert_by {X = X} key x (e ∷ es) absent ordered = one (nat_lt e.0 key) 
     one true i false j none rest = let less : nat_cmp e.0 key ≡ Less = grind (arith, nat_tests) in (all-insert_by (λ y. nat_cmp e.0 y ≡ Less) key x es ordered.0 less, rest none)
     one false i false j none rest = let less : nat_cmp key e.0 ≡ Less = grind (arith, nat_tests) in ((less, all-below key e.0 (keys_of es) less ordered.0), ordered)
 
+-- a new entry is put in order
+pub inserted : {X : Type 0} (key : ℕ) (x : X) (old new : List (ℕ × X)) → lookup (λ k. key == k) old ≡ None → IsStrictlySortedBy nat_cmp (keys_of old) → IsStrictlySortedBy nat_cmp (keys_of new)
+    → ((q : ℕ) → lookup (λ k. q == k) new ≡ (if key == q then Some x else lookup (λ k. q == k) old)) → new ≡ insert_by (λ a b. nat_lt a.0 b.0) (key, x) old
+inserted key x old new absent s t is = same_records new _ t (sorted-insert_by key x old absent s) (λ q. is q ∙ sym (lookup-insert_by key x q old))
+
 keys-map : {X : Type 0} (key : ℕ) (f : X → X) (es : List (ℕ × X)) → keys_of (map (λ e. if key == e.0 then (e.0, f e.1) else e) es) ≡ keys_of es
 keys-map key f [] = refl
 keys-map {X = X} key f (e ∷ es) = one (key == e.0) (keys-map key f es)
@@ -99,7 +135,7 @@ keys-map {X = X} key f (e ∷ es) = one (key == e.0) (keys-map key f es)
 pub sorted-map : {X : Type 0} (key : ℕ) (f : X → X) (es : List (ℕ × X)) → IsStrictlySortedBy nat_cmp (keys_of es) → IsStrictlySortedBy nat_cmp (keys_of (map (λ e. if key == e.0 then (e.0, f e.1) else e) es))
 sorted-map key f es ordered = rw (keys-map key f es) ordered
 
-keys-filter : {X : Type 0} (p : ℕ → Bool) (es : List (ℕ × X)) → keys_of (filter (λ e. p e.0) es) ≡ filter p (keys_of es)
+pub keys-filter : {X : Type 0} (p : ℕ → Bool) (es : List (ℕ × X)) → keys_of (filter (λ e. p e.0) es) ≡ filter p (keys_of es)
 keys-filter p [] = refl
 keys-filter {X = X} p (e ∷ es) = one (p e.0) (keys-filter p es)
   where
@@ -110,6 +146,24 @@ keys-filter {X = X} p (e ∷ es) = one (p e.0) (keys-filter p es)
 -- and an entry less
 pub sorted-filter : {X : Type 0} (key : ℕ) (es : List (ℕ × X)) → IsStrictlySortedBy nat_cmp (keys_of es) → IsStrictlySortedBy nat_cmp (keys_of (filter (λ e. not (key == e.0)) es))
 sorted-filter key es ordered = rw (keys-filter (λ k. not (key == k)) es) (IsStrictlySortedBy-filter nat_cmp (λ k. not (key == k)) (keys_of es) ordered)
+
+-- and any entries that are left out
+all-where : {X : Type 0} (P : ℕ → Type 0) (p : ℕ × X → Bool) (es : List (ℕ × X)) → AllByRecursion P (keys_of es) → AllByRecursion P (keys_of (filter p es))
+all-where P p [] all = tt
+all-where {X = X} P p (e ∷ es) all = one (p e) (all-where P p es all.1)
+  where
+    one : (b : Bool) → AllByRecursion P (keys_of (filter p es)) → AllByRecursion P (keys_of (cond b (e ∷ filter p es) (filter p es)))
+    one true rest = (all.0, rest)
+    one false rest = rest
+
+pub sorted-where : {X : Type 0} (p : ℕ × X → Bool) (es : List (ℕ × X)) → IsStrictlySortedBy nat_cmp (keys_of es) → IsStrictlySortedBy nat_cmp (keys_of (filter p es))
+unfolding IsStrictlySortedBy
+sorted-where p [] ordered = tt
+sorted-where {X = X} p (e ∷ es) ordered = one (p e) (all-where (λ y. nat_cmp e.0 y ≡ Less) p es ordered.0) (sorted-where p es ordered.1)
+  where
+    one : (b : Bool) → AllByRecursion (λ y. nat_cmp e.0 y ≡ Less) (keys_of (filter p es)) → IsStrictlySortedBy nat_cmp (keys_of (filter p es)) → IsStrictlySortedBy nat_cmp (keys_of (cond b (e ∷ filter p es) (filter p es)))
+    one true all rest = (all, rest)
+    one false all rest = rest
 
 -- the keys that are still to come of all
 pub record IsRest {X : Type 0} (all rest : List (ℕ × X)) : Type 0 where

@@ -1,6 +1,7 @@
 -- A store as the list of its keys with their records, in order of key.
-use Rattle.std.specs.Prelude.{ℕ, ◌+◌, Bool, false, not, ◌==◌, ◌&&◌, List, map, filter, Option, None, Some, nat_le, nat_lt, if◌then◌else◌}
+use Rattle.std.specs.Prelude.{ℕ, ◌+◌, Bool, false, not, ◌==◌, ◌&&◌, List, map, filter, find, Option, None, Some, nat_le, nat_lt, if◌then◌else◌}
 use Rattle.std.specs.Map.{lookup, keys_of}
+use Rattle.std.specs.Option.{option_map}
 use Rattle.hx_lists.specs.Lists.{count, insert_by}
 use Rattle.hx_ids.specs.declared.SessionId.{SessionId}
 use Rattle.hx_store.specs.declared.Record.{Record}
@@ -53,3 +54,11 @@ owned_by records owner = count (is_owned_by owner) records
 -- the keys from one on, below another
 abbrev pub keys_within : {V : Type 0} → List (ℕ × Record V) → ℕ → ℕ → List ℕ
 keys_within records from to = filter (λ k. nat_le from k && nat_lt k to) (keys_of records)
+
+-- the first key from one on whose record a session owns
+abbrev pub next_owned : {V : Type 0} → List (ℕ × Record V) → SessionId → ℕ → Option ℕ
+next_owned records owner from = option_map (λ e. e.0) (find (λ e. is_owned_by owner e && nat_le from e.0) records)
+
+-- the entries of an owner from a key on
+abbrev pub owned_from : {V : Type 0} → List (ℕ × Record V) → SessionId → ℕ → List (ℕ × Record V)
+owned_from records owner from = filter (λ e. is_owned_by owner e && nat_le from e.0) records

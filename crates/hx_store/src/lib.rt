@@ -1,18 +1,17 @@
 //! A store of versioned records by key, some of which belong to a session.
 #![tactic(auto)]
 
-ghost use Rattle.std.specs.Prelude.{◌≡◌, ℕ, ◌==◌, [], IfOk, OnOk, OnErr, MatchOption, None, Some};
-ghost use Rattle.std.specs.Prelude.{option_map, IsTrue, IsSome, if◌then◌else◌};
+ghost use Rattle.std.specs.Prelude.{◌≡◌, ℕ, ◌==◌, [], IfOk, OnOk, OnErr, None, Some};
+ghost use Rattle.std.specs.Prelude.{option_map, IsSome, length, if◌then◌else◌};
 ghost use Rattle.std.specs.List.{list_any};
 ghost use Rattle.std.specs.Map.{keys_of};
 ghost use Rattle.std.specs.List.Sorted.{IsStrictlySortedBy};
 ghost use Rattle.std.specs.Ordering.{nat_cmp};
 ghost use Rattle.hx_lists.specs.Lists.{insert_by};
-ghost use Rattle.hx_store.specs.Records.{record_at, is_before, created, set_to, deleted, owns};
-ghost use Rattle.hx_store.specs.Records.{without_owner, owned_by, keys_within};
+ghost use Rattle.hx_store.specs.Records.{record_at, is_before, created, set_to, deleted};
+ghost use Rattle.hx_store.specs.Records.{without_owner, owned_by, keys_within, next_owned};
 ghost use Rattle.hx_lists.specs.Answers.{RefusedAs, RefusedBy};
 ghost use Rattle.hx_store.specs.Refusals.{create_refusal, change_refusal, CanChange};
-ghost use Rattle.hx_store.specs.Owners.{owner_of};
 ghost use Rattle.hx_store.specs.Operations.{done_all, first_refusal, RefusedAt, CanDoAll};
 ghost use Rattle.hx_store.specs.Drafts.{change_at, over, left_at, IsDraftOf};
 
@@ -20,16 +19,17 @@ mod changes;
 mod draft;
 mod owners;
 mod records;
+mod shelf;
 
-use changes::{claim_all, keys_in_order, settle};
+use changes::{claim_all, keys_in_order, settle, take_all};
 use draft::{Draft, draft_of};
 use hx_ids::SessionId;
 use owners::Owners;
 use records::first_record;
+use shelf::Shelf;
 use std::alloc::{AllocError, Global};
 use std::collections::BTreeMap;
 use std::marker::Model;
-use std::mem;
 
 /// A record: its version, which begins at 1 and rises with each change, the session that owns it,
 /// if any, and its value.
@@ -109,7 +109,7 @@ impl From<AllocError> for MultiFault {
 #[derive(Drop)]
 pub struct Store<V> {
     alloc: Global,
-    records: BTreeMap<u64, Record<V>>,
+    records: Shelf<V>,
     owners: Owners,
 }
 
@@ -119,11 +119,11 @@ impl<V> Model for Store<V> {
 
     ghost Value = { List (ℕ × Record V) };
 
-    ghost view = { λ a. a.records.entries };
+    ghost view = { λ a. a.records };
 
     ghost use Rattle.hx_store.specs.Owners.{IsStore};
 
-    ghost invariant = { λ a. IsStore a.records.entries a.owners };
+    ghost invariant = { λ a. IsStore a.records a.owners };
 }
 
 impl<V: Drop> Store<V> {
@@ -133,7 +133,7 @@ impl<V: Drop> Store<V> {
     {
         Store {
             alloc,
-            records: BTreeMap::new(alloc),
+            records: Shelf::new(alloc),
             owners: Owners::new(alloc),
         }
     }
@@ -144,7 +144,7 @@ impl<V: Drop> Store<V> {
         ensures ok { OnOk result (self.new ≡ created self.old key owner value) }
         ensures err { OnErr result (self.new ≡ self.old) }
     {
-        if let Some(record) = self.records.get(&key) {
+        if let Some(record) = self.records.get(key) {
             return Err(StoreFault::Exists {
                 version: record.version,
             });
@@ -162,16 +162,7 @@ impl<V: Drop> Store<V> {
         ensures ok { OnOk result (self.new ≡ set_to self.old key value) }
         ensures err { OnErr result (self.new ≡ self.old) }
     {
-        let Some(record) = self.records.get_mut(&key) else {
-            return Err(StoreFault::NoRecord);
-        };
-        if record.version != version {
-            return Err(StoreFault::Version {
-                has: record.version,
-            });
-        }
-        record.version += 1;
-        Ok(mem::replace(&mut record.value, value))
+        self.records.set(key, version, value)
     }
 
     /// Removes a record of this version, and gives its value. It takes no memory.
@@ -182,7 +173,7 @@ impl<V: Drop> Store<V> {
         ensures ok { OnOk result (self.new ≡ deleted self.old key) }
         ensures err { OnErr result (self.new ≡ self.old) }
     {
-        match self.records.get(&key) {
+        match self.records.get(key) {
             None => return Err(StoreFault::NoRecord),
             Some(record) if record.version != version => {
                 return Err(StoreFault::Version {
@@ -206,21 +197,32 @@ impl<V: Drop> Store<V> {
             ≡ option_map (λ r. r.value) (record_at self.now key) }
         ensures ordered { IsStrictlySortedBy nat_cmp (keys_of self.now) }
     {
-        let record = self.records.get(&key)?;
+        let record = self.records.get(key)?;
         Some((record.version, &record.value))
     }
 
-    /// The keys that have a record, in order, from one on and below another.
+    /// The keys that have a record, in order, from one on and below another. It goes over all
+    /// records.
     pub fn range(&self, from: u64, to: u64) -> Result<Vec<u64>, AllocError>
         ensures { IfOk result (λ keys. keys.items ≡ keys_within self.now from to) }
     {
-        if to <= from {
-            return Ok(Vec::new(self.alloc));
-        }
-        self.records
-            .range(from..to)
-            .map(|(key, _)| *key)
-            .collect(self.alloc)
+        self.records.keys_within(self.alloc, from, to)
+    }
+
+    /// The first key from one on whose record a session owns. It takes no memory. The keys of all
+    /// records rise.
+    pub fn next_owned(&self, owner: SessionId, from: u64) -> Option<u64>
+        ensures next { result ≡ next_owned self.now owner from }
+        ensures ordered { IsStrictlySortedBy nat_cmp (keys_of self.now) }
+    {
+        self.owners.first_from(owner, from)
+    }
+
+    /// The number of records.
+    pub fn len(&self) -> usize
+        ensures { result ≡ length self.now }
+    {
+        self.records.len()
     }
 
     /// Removes all records that a session owns, and gives their number. It takes no memory, and
@@ -230,9 +232,8 @@ impl<V: Drop> Store<V> {
         ensures rest { self.new ≡ without_owner self.old owner }
     {
         let before = self.records.len();
-        while let Some(key) = self.owned_key(owner) {
-            self.take(key);
-        }
+        let keys = self.owners.forget_all(owner);
+        take_all(&mut self.records, keys);
         (before - self.records.len()) as u64
     }
 
@@ -314,15 +315,6 @@ impl<V: Drop> Store<V> {
         }
     }
 
-    // A key whose record a session owns.
-    fn owned_key(&self, owner: SessionId) -> Option<u64>
-        ensures ordered { IsStrictlySortedBy nat_cmp (keys_of self.now) }
-        ensures owned { MatchOption result (without_owner self.now owner ≡ self.now)
-            (λ key. IsTrue (owns (owner_of (record_at self.now key)) owner)) }
-    {
-        self.owners.first(owner)
-    }
-
     // Puts a record where there is none.
     fn add(&mut self, key: u64, added: Record<V>) -> Result<(), AllocError>
         requires { record_at self.old key ≡ None }
@@ -332,13 +324,11 @@ impl<V: Drop> Store<V> {
     {
         let owner = added.owner;
         self.owners.claim(owner, key)?;
-        match self.records.insert(key, added) {
-            Ok(_) => Ok(()),
-            Err(_) => {
-                self.owners.release(owner, key);
-                Err(AllocError)
-            }
+        if let Err(refused) = self.records.add(key, added) {
+            self.owners.release(owner, key);
+            return Err(refused);
         }
+        Ok(())
     }
 
     // Takes a record out, if there is one.
@@ -347,7 +337,7 @@ impl<V: Drop> Store<V> {
         ensures rest { self.new ≡ deleted self.old key }
         ensures ordered { IsStrictlySortedBy nat_cmp (keys_of self.new) }
     {
-        let record = self.records.remove(&key)?;
+        let record = self.records.take(key)?;
         self.owners.release(record.owner, key);
         Some(record)
     }

@@ -1,28 +1,30 @@
 //! Which keys each session owns.
-ghost use Rattle.std.specs.Prelude.{◌≡◌, ℕ, true, false, not, ◌&&◌, ◌||◌, ◌==◌, [], OnOk, OnErr};
-ghost use Rattle.std.specs.Prelude.{MatchOption};
+ghost use Rattle.std.specs.Prelude.{◌≡◌, ℕ, IsTrue, false, not, ◌&&◌, ◌||◌, ◌==◌, [], OnOk, OnErr};
+ghost use Rattle.std.specs.List.{list_any};
 ghost use Rattle.hx_ids.specs.declared.SessionId.{SessionId};
 ghost use Rattle.hx_store.specs.Records.{owns};
-ghost use Rattle.hx_store.specs.Owners.{has};
+ghost use Rattle.hx_store.specs.Owners.{has, IsFirstFrom};
 
 use hx_ids::SessionId;
 use std::alloc::{AllocError, Global};
-use std::collections::BTreeSet;
+use std::collections::{BTreeSet, HashMap};
 use std::marker::Model;
 
-/// Pairs of a session and a key that it owns.
+/// The keys of each session that owns any, in order. Contracts see the sessions in no order.
 #[derive(Drop)]
 pub(crate) struct Owners {
-    pairs: BTreeSet<(SessionId, u64)>,
+    alloc: Global,
+    sets: HashMap<SessionId, BTreeSet<u64>>,
 }
 
 impl Model for Owners {
     ghost use Rattle.std.specs.Prelude.{List, ℕ};
     ghost use Rattle.hx_ids.specs.declared.SessionId.{SessionId};
+    ghost use Rattle.hx_store.specs.Owners.{keys_by_session};
 
-    ghost Value = { List (SessionId × ℕ) };
+    ghost Value = { List (SessionId × List ℕ) };
 
-    ghost view = { λ a. a.pairs.keys };
+    ghost view = { λ a. keys_by_session a.sets.entries };
 }
 
 impl Owners {
@@ -31,7 +33,8 @@ impl Owners {
         ensures { result ≡ [] }
     {
         Owners {
-            pairs: BTreeSet::new(alloc),
+            alloc,
+            sets: HashMap::new(alloc),
         }
     }
 
@@ -42,10 +45,10 @@ impl Owners {
             → has self.new s k ≡ (has self.old s k || (owns owner s && (key == k)))) }
         ensures err { OnErr result (self.new ≡ self.old) }
     {
-        if let Some(session) = owner {
-            self.pairs.insert((session, key))?;
+        match owner {
+            None => Ok(()),
+            Some(session) => self.put(session, key),
         }
-        Ok(())
     }
 
     /// Forgets that a session owns a key. It takes no memory.
@@ -54,7 +57,9 @@ impl Owners {
             → has self.new s k ≡ (has self.old s k && not (owns owner s && (key == k))) }
     {
         if let Some(session) = owner {
-            self.pairs.remove(&(session, key));
+            if self.take(session, key) {
+                self.forget(session);
+            }
         }
     }
 
@@ -75,12 +80,75 @@ impl Owners {
         }
     }
 
-    /// The first key that a session owns. It takes no memory.
-    pub(crate) fn first(&self, owner: SessionId) -> Option<u64>
-        ensures { MatchOption result ((k : ℕ) → has self.now owner k ≡ false)
-            (λ k. has self.now owner k ≡ true) }
+    /// Forgets all keys of a session, and gives them. It takes no memory.
+    pub(crate) fn forget_all(&mut self, owner: SessionId) -> BTreeSet<u64>
+        ensures keys { (k : ℕ) → list_any (λ j. k == j) result.keys ≡ has self.old owner k }
+        ensures rest { (s : SessionId) (k : ℕ)
+            → has self.new s k ≡ (has self.old s k && not (owner.0 == s.0)) }
     {
-        let (session, key) = self.pairs.range((owner, 0)..).next()?;
-        if *session == owner { Some(*key) } else { None }
+        let Some(keys) = self.sets.remove(&owner) else {
+            return BTreeSet::new(self.alloc);
+        };
+        keys
+    }
+
+    /// The first key from one on that a session owns. It takes no memory.
+    pub(crate) fn first_from(&self, owner: SessionId, from: u64) -> Option<u64>
+        ensures { IsFirstFrom (has self.now owner) from result }
+    {
+        let keys = self.sets.get(&owner)?;
+        let key = keys.range(from..).next()?;
+        Some(*key)
+    }
+
+    // Puts a key among those of a session.
+    fn put(&mut self, session: SessionId, key: u64) -> Result<(), AllocError>
+        ensures ok { OnOk result
+            ((s : SessionId) (k : ℕ)
+            → has self.new s k ≡ (has self.old s k || ((session.0 == s.0) && (key == k)))) }
+        ensures err { OnErr result (self.new ≡ self.old) }
+    {
+        match self.sets.get_mut(&session) {
+            Some(keys) => {
+                keys.insert(key)?;
+                Ok(())
+            }
+            None => self.put_first(session, key),
+        }
+    }
+
+    // Puts the first key of a session.
+    fn put_first(&mut self, session: SessionId, key: u64) -> Result<(), AllocError>
+        requires { (k : ℕ) → has self.old session k ≡ false }
+        ensures ok { OnOk result
+            ((s : SessionId) (k : ℕ)
+            → has self.new s k ≡ (has self.old s k || ((session.0 == s.0) && (key == k)))) }
+        ensures err { OnErr result (self.new ≡ self.old) }
+    {
+        let mut keys = BTreeSet::new(self.alloc);
+        keys.insert(key)?;
+        self.sets.insert(session, keys)?;
+        Ok(())
+    }
+
+    // Takes a key from those of a session, and says whether none is left.
+    fn take(&mut self, session: SessionId, key: u64) -> bool
+        ensures taken { (s : SessionId) (k : ℕ)
+            → has self.new s k ≡ (has self.old s k && not ((session.0 == s.0) && (key == k))) }
+        ensures none { IsTrue result → (k : ℕ) → has self.new session k ≡ false }
+    {
+        let Some(keys) = self.sets.get_mut(&session) else {
+            return false;
+        };
+        keys.remove(&key);
+        keys.is_empty()
+    }
+
+    // Forgets a session that owns no key.
+    fn forget(&mut self, session: SessionId)
+        requires { (k : ℕ) → has self.old session k ≡ false }
+        ensures { (s : SessionId) (k : ℕ) → has self.new s k ≡ has self.old s k }
+    {
+        self.sets.remove(&session);
     }
 }

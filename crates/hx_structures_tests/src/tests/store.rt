@@ -42,3 +42,20 @@ fn operations_are_done_together(rt: HostRuntime) -> Result<(), Fail> {
     assert_eq!(rt; store.end_session(SessionId(1)), 1);
     Ok(())
 }
+
+#[test]
+fn a_session_finds_its_records_in_order(rt: HostRuntime) -> Result<(), Fail> {
+    let mut store = Store::new(rt.alloc());
+    let (here, there) = (SessionId(1), SessionId(2));
+    store.create(8, Some(here), 10u32)?;
+    store.create(6, Some(there), 20)?;
+    store.create(7, None, 30)?;
+    store.create(3, Some(here), 40)?;
+    assert_eq!(rt; store.next_owned(here, 0), Some(3));
+    assert_eq!(rt; store.next_owned(here, 4), Some(8));
+    assert_eq!(rt; store.next_owned(here, 9), None);
+    assert_eq!(rt; store.end_session(here), 2);
+    assert_eq!(rt; store.next_owned(here, 0), None);
+    assert_eq!(rt; store.len(), 2);
+    Ok(())
+}

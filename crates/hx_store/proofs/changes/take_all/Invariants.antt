@@ -1,0 +1,5 @@
+use Rattle.hx_store.proofs.Together.{IsTakingRest}
+use Rattle.hx_store.proofs.changes.take_all.Given as goal
+
+abbrev pub invariant-loop-key : goal.invariant-loop-key
+invariant-loop-key g l = IsTakingRest l.initial.records l.records l.fn.keys.keys l.key-iterator
