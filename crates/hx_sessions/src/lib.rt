@@ -88,7 +88,8 @@ impl Sessions {
 
     /// The live session whose last beat is the longest ago. It takes no memory.
     pub fn first(&self) -> Option<Live>
-        ensures { result ≡ first_live self.now.live }
+        ensures first { result ≡ first_live self.now.live }
+        ensures sessions { AreSessions self.now }
     {
         let node = self.pool.front(self.order?)?;
         Some(*self.pool.get(node))
@@ -137,6 +138,7 @@ impl Sessions {
         ensures refused { is_ok result ≡ is_live self.old.live session }
         ensures live { self.new.live ≡ beaten session now self.old.live }
         ensures next { self.new.next ≡ self.old.next }
+        ensures err { OnErr result (self.new ≡ self.old) }
     {
         let Some(node) = self.nodes.get(&session.0).copied() else {
             return Err(NotLive);
@@ -152,6 +154,7 @@ impl Sessions {
         ensures refused { is_ok result ≡ is_live self.old.live session }
         ensures live { self.new.live ≡ without session self.old.live }
         ensures next { self.new.next ≡ self.old.next }
+        ensures err { OnErr result (self.new ≡ self.old) }
     {
         let Some(node) = self.nodes.remove(&session.0) else {
             return Err(NotLive);
@@ -175,9 +178,9 @@ impl Sessions {
         Ok(ended)
     }
 
-    // The sessions that have had no beat for the timeout. It looks at these and at the first that
-    // has had one.
-    fn expired(&self, now: u64, timeout: u64) -> Result<Vec<SessionId>, AllocError>
+    /// The sessions that have had no beat for the timeout, in order of last beat. It looks at these
+    /// and at the first that has had one.
+    pub fn expired(&self, now: u64, timeout: u64) -> Result<Vec<SessionId>, AllocError>
         ensures ended { IfOk result (λ ended. ended.items ≡ expired self.now.live now timeout) }
         ensures sessions { AreSessions self.now }
     {
