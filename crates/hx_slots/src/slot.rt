@@ -1,0 +1,155 @@
+//! Slots, their keys, and changes of single slots and messages.
+ghost use Rattle.std.specs.Prelude.{◌≡◌, ◌==◌, ◌&&◌, None, Some, is_some, IsSome, MatchOption};
+ghost use Rattle.std.specs.Prelude.{OnOk, OnErr};
+ghost use Rattle.std.specs.Map.{keys_of};
+ghost use Rattle.std.specs.List.Sorted.{IsStrictlySortedBy};
+ghost use Rattle.std.specs.Ordering.{nat_cmp};
+ghost use Rattle.hx_store.specs.Records.{record_at, created, set_to};
+ghost use Rattle.hx_store.specs.Refusals.{CanChange};
+ghost use Rattle.hx_slots.specs.Slots.{IsPlaced, slot_key, row_of as row_of_slot};
+ghost use Rattle.hx_slots.specs.Slots.{IsSlotOf, sent_at, put_at as put_at_of};
+
+use crate::owned::set;
+use hx_cluster::{Message, Row};
+use hx_ids::{MsgId, PartId, ResourceId, SessionId, StateId};
+use hx_model::DROPPED;
+use hx_store::Store;
+use std::alloc::AllocError;
+
+/// What is kept of a session's replica of a part: its state, if there is a row, and the message
+/// that was sent to it last, pending or not.
+#[derive(Clone, Copy, Debug)]
+pub(crate) struct Slot {
+    pub(crate) session: SessionId,
+    pub(crate) part: PartId,
+    pub(crate) state: Option<StateId>,
+    pub(crate) sent: Option<MsgId>,
+}
+
+impl Slot {
+    /// The row, if there is one.
+    pub(crate) fn row(&self) -> Option<Row>
+        ensures { result ≡ row_of_slot self.now }
+    {
+        Some(Row {
+            session: self.session,
+            part: self.part,
+            state: self.state?,
+        })
+    }
+
+    /// Whether there is a row, of a resource.
+    pub(crate) fn has_row_of(&self, resource: ResourceId) -> bool
+        ensures { result ≡ (is_some self.now.state && (self.now.part.resource.0 == resource.0)) }
+    {
+        self.state.is_some() && self.part.resource == resource
+    }
+}
+
+/// The key of a session's part, if it has one: sessions below 2^39, resources below 256 and
+/// indexes below 1,024. Keys stand as rows do.
+fn key_of(session: SessionId, part: PartId) -> Option<u64>
+    ensures { MatchOption result (IsPlaced session part → ⊥) (λ key.
+        IsPlaced session part × (key ≡ slot_key session part)) }
+{
+    let PartId { resource, index } = part;
+    if session.0 < 1 << 39 && resource.0 < 256 && index < 1024 {
+        Some(session.0 * 262_144 + u64::from(resource.0) * 1024 + u64::from(index))
+    } else {
+        None
+    }
+}
+
+/// The slot of a session's part, if there is one. It takes no memory.
+pub(crate) fn slot_of(slots: &Store<Slot>, session: SessionId, part: PartId) -> Option<&Slot>
+    ensures { MatchOption result
+        (IsPlaced session part → record_at slots.now (slot_key session part) ≡ None)
+        (λ slot. IsSlotOf slots.now session part slot.now) }
+{
+    let key = key_of(session, part)?;
+    let (_, slot) = slots.get(key)?;
+    Some(slot)
+}
+
+/// Notes in the slot of a session's part what was sent to it last. A slot that isn't there is
+/// made.
+pub(crate) fn note_sent(
+    slots: &mut Store<Slot>,
+    session: SessionId,
+    part: PartId,
+    id: MsgId,
+) -> Result<(), AllocError>
+    requires { CanChange (record_at slots.old (slot_key session part)) }
+    ensures ordered { OnOk result (IsStrictlySortedBy nat_cmp (keys_of slots.old)) }
+    ensures placed { OnOk result (IsPlaced session part) }
+    ensures ok { OnOk result
+        (slots.new ≡ sent_at slots.old (slot_key session part) session part id) }
+    ensures err { OnErr result (slots.new ≡ slots.old) }
+{
+    let Some(key) = key_of(session, part) else {
+        return Err(AllocError);
+    };
+    let mut noted = Slot {
+        session,
+        part,
+        state: None,
+        sent: Some(id),
+    };
+    let Some((version, slot)) = slots.get(key) else {
+        return match slots.create(key, Some(session), noted) {
+            Ok(()) => Ok(()),
+            Err(_) => Err(AllocError),
+        };
+    };
+    noted.state = slot.state;
+    set(slots, key, version, noted);
+    Ok(())
+}
+
+/// Puts a replica whose slot is there at a state, or nowhere for DROPPED. It takes no memory.
+pub(crate) fn put_at(slots: &mut Store<Slot>, session: SessionId, part: PartId, state: StateId)
+    requires placed { IsPlaced session part }
+    requires there { IsSome (record_at slots.old (slot_key session part)) }
+    requires room { CanChange (record_at slots.old (slot_key session part)) }
+    ensures ordered { IsStrictlySortedBy nat_cmp (keys_of slots.old) }
+    ensures slots { slots.new ≡ put_at_of slots.old (slot_key session part) session part state }
+{
+    let Some(key) = key_of(session, part) else {
+        unreachable!()
+    };
+    let Some((version, slot)) = slots.get(key) else {
+        unreachable!()
+    };
+    let put = Slot {
+        session,
+        part,
+        state: if state == DROPPED { None } else { Some(state) },
+        sent: slot.sent,
+    };
+    set(slots, key, version, put);
+}
+
+/// Adds a message. One whose number is taken is answered as want of memory.
+pub(crate) fn add_message(mail: &mut Store<Message>, message: Message) -> Result<(), AllocError>
+    ensures ok { OnOk result
+        (mail.new ≡ created mail.old message.id.0 (Some message.session) message) }
+    ensures err { OnErr result (mail.new ≡ mail.old) }
+{
+    match mail.create(message.id.0, Some(message.session), message) {
+        Ok(()) => Ok(()),
+        Err(_) => Err(AllocError),
+    }
+}
+
+/// Puts a changed message in place of the one of its number, which is there. It takes no memory.
+pub(crate) fn mark(mail: &mut Store<Message>, message: Message)
+    requires there { IsSome (record_at mail.old message.id.0) }
+    requires room { CanChange (record_at mail.old message.id.0) }
+    ensures ordered { IsStrictlySortedBy nat_cmp (keys_of mail.old) }
+    ensures mail { mail.new ≡ set_to mail.old message.id.0 message }
+{
+    let Some((version, _)) = mail.get(message.id.0) else {
+        unreachable!()
+    };
+    set(mail, message.id.0, version, message);
+}

@@ -1,0 +1,66 @@
+use super::*;
+use hx_ids::Epoch;
+use std::test::Fail;
+
+const SESSION: SessionId = SessionId(7);
+
+const PART: PartId = PartId {
+    resource: ResourceId(1),
+    index: 3,
+};
+
+const STATE: StateId = StateId(2);
+
+const SENT: Message = Message {
+    id: MsgId(1),
+    session: SESSION,
+    part: PART,
+    from: StateId(1),
+    to: STATE,
+    initial: StateId(1),
+    epoch: Epoch(1),
+    taken: false,
+    written: false,
+};
+
+// Slots with a message that was sent and written.
+fn with_row(alloc: Global) -> Result<Slots, AllocError> {
+    let mut slots = Slots::new(alloc);
+    slots.send(SENT)?;
+    slots.write(&SENT, STATE);
+    Ok(slots)
+}
+
+#[test]
+fn a_message_is_sent_taken_and_acknowledged(rt: HostRuntime) -> Result<(), Fail> {
+    let mut slots = Slots::new(rt.alloc());
+    slots.send(SENT)?;
+    slots.take(&SENT);
+    let taken = slots.message(SESSION, PART).map(|m| m.taken);
+    assert_eq!(rt; taken, Some(true));
+    slots.acknowledge(SESSION, MsgId(1));
+    assert_eq!(rt; slots.pending(SESSION, MsgId(1)), None);
+    Ok(())
+}
+
+#[test]
+fn an_outcome_comes_to_the_row(rt: HostRuntime) -> Result<(), Fail> {
+    let slots = with_row(rt.alloc())?;
+    assert_eq!(rt; slots.state(SESSION, PART), Some(STATE));
+    assert_eq!(rt; slots.holds(SESSION, ResourceId(1)), true);
+    assert_eq!(rt; slots.rows_of(SESSION)?.len(), 1);
+    assert_eq!(rt; slots.mail_of(SESSION)?.len(), 1);
+    Ok(())
+}
+
+#[test]
+fn a_session_is_emptied(rt: HostRuntime) -> Result<(), Fail> {
+    let mut slots = with_row(rt.alloc())?;
+    let first = slots.pop_message(SESSION).map(|m| m.id);
+    assert_eq!(rt; first, Some(MsgId(1)));
+    if slots.pop_message(SESSION).is_none() {
+        let row = slots.pop_row(SESSION).map(|r| r.part);
+        assert_eq!(rt; row, Some(PART));
+    }
+    Ok(())
+}
