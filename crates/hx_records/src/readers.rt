@@ -1,6 +1,6 @@
 //! What stands in a cluster. No reader takes memory, but the one that answers a list of its own.
 ghost use Rattle.std.specs.Prelude.{◌≡◌, ◌<◌, length, option_copied, IfOk};
-ghost use Rattle.hx_cluster.specs.Ends.{state_of, message_of, resource_at, shown_of};
+ghost use Rattle.hx_cluster.specs.Ends.{state_of, message_of, resource_at, shown_of, is_live};
 ghost use Rattle.hx_cluster.specs.Steps.{session_of, is_drained, is_leader, newest};
 ghost use Rattle.hx_cluster.specs.Steps.{has_instance, has_controller, is_in_range};
 ghost use Rattle.hx_cluster.specs.Reads.{pass_of};
@@ -8,7 +8,7 @@ ghost use Rattle.hx_cluster.specs.Events.{is_proposable, is_postable};
 ghost use Rattle.hx_cluster.specs.Numbered.{IsNumbered};
 
 use crate::Records;
-use hx_cluster::{Admin, Message, Proposal, Resource, Seen, state_on};
+use hx_cluster::{Admin, Message, Proposal, Resource, Seen};
 use hx_ids::{ControllerId, Epoch, InstanceId, PartId, PassNo, ResourceId, SessionId, StateId};
 use std::alloc::{AllocError, Global};
 
@@ -17,15 +17,27 @@ impl Records {
     pub fn session_of(&self, instance: InstanceId) -> Option<SessionId>
         ensures { result ≡ session_of self.now instance }
     {
-        self.rest.session_of(instance)
+        *self.seats.get(instance.0 as usize)?
+    }
+
+    /// Whether a session is live.
+    pub(crate) fn is_live(&self, session: SessionId) -> bool
+        ensures { result ≡ is_live self.now.live session }
+    {
+        self.sessions.find(session).is_some()
     }
 
     /// The live sessions in order of last beat, with their instances.
     pub fn roster(&self, alloc: Global) -> Result<Vec<(SessionId, InstanceId)>, AllocError>
         ensures { IfOk result (λ shown. shown.items ≡ shown_of self.now.live) }
     {
-        let live = self.rest.live.as_slice();
-        live.iter().map(|l| (l.session, l.instance)).collect(alloc)
+        let mut shown = Vec::new(alloc);
+        let mut next = self.sessions.first();
+        while let Some(live) = next {
+            shown.push((live.session, live.instance))?;
+            next = self.sessions.after(live.session);
+        }
+        Ok(shown)
     }
 
     /// Whether an instance is drained.
@@ -39,14 +51,14 @@ impl Records {
     pub fn row(&self, session: SessionId, part: PartId) -> Option<StateId>
         ensures { result ≡ state_of self.now.rows session part }
     {
-        state_on(&self.rows, session, part)
+        self.slots.state(session, part)
     }
 
     /// The pending message of a session's part.
     pub fn message(&self, session: SessionId, part: PartId) -> Option<&Message>
         ensures { option_copied result ≡ message_of self.now.mail session part }
     {
-        self.rest.mail.iter().find(|m| m.is_of(session, part))
+        self.slots.message(session, part)
     }
 
     /// A resource, dropped or not.

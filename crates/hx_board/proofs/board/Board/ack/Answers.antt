@@ -4,10 +4,11 @@ use Rattle.hx_cluster.specs.Marks.{ack_refusal}
 use Rattle.hx_cluster.specs.Events.{next}
 use Rattle.hx_cluster.specs.Weight.{owed_of}
 use Rattle.hx_board.proofs.Growing.{room_of, none-is, owed_ack, grown}
+use Rattle.hx_board.proofs.Reaching.{reached_of}
 use Rattle.hx_board.proofs.board.Board.ack.Goals as goal
 
 pub ack-requires : goal.ack-requires
-ack-requires c = room_of c.self.inside c.self.invariant
+ack-requires c = record { reached = reached_of c.self.inside c.self.invariant; room = room_of c.self.inside c.self.invariant }
 
 pub record-requires : goal.record-requires
 record-requires c =

@@ -5,6 +5,7 @@ use Rattle.hx_board.specs.Board.{Held, held, happened}
 use Rattle.hx_board.specs.Refusals.{step_refusal}
 use Rattle.hx_board.proofs.Free.{step_free}
 use Rattle.hx_board.proofs.Growing.{room_of, opens_paid, opens_one, owed_step, grown}
+use Rattle.hx_board.proofs.Reaching.{reached_of}
 use Rattle.hx_board.proofs.board.Board.admin.Goals as goal
 
 pub answer_to-requires : goal.answer_to-requires
@@ -24,7 +25,7 @@ make-requires c =
     let P : Held → Type 0 = λ v. is_in_range v.cluster c.args.step.now ≡ true in
     let Q : Held → Type 0 = λ v. step_refusal v c.args.step.now ≡ None in
     let free = step_free (held c.self.inside) c.args.step.now (subst Q (sym c.self.view_is) c.in_ok-weight.ensures.refused) in
-    record { may = free.free; did = c.in_ok-did.ensures.did; range = subst P (sym c.self.view_is) c.requires; room = room_of c.self.inside c.self.invariant }
+    record { may = free.free; did = c.in_ok-did.ensures.did; range = subst P (sym c.self.view_is) c.requires; reached = reached_of c.self.inside c.self.invariant; room = room_of c.self.inside c.self.invariant }
 
 pub overflow_add-self : goal.overflow_add-self
 overflow_add-self c =

@@ -7,10 +7,17 @@ use Rattle.hx_board.specs.Board.{Held, held}
 use Rattle.hx_board.specs.Refusals.{dispatch_refusal}
 use Rattle.hx_board.proofs.Free.{dispatch_free}
 use Rattle.hx_board.proofs.Growing.{room_of, owed_dispatch, grown}
+use Rattle.hx_board.proofs.Reaching.{reached_of}
 use Rattle.hx_board.proofs.board.Board.dispatch.Goals as goal
 
 pub dispatch-requires : goal.dispatch-requires
-dispatch-requires c = room_of c.self.inside c.self.invariant
+dispatch-requires c =
+    let R : Held → Type 0 = λ v. list_all (is_proposable v.cluster) c.args.proposals.now ≡ true in
+    record {
+      reached = reached_of c.self.inside c.self.invariant;
+      range = subst R (sym c.self.view_is) c.requires.proposals;
+      room = room_of c.self.inside c.self.invariant;
+    }
 
 pub invariant_of-self-2 : goal.invariant_of-self-2
 invariant_of-self-2 c =

@@ -6,7 +6,11 @@ use Rattle.hx_board.specs.Board.{Held, held}
 use Rattle.hx_board.specs.Refusals.{step_refusal}
 use Rattle.hx_board.proofs.Free.{step_free}
 use Rattle.hx_board.proofs.Growing.{room_of, end_did, end_weight, owed_end, grown}
+use Rattle.hx_board.proofs.Reaching.{reached_of}
 use Rattle.hx_board.proofs.board.Board.end.Goals as goal
+
+pub make-requires-clause-reached : goal.make-requires-clause-reached
+make-requires-clause-reached c = reached_of c.self.inside c.self.invariant
 
 pub make-requires-clause-room : goal.make-requires-clause-room
 make-requires-clause-room c = room_of c.self.inside c.self.invariant

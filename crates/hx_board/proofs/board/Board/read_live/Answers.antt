@@ -7,7 +7,11 @@ use Rattle.hx_board.specs.Board.{Held, held}
 use Rattle.hx_board.specs.Refusals.{read_refusal}
 use Rattle.hx_board.proofs.Free.{read_free}
 use Rattle.hx_board.proofs.Growing.{grown}
+use Rattle.hx_board.proofs.Reaching.{reached_of}
 use Rattle.hx_board.proofs.board.Board.read_live.Goals as goal
+
+pub read_live-requires : goal.read_live-requires
+read_live-requires c = reached_of c.self.inside c.self.invariant
 
 pub invariant_of-self-2 : goal.invariant_of-self-2
 invariant_of-self-2 c =

@@ -4,10 +4,11 @@ use Rattle.hx_cluster.specs.Marks.{write_refusal}
 use Rattle.hx_cluster.specs.Events.{next}
 use Rattle.hx_cluster.specs.Weight.{owed_of}
 use Rattle.hx_board.proofs.Growing.{room_of, none-is, owed_write, grown}
+use Rattle.hx_board.proofs.Reaching.{reached_of}
 use Rattle.hx_board.proofs.board.Board.write.Goals as goal
 
 pub write-requires : goal.write-requires
-write-requires c = room_of c.self.inside c.self.invariant
+write-requires c = record { reached = reached_of c.self.inside c.self.invariant; room = room_of c.self.inside c.self.invariant }
 
 pub record-requires : goal.record-requires
 record-requires c =
