@@ -2,3 +2,4 @@ pub mod Cells
 pub mod Best
 pub mod Marking
 pub mod Found
+pub mod Errors

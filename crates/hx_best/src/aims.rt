@@ -10,7 +10,7 @@ ghost use Rattle.hx_best.specs.Places.{mark_of, wants_at, place_past, target_at,
 use crate::lookups::Index;
 use crate::marks::{Mark, Shown};
 use crate::places::Places;
-use crate::tables::cell;
+use crate::tables::{cell, clear};
 use hx_cluster::{Target, View};
 use hx_ids::{InstanceId, PartId, ResourceId, SessionId, StateId};
 use hx_model::{DROPPED, ERROR, Model};
@@ -140,7 +140,7 @@ fn targets_of(
     let mut cells = Vec::new(alloc);
     for index in 0..places.resource().ideal.parts() {
         let shown = Shown::of(&*places, PartId { resource, index });
-        cells.clear();
+        clear(&mut cells);
         let past = shown.mark(alloc, &mut cells)?;
         shown.push_targets(cells.as_slice(), past, &mut found)?;
     }

@@ -1,10 +1,12 @@
 //! Where a part is wanted, instance by instance.
-ghost use Rattle.std.specs.Prelude.{◌≡◌, [], length, slice_index_or, IfOk};
+ghost use Rattle.std.specs.Prelude.{◌≡◌, [], None, length, slice_index_or, IfOk};
+ghost use Rattle.hx_ids.specs.declared.InstanceId.{InstanceId};
 ghost use Rattle.std.specs.List.{list_any};
 ghost use Rattle.hx_cluster.specs.Ends.{state_of};
-ghost use Rattle.hx_cluster.specs.Steps.{is_flag};
+ghost use Rattle.hx_cluster.specs.Steps.{is_error, is_flag};
 ghost use Rattle.hx_best.specs.Wants.{Listed, Mapped, in_turn as in_turn_of};
 ghost use Rattle.hx_best.specs.Goals.{is_in_error, is_asked, is_eligible};
+ghost use Rattle.hx_best.specs.Lookups.{cell_of};
 ghost use Rattle.hx_best.specs.Places.{IsMarked, wants_at};
 
 use crate::places::Places;
@@ -22,6 +24,15 @@ use std::marker::Model;
 pub struct Mark {
     pub place: u32,
     pub goal: StateId,
+}
+
+fn is_error(state: Option<StateId>) -> bool
+    ensures { result ≡ is_error state }
+{
+    match state {
+        Some(state) => state == ERROR,
+        None => false,
+    }
 }
 
 fn has_flag(flags: &[(SessionId, PartId)], session: SessionId, part: PartId) -> bool
@@ -86,13 +97,11 @@ impl<'a> Shown<'a> {
     }
 
     /// Whether a session's replica is in ERROR.
+    #[tactic(auto, using(crate::proofs::Errors::no_error))]
     pub fn is_in_error(&self, session: SessionId) -> bool
         ensures { result ≡ is_in_error self.now.0.view session self.now.1 }
     {
-        match self.state_of(session) {
-            Some(state) => state == ERROR,
-            None => false,
-        }
+        self.places.index().has_errors() && is_error(self.state_of(session))
     }
 
     /// Whether a reset was asked for.
@@ -117,7 +126,7 @@ impl<'a> Shown<'a> {
 impl Shown<'_> {
     /// Marks where the part is wanted. It answers the place of where it isn't.
     pub fn mark(&self, alloc: Global, cells: &mut Vec<Option<Mark>>) -> Result<u32, AllocError>
-        requires { cells.old.items ≡ [] }
+        requires { (i : InstanceId) → cell_of cells.old.items i ≡ None }
         ensures { IfOk result (λ past.
             IsMarked self.now.0 self.now.1 (wants_at self.now.0 self.now.1) cells.new.items past) }
     {
@@ -141,7 +150,7 @@ impl Shown<'_> {
         cells: &mut Vec<Option<Mark>>,
         list: &[InstanceId],
     ) -> Result<u32, AllocError>
-        requires { cells.old.items ≡ [] }
+        requires { (i : InstanceId) → cell_of cells.old.items i ≡ None }
         ensures { IfOk result (λ past.
             IsMarked self.now.0 self.now.1 (Listed list.now) cells.new.items past) }
     {
@@ -164,7 +173,7 @@ impl Shown<'_> {
         cells: &mut Vec<Option<Mark>>,
         map: &[(InstanceId, StateId)],
     ) -> Result<u32, AllocError>
-        requires { cells.old.items ≡ [] }
+        requires { (i : InstanceId) → cell_of cells.old.items i ≡ None }
         ensures { IfOk result (λ past.
             IsMarked self.now.0 self.now.1 (Mapped map.now) cells.new.items past) }
     {

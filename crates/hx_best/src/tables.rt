@@ -49,3 +49,12 @@ pub fn fill_first<T: Copy>(
         None => fill(table, instance, value),
     }
 }
+
+/// Empties each cell.
+pub fn clear<T: Copy>(table: &mut Vec<Option<T>>)
+    ensures { (i : InstanceId) → cell_of table.new.items i ≡ None }
+{
+    for place in 0..table.len() {
+        table[place] = None;
+    }
+}

@@ -1,14 +1,16 @@
 //! Whether a view is well formed, so that a plan can be made of it.
 #![tactic(auto)]
 
-ghost use Rattle.std.specs.Prelude.{◌≡◌, ℕ, ◌==◌, ◌&&◌, length, nat_lt, IfOk};
+ghost use Rattle.std.specs.Prelude.{◌≡◌, ℕ, ◌==◌, ◌&&◌, None, length, nat_lt, nat_le, IfOk};
 ghost use Rattle.std.specs.List.{list_all};
 ghost use Rattle.hx_lists.specs.Lists.{count};
 ghost use Rattle.hx_model.specs.Model.{has_state};
 ghost use Rattle.hx_cluster.specs.Ends.{is_row, is_message, is_shown, model_at, parts_of};
+ghost use Rattle.hx_cluster.specs.Ends.{part_before, instance_in};
 ghost use Rattle.hx_cluster.specs.Views.{is_good_session, is_good_part, is_good_state, is_good_row};
 ghost use Rattle.hx_cluster.specs.Views.{is_good_message, is_good_mode, is_good_resource};
 ghost use Rattle.hx_cluster.specs.Views.{is_well_formed};
+ghost use Rattle.hx_formed.specs.Reads.{rank, is_behind, stand_as_read};
 
 use hx_cluster::{Message, Resource, Row, View};
 use hx_ideal::Mode;
@@ -122,6 +124,60 @@ impl<'a> std::marker::Model for Kept<'a> {
     ghost invariant = { λ a. IsKept a.view.now a.rows a.mail };
 }
 
+fn comes_before(a: PartId, b: PartId) -> bool
+    ensures { result ≡ part_before a b }
+{
+    a.resource.0 < b.resource.0 || (a.resource.0 == b.resource.0 && a.index < b.index)
+}
+
+fn instance_of(live: &[(SessionId, InstanceId)], session: SessionId) -> Option<InstanceId>
+    ensures { result ≡ instance_in live.now session }
+{
+    live.iter().find(|e| e.0 == session).map(|e| e.1)
+}
+
+/// The number of a session's instance, from 1, or 0 where the session isn't shown.
+fn rank(live: &[(SessionId, InstanceId)], session: SessionId) -> u64
+    ensures { result ≡ rank live.now session }
+{
+    match instance_of(live, session) {
+        Some(instance) => u64::from(instance.0) + 1,
+        None => 0,
+    }
+}
+
+/// Whether a row stands where it is read behind the last one: it is of the same session and a later
+/// part, or of the session of a later instance.
+fn is_behind(live: &[(SessionId, InstanceId)], last: Option<Row>, row: &Row) -> bool
+    ensures { result ≡ is_behind live.now last row.now }
+{
+    match last {
+        Some(last) => {
+            if last.session == row.session {
+                comes_before(last.part, row.part)
+            } else {
+                rank(live, last.session) < rank(live, row.session)
+            }
+        }
+        None => 0 < rank(live, row.session),
+    }
+}
+
+/// Whether rows stand as they are read: session by session in order of instance, and those of a
+/// session in order of part.
+fn stand_as_read(live: &[(SessionId, InstanceId)], rows: &[Row]) -> bool
+    ensures { result ≡ stand_as_read live.now None rows.now }
+{
+    let mut last = None;
+    for row in rows {
+        if !is_behind(live, last, row) {
+            return false;
+        }
+        last = Some(*row);
+    }
+    true
+}
+
 impl<'a> Kept<'a> {
     fn new(alloc: Global, view: &'a View) -> Result<Kept<'a>, AllocError>
         ensures { IfOk result (λ kept. kept ≡ view.now) }
@@ -179,6 +235,51 @@ impl<'a> Kept<'a> {
             && (message.to == DROPPED || is_good_state(models, self.view, message.part, message.to))
             && self.messages_of(message.session, message.part) == 1
     }
+}
+
+/// Whether the part of a row is one of a resource, and its state one that a replica may be in.
+fn is_in_place(models: &[Model], view: &View, row: &Row) -> bool
+    ensures { result
+        ≡ (nat_lt row.now.part.index
+        (parts_of view.now.ideals.resources row.now.part.resource)
+        && is_good_state models.now view.now row.now.part row.now.state) }
+{
+    match view.ideals.resources.get(row.part.resource.0 as usize) {
+        Some(resource) => {
+            row.part.index < resource.ideal.parts()
+                && (row.state == ERROR || has_state(models, resource.model, row.state))
+        }
+        None => false,
+    }
+}
+
+fn are_in_place(models: &[Model], view: &View) -> bool
+    ensures { result
+        ≡ list_all (λ r. nat_lt r.part.index (parts_of view.now.ideals.resources r.part.resource)
+        && is_good_state models.now view.now r.part r.state) view.now.rows }
+{
+    let mut rows = view.rows.iter();
+    rows.all(|r| is_in_place(models, view, r))
+}
+
+/// Whether each row is a good one. For rows that stand as they are read it takes no memory.
+fn has_good_rows(alloc: Global, models: &[Model], view: &View) -> Result<bool, AllocError>
+    ensures { IfOk result (λ is. is ≡ list_all (is_good_row models.now view.now) view.now.rows) }
+{
+    if stand_as_read(view.live.as_slice(), view.rows.as_slice()) {
+        return Ok(are_in_place(models, view));
+    }
+    Ok(Kept::new(alloc, view)?.has_good_rows(models))
+}
+
+fn has_good_mail(alloc: Global, models: &[Model], view: &View) -> Result<bool, AllocError>
+    ensures { IfOk result (λ is.
+        is ≡ list_all (is_good_message models.now view.now) view.now.mail) }
+{
+    if view.mail.is_empty() {
+        return Ok(true);
+    }
+    Ok(Kept::new(alloc, view)?.has_good_mail(models))
 }
 
 fn is_good_list(instances: usize, list: &Seq<InstanceId>) -> bool
@@ -265,6 +366,19 @@ fn are_good_resources(models: &[Model], instances: usize, resources: &[Resource]
     resources.all(|r| is_good_resource(models, instances, r))
 }
 
+/// Whether what a view shows to be wanted is good.
+fn are_good_ideals(models: &[Model], instances: usize, view: &View) -> bool
+    ensures { result
+        ≡ (nat_le (length view.now.ideals.resources) 256
+        && (length view.now.ideals.drained == instances)
+        && list_all (is_good_resource models.now instances) view.now.ideals.resources) }
+{
+    let resources = view.ideals.resources.as_slice();
+    resources.len() <= 256
+        && view.ideals.drained.len() == instances
+        && are_good_resources(models, instances, resources)
+}
+
 /// Whether a view is well formed, with the models and the number of instances of a description.
 pub fn is_well_formed(
     alloc: Global,
@@ -274,14 +388,14 @@ pub fn is_well_formed(
 ) -> Result<bool, AllocError>
     ensures { IfOk result (λ is. is ≡ is_well_formed models.now instances view.now) }
 {
-    let kept = Kept::new(alloc, view)?;
-    let resources = view.ideals.resources.as_slice();
-    Ok(
-        are_good_sessions(instances, view.live.as_slice())
-            && kept.has_good_mail(models)
-            && kept.has_good_rows(models)
-            && resources.len() <= 256
-            && view.ideals.drained.len() == instances
-            && are_good_resources(models, instances, resources),
-    )
+    if !are_good_sessions(instances, view.live.as_slice()) {
+        return Ok(false);
+    }
+    if !has_good_mail(alloc, models, view)? {
+        return Ok(false);
+    }
+    if !has_good_rows(alloc, models, view)? {
+        return Ok(false);
+    }
+    Ok(are_good_ideals(models, instances, view))
 }

@@ -131,7 +131,7 @@ impl<'a> Stage<'a> {
             ≡ (is_some (message_of self.now.view.mail target.now.session target.now.part)
             || is_at_goal_of model.now target.now) }
     {
-        self.has_message(target) || is_at_goal(model, target)
+        is_at_goal(model, target) || self.has_message(target)
     }
 
     /// Whether a message of the target was shown.

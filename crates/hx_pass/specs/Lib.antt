@@ -3,3 +3,4 @@ pub mod Turns
 pub mod Lawful
 pub mod Explained
 pub mod Left
+pub mod Drafts

@@ -1,22 +1,23 @@
 //! The plan of a pass: what a controller proposes, given what it was shown.
 #![tactic(auto)]
 
-ghost use Rattle.std.specs.Prelude.{◌≡◌, true, IfOk, map};
+mod drafts;
+
+ghost use Rattle.std.specs.Prelude.{◌≡◌, true, IfOk};
 ghost use Rattle.hx_best.specs.Targets.{all_targets as all_targets_of};
 ghost use Rattle.hx_gen.specs.Modelled.{has_models};
-ghost use Rattle.hx_pass.specs.Plans.{plan, proposal};
+ghost use Rattle.hx_pass.specs.Plans.{plan};
+ghost use Rattle.hx_pass.specs.Drafts.{draft as draft_of};
 
+pub use drafts::Draft;
 use hx_best::{Index, targets_on};
-use hx_cluster::{Candidate, Plan, Proposal, Spec, Target, View};
+use hx_cluster::{Plan, Spec, Target, View};
 use hx_gen::candidates;
 use hx_hops::Hops;
 use hx_ids::ResourceId;
-use hx_lists::Seq;
 use hx_model::Model;
-use hx_report::{Fates, report_on};
 use hx_select::select_on;
 use hx_throttle::throttle;
-use hx_views::ViewIndex;
 use std::alloc::{AllocError, Global};
 
 /// The plan of what a view shows: each stage once over all resources, in order of number, throttled
@@ -29,30 +30,44 @@ pub fn plan(alloc: Global, spec: &Spec, hops: &[Hops], view: &View) -> Result<Pl
     requires models { has_models spec.now.models view.now ≡ true }
     ensures { IfOk result (λ made. made ≡ plan spec.now.models spec.now.rules view.now) }
 {
-    plan_with(alloc, spec, spec.models.as_slice(), hops, view)
+    let index = Index::of(alloc, view)?;
+    let draft = draft_on(alloc, spec, spec.models.as_slice(), hops, &index)?;
+    Ok(Plan {
+        proposals: draft.proposals(alloc)?,
+        report: draft.report_on(alloc, index.shown())?,
+    })
 }
 
-/// The same by the models of the description.
-fn plan_with(
+/// What a plan finds, and no report of it, which can be made later.
+pub fn draft(alloc: Global, spec: &Spec, hops: &[Hops], view: &View) -> Result<Draft, AllocError>
+    requires hops { hops.now ≡ spec.now.models }
+    requires models { has_models spec.now.models view.now ≡ true }
+    ensures { IfOk result (λ draft. draft ≡ draft_of spec.now.models spec.now.rules view.now) }
+{
+    let index = Index::of(alloc, view)?;
+    draft_on(alloc, spec, spec.models.as_slice(), hops, &index)
+}
+
+/// The same by an index of the view and the models of the description.
+fn draft_on(
     alloc: Global,
     spec: &Spec,
     models: &[Model],
     hops: &[Hops],
-    view: &View,
-) -> Result<Plan, AllocError>
+    index: &Index<'_>,
+) -> Result<Draft, AllocError>
     requires hops { hops.now ≡ models.now }
-    requires models { has_models models.now view.now ≡ true }
-    ensures { IfOk result (λ made. made ≡ plan models.now spec.now.rules view.now) }
+    requires models { has_models models.now index.now ≡ true }
+    ensures { IfOk result (λ draft. draft ≡ draft_of models.now spec.now.rules index.now) }
 {
-    let targets = all_targets(alloc, models, &Index::of(alloc, view)?)?;
-    let candidates = candidates(alloc, models, hops, view, targets.as_slice())?;
-    let index = ViewIndex::new(alloc, view)?;
-    let selection = select_on(alloc, models, &index, candidates.as_slice())?;
-    let throttled = throttle(alloc, spec, view, selection.accepted.as_slice())?;
-    let fates = Fates::new(alloc, &selection, &throttled)?;
-    Ok(Plan {
-        proposals: proposals_of(alloc, throttled.sent.as_slice())?,
-        report: report_on(alloc, targets.as_slice(), &index, &fates)?,
+    let targets = all_targets(alloc, models, index)?;
+    let candidates = candidates(alloc, models, hops, index.view(), targets.as_slice())?;
+    let selection = select_on(alloc, models, index.shown(), candidates.as_slice())?;
+    let throttled = throttle(alloc, spec, index.view(), selection.accepted.as_slice())?;
+    Ok(Draft {
+        targets,
+        selection,
+        throttled,
     })
 }
 
@@ -78,20 +93,4 @@ fn number(n: usize) -> Result<u32, AllocError>
     ensures { IfOk result (λ m. m ≡ n) }
 {
     u32::try_from(n).map_err(|_| AllocError)
-}
-
-/// What a plan proposes of the sent candidates.
-fn proposals_of(alloc: Global, sent: &[Candidate]) -> Result<Seq<Proposal>, AllocError>
-    ensures { IfOk result (λ proposals. proposals ≡ map proposal sent.now) }
-{
-    let mut proposals = Seq::new(alloc);
-    for candidate in sent {
-        proposals.push(Proposal {
-            session: candidate.session,
-            part: candidate.part,
-            from: candidate.from,
-            to: candidate.to,
-        })?;
-    }
-    Ok(proposals)
 }

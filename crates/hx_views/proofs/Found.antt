@@ -1,12 +1,13 @@
 -- What is looked up at a part is what the view shows.
-use Rattle.std.proofs.Common.{◌≡◌, List, refl, ◌∙◌}
+use Rattle.std.proofs.Common.{◌≡◌, List, length, refl, ap, ◌∙◌}
 use Rattle.std.specs.List.{list_any}
+use Rattle.std.proofs.lemmas.List.Elements.{filter_agree}
 use Rattle.hx_ids.specs.declared.PartId.{PartId}
 use Rattle.hx_ids.specs.declared.SessionId.{SessionId}
 use Rattle.hx_ids.specs.declared.StateId.{StateId}
 use Rattle.hx_cluster.specs.declared.state.Row.{Row}
 use Rattle.hx_cluster.specs.declared.state.Message.{Message}
-use Rattle.hx_cluster.specs.Ends.{state_of, message_of, has_end}
+use Rattle.hx_cluster.specs.Ends.{state_of, message_of, has_end, count_over}
 use Rattle.hx_cluster.specs.Steps.{is_flag}
 use Rattle.hx_parts.specs.Parts.{items_at, HasSameAt}
 use Rattle.hx_parts.proofs.Narrow.{state-at, state-same, message-at, message-same, flag-at, flag-same, end-at, row-same}
@@ -24,3 +25,8 @@ flag_found resets kept h s p = flag-at kept s p ∙ flag-same resets kept h s p
 pub end_found : (rows kept_rows : List Row) (mail kept_mail : List Message) → HasSameAt (λ r. r.part) rows kept_rows → HasSameAt (λ m. m.part) mail kept_mail
     → (p : PartId) (t : StateId) (s : SessionId) → has_end (items_at (λ r. r.part) p kept_rows) (items_at (λ m. m.part) p kept_mail) p t s ≡ has_end rows mail p t s
 end_found rows kept_rows mail kept_mail h k p t s = end-at kept_rows kept_mail p t s ∙ rw (row-same rows kept_rows h s p, message-same mail kept_mail k s p) refl
+
+pub ends_found : (rows kept_rows : List Row) (mail kept_mail : List Message) → HasSameAt (λ r. r.part) rows kept_rows → HasSameAt (λ m. m.part) mail kept_mail
+    → (sessions : List SessionId) (p : PartId) (t : StateId) → count_over sessions (items_at (λ r. r.part) p kept_rows) (items_at (λ m. m.part) p kept_mail) p t ≡ count_over sessions rows mail p t
+ends_found rows kept_rows mail kept_mail h k sessions p t =
+    ap length (filter_agree (has_end (items_at (λ r. r.part) p kept_rows) (items_at (λ m. m.part) p kept_mail) p t) (has_end rows mail p t) (end_found rows kept_rows mail kept_mail h k p t) sessions)

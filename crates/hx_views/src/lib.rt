@@ -1,17 +1,18 @@
 //! A view in order of part, so that what it shows of a part is found at once.
 #![tactic(auto)]
 
-ghost use Rattle.std.specs.Prelude.{◌≡◌, ◌^◌, ◌<◌, length, IfOk, unwrap_or, option_copied};
+ghost use Rattle.std.specs.Prelude.{◌≡◌, ◌^◌, ◌<◌, length, map, IfOk, unwrap_or, option_copied};
 ghost use Rattle.std.specs.List.{list_any};
 ghost use Rattle.hx_cluster.specs.declared.planning.View.{View};
-ghost use Rattle.hx_cluster.specs.Ends.{state_of, message_of, has_end, limit_over, shown_of};
+ghost use Rattle.hx_cluster.specs.Ends.{state_of, message_of, has_end, limit_over, count_over};
 ghost use Rattle.hx_cluster.specs.Ends.{replicas_of, model_of, no_model};
 ghost use Rattle.hx_cluster.specs.Lookups.{model_in};
 ghost use Rattle.hx_cluster.specs.Steps.{is_flag};
+ghost use Rattle.hx_parts.specs.Parts.{items_at};
 ghost use Rattle.hx_views.specs.Index.{count_in};
 
 use hx_cluster::{Message, Row, View, has_end, is_flag_of, message_on, state_on};
-use hx_ids::{PartId, ResourceId, SessionId, StateId};
+use hx_ids::{InstanceId, PartId, ResourceId, SessionId, StateId};
 use hx_model::{Model, limit};
 use hx_parts::ByPart;
 use std::alloc::{AllocError, Global};
@@ -43,6 +44,23 @@ fn has_flag(flags: &[(SessionId, PartId)], session: SessionId, part: PartId) -> 
     flags.iter().any(|f| is_flag_of(f, session, part))
 }
 
+/// How many live sessions have a state among the ends of a part.
+fn count_over(
+    live: &[(SessionId, InstanceId)],
+    rows: &[Row],
+    mail: &[Message],
+    part: PartId,
+    state: StateId,
+) -> u32
+    requires { length live.now < 2 ^ 32 }
+    ensures { result ≡ count_over (map (λ e. e.0) live.now) rows.now mail.now part state }
+{
+    live.iter()
+        .map(|l| l.0)
+        .filter(|session| has_end(rows, mail, part, state, *session))
+        .count() as u32
+}
+
 impl<'a> ViewIndex<'a> {
     /// The index of a view. More than 4,294,967,295 live sessions are want of memory.
     pub fn new(alloc: Global, view: &'a View) -> Result<ViewIndex<'a>, AllocError>
@@ -60,10 +78,24 @@ impl<'a> ViewIndex<'a> {
     }
 
     /// The view.
-    pub fn view(&self) -> &View
+    pub fn view(&self) -> &'a View
         ensures { result.now ≡ self.now }
     {
         self.view
+    }
+
+    /// The rows of a part.
+    pub fn rows_at(&self, part: PartId) -> &[Row]
+        ensures { result.now ≡ items_at (λ row. row.part) part self.now.rows }
+    {
+        self.rows.at(part)
+    }
+
+    /// The reset flags of a part.
+    pub fn resets_at(&self, part: PartId) -> &[(SessionId, PartId)]
+        ensures { result.now ≡ items_at (λ flag. flag.1) part self.now.ideals.resets }
+    {
+        self.resets.at(part)
     }
 
     /// The state of a session's replica, if it has one.
@@ -102,12 +134,8 @@ impl<'a> ViewIndex<'a> {
     pub fn count_of(&self, part: PartId, state: StateId) -> u32
         ensures { result ≡ count_in self.now part state }
     {
-        self.view
-            .live
-            .iter()
-            .map(|l| l.0)
-            .filter(|session| self.has_end(part, state, *session))
-            .count() as u32
+        let live = self.view.live.as_slice();
+        count_over(live, self.rows.at(part), self.mail.at(part), part, state)
     }
 
     #[tactic(auto, using(hx_cluster::proofs::Shown::model_in_or))]
