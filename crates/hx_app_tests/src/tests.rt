@@ -1,3 +1,5 @@
+mod hostile;
+
 use hx_app::{RunMode, Status, Task, run_script, start};
 use hx_io::{MemSink, MemSource};
 use std::alloc::{AllocError, Global};
@@ -24,7 +26,15 @@ const TASK: Task = Task {
 
 /// Runs an input through a source whose given calls fail, and a sink that takes so many bytes.
 fn run_on(alloc: Global, input: &str, fails: &[u64], most: u64) -> Result<Ran, AllocError> {
-    let bytes = Vec::from_slice(alloc, input.as_bytes())?;
+    run_bytes(
+        alloc,
+        Vec::from_slice(alloc, input.as_bytes())?,
+        fails,
+        most,
+    )
+}
+
+fn run_bytes(alloc: Global, bytes: Vec<u8>, fails: &[u64], most: u64) -> Result<Ran, AllocError> {
     let mut source = MemSource::new(bytes, Vec::from_slice(alloc, fails)?);
     let mut sink = MemSink::new(alloc, Vec::new(alloc), most);
     let status = run_script(alloc, TASK, &mut source, &mut sink);
