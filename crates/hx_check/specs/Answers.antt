@@ -1,6 +1,6 @@
 -- The event that an entry of a log tells, where the cluster answers it so. What the text leaves out, change numbers and a post's rows,
 -- comes from the cluster and from what the controller was shown.
-use Rattle.std.specs.Prelude.{ℕ, Bool, true, false, ◌==◌, ◌&&◌, List, map, length, Option, None, Some, is_none}
+use Rattle.std.specs.Prelude.{ℕ, Bool, true, false, ◌==◌, ◌&&◌, List, map, length, Option, None, Some, is_none, is_some}
 use Rattle.std.specs.List.{list_all}
 use Rattle.std.specs.Cmp.Lexicographic.{pointwise}
 use Rattle.std.specs.Option.{option_eq}
@@ -33,6 +33,7 @@ use Rattle.hx_script.specs.declared.log.LogMove.{LogMove}
 use Rattle.hx_script.specs.declared.log.LogEntry.{LogEntry}
 use Rattle.hx_script.specs.declared.log.LogEntry.TheVariants as logs
 use Rattle.hx_script.specs.LogEntries.{ended_told}
+use Rattle.hx_script.specs.Modes.{mode_numbered}
 use Rattle.hx_script.specs.NewIdeals.{bare_ideal}
 use Rattle.hx_check.specs.Standing.{Standing, turn_in}
 
@@ -125,7 +126,7 @@ answered_in w c (logs.Tick n ended) =
 answered_in w c (logs.Drain i) = stepped_if c true (steps.Drain i)
 answered_in w c (logs.Undrain i) = stepped_if c true (steps.Undrain i)
 answered_in w c (logs.Add name r model replicas parts mode) =
-    stepped_if c (r.0 == length c.resources) (steps.Add name model (bare_ideal replicas parts mode))
+    stepped_if c ((r.0 == length c.resources) && is_some (mode_numbered mode)) (steps.Add name model (bare_ideal replicas parts mode))
 answered_in w c (logs.Drop name r) = stepped_if c (is_named c name r) (steps.Drop r)
 answered_in w c (logs.List p list) = stepped_if c (is_part c p) (steps.SetList (part_of p) list)
 answered_in w c (logs.Map p entries) = stepped_if c (is_part c p) (steps.SetMap (part_of p) entries)

@@ -1,6 +1,6 @@
 -- The judge of logs: an entry is lawful where the cluster answers so, the call is the next of its turn, the proposals are those of the
 -- plan, and the message was fetched. Else the first of these that doesn't hold is the cause.
-use Rattle.std.specs.Prelude.{◌≡◌, ℕ, ◌+◌, Bool, true, not, ◌==◌, ◌&&◌, List, [], ◌∷◌, ◌++◌, Option, None, Some, Result, Ok, Err, if◌then◌else◌, codes, decimal}
+use Rattle.std.specs.Prelude.{◌≡◌, ℕ, ◌+◌, Bool, true, not, ◌==◌, ◌&&◌, List, [], ◌∷◌, ◌++◌, map, Option, None, Some, Result, Ok, Err, if◌then◌else◌, codes, decimal}
 use Rattle.std.specs.Cmp.Lexicographic.{pointwise}
 use Rattle.hx_text.specs.declared.line_table.TextFault.{TextFault}
 use Rattle.hx_text.specs.declared.line_table.TextFault.TheVariants as text_faults
@@ -12,7 +12,8 @@ use Rattle.hx_cluster.specs.declared.happenings.Event.{Event}
 use Rattle.hx_cluster.specs.declared.happenings.Event.TheVariants as events
 use Rattle.hx_cluster.specs.Ends.{part_eq}
 use Rattle.hx_cluster.specs.Steps.{opening}
-use Rattle.hx_cluster.specs.Events.{replay}
+use Rattle.hx_cluster.specs.declared.state.Cluster.{Cluster}
+use Rattle.hx_cluster.specs.Events.{next, replay}
 use Rattle.hx_pass.specs.Lawful.{IsLawful}
 use Rattle.hx_pass.specs.Plans.{plan}
 use Rattle.hx_pass.specs.Turns.{Live, Mail, States, Ideals, Send, Post, is_first, is_due, is_of_epoch}
@@ -130,3 +131,13 @@ cause_name causes.Fetch = codes "fetch"
 abbrev pub verdict_text : Verdict → List ℕ
 verdict_text (verdicts.Lawful n) = codes "lawful " ++ decimal n ++ codes "\n"
 verdict_text (verdicts.Unlawful line cause) = codes "unlawful " ++ decimal line ++ codes " " ++ cause_name cause ++ codes "\n"
+
+-- what the events of a history tell, each from the cluster before it
+abbrev pub told_along : Cluster → List Event → List (Option LogEntry)
+told_along c [] = []
+told_along c (e ∷ es) = entry_told_by c e ∷ told_along (next c e) es
+
+-- a lawful history whose events tell the entries of some lines
+pub record IsToldBy (spec : Spec) (h : List Event) (lines : List LogLine) : Type 0 where
+  pub lawful : IsLawful spec h
+  pub told : told_along (opening spec) h ≡ map (λ l. l.entry) lines

@@ -1,7 +1,6 @@
 -- What a history leaves: the cluster, each controller's turn, and how far each session's messages were fetched.
-use Rattle.std.specs.Prelude.{◌≡◌, ℕ, ◌+◌, Bool, true, false, ◌==◌, List, [], ◌∷◌, Some, replicate, slice_index_or, nat_lt, find, if◌then◌else◌}
+use Rattle.std.specs.Prelude.{◌≡◌, ℕ, zero, suc, ◌+◌, Bool, true, List, [], ◌∷◌, Some, replicate, slice_index_or, nat_lt}
 use Rattle.std.specs.List.{list_any}
-use Rattle.std.specs.Option.{option_map_or}
 use Rattle.hx_ids.specs.declared.ControllerId.{ControllerId}
 use Rattle.hx_ids.specs.declared.SessionId.{SessionId}
 use Rattle.hx_ids.specs.declared.MsgId.{MsgId}
@@ -15,15 +14,10 @@ use Rattle.hx_cluster.specs.Events.{next, replay, can_take}
 use Rattle.hx_pass.specs.Turns.{Turn, idle_turn, turn_after}
 use Rattle.hx_pass.specs.Lawful.{fetched_from}
 
--- a session that fetched, and the next message number at its last fetch
-pub record Mark : Type 0 where
-  pub session : SessionId
-  pub next : ℕ
-
 pub record Standing : Type 0 where
   pub cluster : Cluster
   pub turns : List Turn
-  pub marks : List Mark
+  pub marks : List ℕ
 
 abbrev pub opening_standing : Spec → Standing
 opening_standing spec = record { cluster = opening spec; turns = replicate spec.controllers idle_turn; marks = [] }
@@ -33,16 +27,15 @@ abbrev pub turns_after : Cluster → Event → ℕ → List Turn → List Turn
 turns_after c e k [] = []
 turns_after c e k (t ∷ ts) = turn_after c (record { 0 = k }) t e ∷ turns_after c e (k + 1) ts
 
--- a fetch moves its session's mark
-abbrev pub is_mark_of : SessionId → Mark → Bool
-is_mark_of s m = m.session.0 == s.0
+-- a session's mark, at its number, is the next message number at its last fetch
+abbrev pub with_mark : List ℕ → ℕ → ℕ → List ℕ
+with_mark [] zero next = next ∷ []
+with_mark [] (suc s) next = 0 ∷ with_mark [] s next
+with_mark (x ∷ xs) zero next = next ∷ xs
+with_mark (x ∷ xs) (suc s) next = x ∷ with_mark xs s next
 
-abbrev pub with_mark : List Mark → Mark → List Mark
-with_mark [] m = m ∷ []
-with_mark (x ∷ xs) m = if is_mark_of m.session x then m ∷ xs else x ∷ with_mark xs m
-
-abbrev pub marks_after : Cluster → List Mark → Event → List Mark
-marks_after c marks (events.Fetch i (Some s) n) = with_mark marks (record { session = s; next = c.next_msg })
+abbrev pub marks_after : Cluster → List ℕ → Event → List ℕ
+marks_after c marks (events.Fetch i (Some s) n) = with_mark marks s.0 c.next_msg
 marks_after c marks _ = marks
 
 abbrev pub stood_after : Standing → Event → Standing
@@ -64,8 +57,11 @@ abbrev pub turn_in : Standing → ControllerId → Turn
 turn_in w k = slice_index_or w.turns k.0 idle_turn
 
 -- whether a number is below its session's mark
+abbrev pub mark_of : List ℕ → SessionId → ℕ
+mark_of marks s = slice_index_or marks s.0 0
+
 abbrev pub is_marked : Standing → SessionId → MsgId → Bool
-is_marked w s id = option_map_or (λ m. nat_lt id.0 m.next) (find (is_mark_of s) w.marks) false
+is_marked w s id = nat_lt id.0 (mark_of w.marks s)
 
 -- once a message can be taken, a fetch showed it exactly where its number is below the mark of its session: this is to be shown of
 -- every legal history

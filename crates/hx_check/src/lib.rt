@@ -1,6 +1,8 @@
 //! The judge of logs: whether a log is that of a lawful history.
 #![tactic(auto)]
 
+pub mod laws;
+
 /// Why a line of a log isn't lawful: the first of these that fits.
 #[derive(Clone, Copy, Debug, PartialEq, Eq)]
 pub enum Cause {

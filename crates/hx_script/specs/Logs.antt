@@ -28,6 +28,8 @@ use Rattle.hx_script.specs.declared.log.LogEntry.TheVariants as logs
 use Rattle.hx_script.specs.declared.log.LogLine.{LogLine}
 use Rattle.hx_script.specs.declared.log.LogVerb.{LogVerb}
 use Rattle.hx_script.specs.declared.log.LogVerb.TheVariants as verbs
+use Rattle.hx_script.specs.declared.log.Sort.{Sort}
+use Rattle.hx_script.specs.declared.log.Sort.TheVariants as sorts
 use Rattle.hx_script.specs.Grammar.{map_ok, then_ok, or_fault, instance_word, model_word, state_word, number_word, numbered_by, controller_word, mode_word, pair_word, all_words, one_word, two_words, three_words, five_words, instance_alone, controller_alone}
 
 -- the words of a line, cut at each space
@@ -300,15 +302,13 @@ abbrev pub entry_told : Spec → List ℕ → List (List ℕ) → Option LogEntr
 entry_told spec line indented = entry_of (told_words spec (exact_words line) indented)
 
 -- a line of a log is passed over, belongs to the entry before it, or is an entry
-pub data Sort : Type 0 where
-  PassedOver : Sort
-  Indented : Sort
-  Head : Sort
+abbrev pub is_remark : ℕ → Bool
+is_remark a = list_any (λ c. a == c) (codes "!?=")
 
 abbrev pub sort_of : List ℕ → Sort
-sort_of [] = PassedOver
-sort_of (a ∷ []) = if list_any (λ c. a == c) (codes "!?=") then PassedOver else Head
-sort_of (a ∷ b ∷ bs) = if list_any (λ c. a == c) (codes "!?=") then PassedOver else if (a == 32) && (b == 32) then Indented else Head
+sort_of [] = sorts.PassedOver
+sort_of (a ∷ []) = if is_remark a then sorts.PassedOver else sorts.Head
+sort_of (a ∷ b ∷ bs) = if is_remark a then sorts.PassedOver else if (a == 32) && (b == 32) then sorts.Indented else sorts.Head
 
 -- an entry's line with its number and the indented lines that belong to it
 pub record Block : Type 0 where
@@ -322,19 +322,23 @@ pub record Blocks : Type 0 where
   pub entries : List Block
 
 abbrev pub with_line : ℕ → List ℕ → Sort → Blocks → Blocks
-with_line n l PassedOver b = b
-with_line n l Indented b = record b { loose = (n, drop 2 l) ∷ b.loose }
-with_line n l Head b = record { loose = []; entries = (record { number = n; line = l; indented = map (λ x. x.1) b.loose }) ∷ b.entries }
+with_line n l sorts.PassedOver b = b
+with_line n l sorts.Indented b = record b { loose = (n, drop 2 l) ∷ b.loose }
+with_line n l sorts.Head b = record { loose = []; entries = (record { number = n; line = l; indented = map (λ x. x.1) b.loose }) ∷ b.entries }
 
 abbrev pub blocks_from : ℕ → List (List ℕ) → Blocks
 blocks_from n [] = record { loose = []; entries = [] }
 blocks_from n (l ∷ ls) = with_line n l (sort_of l) (blocks_from (n + 1) ls)
 
--- the names with the one that an `add` entry brings
-abbrev pub with_added : Spec → List ℕ → Option LogEntry → Spec
-with_added spec line (Some (logs.Add name r model replicas parts mode)) =
-    record spec { resource_names = interned spec.resource_names (before_first is_hash (drop 4 line)) }
-with_added spec line _ = spec
+-- the names with the one that an `add` entry brings, which is in its second word
+abbrev pub second_word : List (List ℕ) → List ℕ
+second_word (a ∷ b ∷ more) = b
+second_word _ = []
+
+abbrev pub with_added : Spec → List (List ℕ) → Option LogEntry → Spec
+with_added spec words (Some (logs.Add name r model replicas parts mode)) =
+    record spec { resource_names = interned spec.resource_names (before_first is_hash (second_word words)) }
+with_added spec words _ = spec
 
 abbrev pub line_before : LogLine → List LogLine × Spec → List LogLine × Spec
 line_before l rest = (l ∷ rest.0, rest.1)
@@ -342,7 +346,7 @@ line_before l rest = (l ∷ rest.0, rest.1)
 abbrev pub told_entries : Spec → List Block → List LogLine × Spec
 told_entries spec [] = ([], spec)
 told_entries spec (b ∷ bs) =
-    line_before (record { line = b.number; entry = entry_told spec b.line b.indented }) (told_entries (with_added spec b.line (entry_told spec b.line b.indented)) bs)
+    line_before (record { line = b.number; entry = entry_told spec b.line b.indented }) (told_entries (with_added spec (exact_words b.line) (entry_told spec b.line b.indented)) bs)
 
 -- indented lines with no entry before them are no lines of a log
 abbrev pub loose_line : ℕ × List ℕ → LogLine

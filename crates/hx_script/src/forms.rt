@@ -16,7 +16,7 @@ use hx_lists::Seq;
 use std::alloc::{AllocError, Global};
 
 /// An instance.
-fn instance_alone(spec: &Spec, words: &[&str]) -> Result<InstanceId, ScriptKind>
+pub fn instance_alone(spec: &Spec, words: &[&str]) -> Result<InstanceId, ScriptKind>
     ensures { result ≡ Grammar.instance_alone spec.now (map (λ w. w.now) words.now) }
 {
     let [instance] = words else {
@@ -26,7 +26,7 @@ fn instance_alone(spec: &Spec, words: &[&str]) -> Result<InstanceId, ScriptKind>
 }
 
 /// A controller.
-fn controller_alone(spec: &Spec, words: &[&str]) -> Result<ControllerId, ScriptKind>
+pub fn controller_alone(spec: &Spec, words: &[&str]) -> Result<ControllerId, ScriptKind>
     ensures { result ≡ Grammar.controller_alone spec.now (map (λ w. w.now) words.now) }
 {
     let [controller] = words else {
@@ -126,7 +126,7 @@ fn bare_line(what: What, words: &[&str]) -> Result<What, ScriptKind>
 }
 
 /// The instances that words name.
-fn instance_words(
+pub fn instance_words(
     alloc: Global,
     spec: &Spec,
     words: &[&str],
@@ -145,7 +145,7 @@ fn instance_words(
 }
 
 /// The instances with their states that words name.
-fn pair_words(
+pub fn pair_words(
     alloc: Global,
     spec: &Spec,
     words: &[&str],

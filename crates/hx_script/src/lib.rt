@@ -12,15 +12,20 @@ mod verbs;
 mod words;
 
 pub use faults::{ScriptFault, ScriptKind, ScriptRefusal};
+pub use forms::{controller_alone, instance_alone, instance_words, pair_words};
 pub use history::{Printer, logs_grow_by_entries, print_history};
 use hx_ids::{ControllerId, InstanceId, ModelId, MsgId, StateId};
 use hx_lists::Seq;
 pub use hx_print::{Note, Word};
-pub use log::{LogEntry, LogLine, LogMove, LogPart, LogVerb};
+pub use log::{LogEntry, LogLine, LogMove, LogPart, LogVerb, Sort};
 pub use modes::{mode_number, mode_numbered};
 pub use parsing::parse;
 pub use printing::{print_line, printed_lines_are_read_again};
 pub use verbs::Verb;
+pub use words::{
+    controller_word, instance_word, mode_word, model_word, number_word, numbered_by, place_after,
+    small_number_word, state_word,
+};
 
 /// Which of a turn's reads.
 #[derive(Clone, Copy, Debug, PartialEq, Eq)]

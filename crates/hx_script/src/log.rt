@@ -134,3 +134,11 @@ pub enum LogVerb {
     Write,
     Ack,
 }
+
+/// What a line of a log is: passed over, of the entry before it, or an entry's own.
+#[derive(Clone, Copy, Debug, PartialEq, Eq)]
+pub enum Sort {
+    PassedOver,
+    Indented,
+    Head,
+}

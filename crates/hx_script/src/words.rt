@@ -63,7 +63,7 @@ pub fn name_word(spec: &Spec, word: &str) -> Result<u32, ScriptKind>
 }
 
 /// The place that a name has, or gets as the last.
-fn place_after(names: &Names, name: &str) -> u32
+pub fn place_after(names: &Names, name: &str) -> u32
     ensures { result ≡ place_after names.now name.now }
 {
     match names.find(name) {
@@ -109,7 +109,7 @@ pub fn part_words(spec: &Spec, name: &str, part: &str) -> Result<(u32, u32), Scr
 }
 
 /// The number behind a letter.
-fn numbered_by(letter: char, word: &str) -> Option<u64>
+pub fn numbered_by(letter: char, word: &str) -> Option<u64>
     requires { letter < 128 }
     ensures { result ≡ Grammar.numbered_by letter word.now }
 {
