@@ -54,13 +54,9 @@ fn an_outcome_comes_to_the_row(rt: HostRuntime) -> Result<(), Fail> {
 }
 
 #[test]
-fn a_session_is_emptied(rt: HostRuntime) -> Result<(), Fail> {
+fn the_first_message_of_a_session_goes(rt: HostRuntime) -> Result<(), Fail> {
     let mut slots = with_row(rt.alloc())?;
     let first = slots.pop_message(SESSION).map(|m| m.id);
     assert_eq!(rt; first, Some(MsgId(1)));
-    if slots.pop_message(SESSION).is_none() {
-        let row = slots.pop_row(SESSION).map(|r| r.part);
-        assert_eq!(rt; row, Some(PART));
-    }
     Ok(())
 }
