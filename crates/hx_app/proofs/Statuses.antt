@@ -9,27 +9,34 @@ use Rattle.hx_words.specs.declared.Words.TheVariants as asks
 use Rattle.hx_words.specs.declared.WordsFault.{WordsFault}
 use Rattle.hx_words.specs.declared.WordsFault.TheVariants as faults
 use Rattle.hx_words.specs.Tasks.{HoldsOfAsked}
-use Rattle.hx_replies.specs.Constants.{most_bytes, no_memory}
-use Rattle.hx_replies.specs.Answers.{Answer, answer_to, usage, version, words_refused}
+use Rattle.hx_answers.specs.Constants.{most_bytes, no_memory}
+use Rattle.hx_answers.specs.Answers.{Answer, usage, version, words_refused}
+use Rattle.hx_app.specs.declared.program.Behind.{Behind}
+use Rattle.hx_app.specs.declared.program.Behind.TheVariants as behinds
 use Rattle.hx_app.specs.Writes.{SinkAt, Writes}
-use Rattle.hx_app.specs.Runs.{SourceAt, RunsIn, RunsInput, Tells, RunsWords, HoldsOfTold}
+use Rattle.hx_app.specs.Runs.{SourceAt, RunsIn, RunsInput, Tells, RunsWords, HoldsOfTold, IsSoundInput, answer_in}
 use Rattle.hx_replies.proofs.Given.{run_sound}
+use Rattle.hx_verdicts.proofs.Sound.{sound_log}
 
 same_answer : (status : ℕ) (text : List ℕ) (a : Answer) → status ≡ a.status → text ≡ a.text → record { status = status; text = text } ≡ a
 same_answer status text a status_is text_is = rw (status_is, text_is) refl
 
+sound_input : (behind : Behind) (bytes : List ℕ) → IsSoundInput behind bytes
+sound_input behinds.Script bytes = run_sound bytes
+sound_input behinds.Log bytes = sound_log bytes
+
 -- the answer to an input that was read is written
-pub runs_answer : (source source' : SourceAt) (sink sink' : SinkAt) (bytes text : List ℕ) (status result : ℕ)
+pub runs_answer : (behind : Behind) (source source' : SourceAt) (sink sink' : SinkAt) (bytes text : List ℕ) (status result : ℕ)
     → Consumes source.left source'.left bytes → IsAtEnd source'.left → length bytes ≤ most_bytes → source.faults ≤ source'.faults
-    → status ≡ (answer_to bytes).status → text ≡ (answer_to bytes).text
+    → status ≡ (answer_in behind bytes).status → text ≡ (answer_in behind bytes).text
     → Writes (record { status = status; text = text }) sink sink' result
-    → RunsInput source source' sink sink' result
-runs_answer source source' sink sink' bytes text status result given end short later status_is text_is w =
+    → RunsInput behind source source' sink sink' result
+runs_answer behind source source' sink sink' bytes text status result given end short later status_is text_is w =
     let answer : Answer = record { status = status; text = text } in
     record {
       ended = inl (
         answer,
-        inl (bytes, record { given = given; end = end; short = short; sound = run_sound bytes }, same_answer status text (answer_to bytes) status_is text_is),
+        inl (bytes, record { given = given; end = end; short = short; sound = sound_input behind bytes }, same_answer status text (answer_in behind bytes) status_is text_is),
         w,
       );
       source_later = later;
@@ -46,6 +53,7 @@ as_asked asked found source source' sink sink' status is runs =
 run_unheard : (mode : RunMode) (task : Task) (source : SourceAt) (sink : SinkAt) → RunsIn mode task source source sink sink no_memory
 run_unheard modes.Sim task source sink = record { ended = inr (record { wanted = refl; got = refl }); source_later = omega arith; sink_later = omega arith }
 run_unheard modes.Gen task source sink = record { ended = inr (refl, refl); unread = refl }
+run_unheard modes.Check task source sink = record { ended = inr (record { wanted = refl; got = refl }); source_later = omega arith; sink_later = omega arith }
 
 pub words_unheard : (asked : Result Words WordsFault) (source : SourceAt) (sink : SinkAt) → RunsWords source source sink sink no_memory asked
 words_unheard (Ok (asks.Run task)) source sink = run_unheard task.mode task source sink

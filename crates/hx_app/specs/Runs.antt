@@ -13,9 +13,14 @@ use Rattle.hx_words.specs.declared.Words.TheVariants as asks
 use Rattle.hx_words.specs.declared.WordsFault.{WordsFault}
 use Rattle.hx_words.specs.declared.WordsFault.TheVariants as faults
 use Rattle.hx_words.specs.Tasks.{HoldsOfAsked}
-use Rattle.hx_replies.specs.Constants.{most_bytes, no_memory}
+use Rattle.hx_answers.specs.Constants.{most_bytes, no_memory}
+use Rattle.hx_answers.specs.Answers.{Answer, usage, version, words_refused, read_fault, too_long}
 use Rattle.hx_replies.specs.History.{IsSoundRun}
-use Rattle.hx_replies.specs.Answers.{Answer, answer_to, generated_answer, usage, version, words_refused, read_fault, too_long}
+use Rattle.hx_replies.specs.Answers.{answer_to, generated_answer}
+use Rattle.hx_verdicts.specs.Sound.{IsSoundLog}
+use Rattle.hx_verdicts.specs.Verdicts.{judged_answer}
+use Rattle.hx_app.specs.declared.program.Behind.{Behind}
+use Rattle.hx_app.specs.declared.program.Behind.TheVariants as behinds
 use Rattle.hx_app.specs.Writes.{SinkAt, Writes}
 
 -- a source at one moment: the bytes that are left, where it tells them, and how many calls have failed
@@ -23,13 +28,23 @@ pub record SourceAt : Type 0 where
   pub left : Option (List ℕ)
   pub faults : ℕ
 
--- the source was read to its end and gave these bytes. They aren't too many, and the history of their run is sound: lawful, safe at each
--- place, with one run of each taken message, and without a refused proposal
-pub record IsRead (old new : SourceAt) (bytes : List ℕ) : Type 0 where
+-- the answer to an input: a script is run, and a log judged
+abbrev pub answer_in : Behind → List ℕ → Answer
+answer_in behinds.Script bytes = answer_to bytes
+answer_in behinds.Log bytes = judged_answer bytes
+
+-- the history of its run, or the one that its log tells if it is found lawful, is sound: lawful, safe at each place, with one run of each
+-- taken message, and without a refused proposal
+abbrev pub IsSoundInput : Behind → List ℕ → Type 0
+IsSoundInput behinds.Script bytes = IsSoundRun bytes
+IsSoundInput behinds.Log bytes = IsSoundLog bytes
+
+-- the source was read to its end and gave these bytes, not too many
+pub record IsRead (behind : Behind) (old new : SourceAt) (bytes : List ℕ) : Type 0 where
   pub given : Consumes old.left new.left bytes
   pub end : IsAtEnd new.left
   pub short : length bytes ≤ most_bytes
-  pub sound : IsSoundRun bytes
+  pub sound : IsSoundInput behind bytes
 
 -- the source failed before it gave too many bytes
 pub record IsFailed (old new : SourceAt) : Type 0 where
@@ -41,9 +56,9 @@ abbrev pub IsTooLong : SourceAt → SourceAt → Type 0
 IsTooLong old new = Gave old.left new.left (λ bytes. most_bytes < length bytes)
 
 -- what became of the source calls for an answer
-abbrev pub CallsFor : SourceAt → SourceAt → Answer → Type 0
-CallsFor old new answer =
-    ((bytes : List ℕ) × IsRead old new bytes × (answer ≡ answer_to bytes))
+abbrev pub CallsFor : Behind → SourceAt → SourceAt → Answer → Type 0
+CallsFor behind old new answer =
+    ((bytes : List ℕ) × IsRead behind old new bytes × (answer ≡ answer_in behind bytes))
     ⊎ (IsFailed old new × (answer ≡ read_fault))
     ⊎ (IsTooLong old new × (answer ≡ too_long))
 
@@ -53,9 +68,9 @@ pub record IsUnwritten (old new : SinkAt) (status : ℕ) : Type 0 where
   pub got : new.got ≡ old.got
 
 -- the run of an input on a source and a sink. Their counts of faults never fall
-pub record RunsInput (source source' : SourceAt) (sink sink' : SinkAt) (status : ℕ) : Type 0 where
+pub record RunsInput (behind : Behind) (source source' : SourceAt) (sink sink' : SinkAt) (status : ℕ) : Type 0 where
   pub ended :
-      ((answer : Answer) × CallsFor source source' answer × Writes answer sink sink' status)
+      ((answer : Answer) × CallsFor behind source source' answer × Writes answer sink sink' status)
       ⊎ IsUnwritten sink sink' status
   pub source_later : source.faults ≤ source'.faults
   pub sink_later : sink.faults ≤ sink'.faults
@@ -71,9 +86,10 @@ pub record Tells (answer : Answer) (source source' : SourceAt) (sink sink' : Sin
 
 -- a run of a task. Where its input is generated nothing is read
 abbrev pub RunsIn : RunMode → Task → SourceAt → SourceAt → SinkAt → SinkAt → ℕ → Type 0
-RunsIn modes.Sim task source source' sink sink' status = RunsInput source source' sink sink' status
+RunsIn modes.Sim task source source' sink sink' status = RunsInput behinds.Script source source' sink sink' status
 RunsIn modes.Gen task source source' sink sink' status =
     Tells (generated_answer task) source source' sink sink' status
+RunsIn modes.Check task source source' sink sink' status = RunsInput behinds.Log source source' sink sink' status
 
 abbrev pub Runs : Task → SourceAt → SourceAt → SinkAt → SinkAt → ℕ → Type 0
 Runs task source source' sink sink' status = RunsIn task.mode task source source' sink sink' status

@@ -3,6 +3,6 @@
 
 mod program;
 
-pub use hx_replies::Status;
+pub use hx_answers::Status;
 pub use hx_words::{RunMode, Task};
 pub use program::{run, run_script, start};

@@ -1,20 +1,33 @@
 //! The run of the program: it reads a description and a script, and writes what comes of them.
-ghost use Rattle.std.specs.Prelude.{◌<◌, length, map, Err, MatchResult};
+ghost use Rattle.std.specs.Prelude.{◌<◌, ◌≤◌, length, map, Err, IfOk, MatchResult};
 ghost use Rattle.std.specs.String.{string_bytes};
 ghost use Rattle.std.specs.IoError.{error_kind};
 ghost use Rattle.hx_words.specs.Tasks.{HasRanges, HoldsOfAsked};
-ghost use Rattle.hx_replies.specs.Answers.{generated_answer, words_refused};
+ghost use Rattle.hx_answers.specs.Answers.{AnswersAs, words_refused};
+ghost use Rattle.hx_answers.specs.Constants.{most_bytes};
+ghost use Rattle.hx_replies.specs.Answers.{generated_answer};
 ghost use Rattle.hx_app.specs.Writes.{Writes};
-ghost use Rattle.hx_app.specs.Runs.{EndsTold, Runs, RunsInput, RunsWords, HoldsOfTold, untold_by};
+ghost use Rattle.hx_app.specs.Runs.{EndsTold, Runs, RunsInput, RunsWords, HoldsOfTold, answer_in, untold_by};
 
+use hx_answers::{MOST_BYTES, Reply, Status};
 use hx_io::{ReadFault, Sink, Source, read_all, write_all};
-use hx_replies::{MOST_BYTES, Status, answer, generated};
+use hx_replies::{answer, generated};
+use hx_verdicts::judged;
 use hx_words::{RunMode, Task, Words, WordsFault, read_words, usage, version};
 use std::alloc::{AllocError, Global};
 use std::io;
 use std::io::ErrorKind;
 use std::sync::Wait;
 use std::thread::Threads;
+
+/// What stands behind the description of an input.
+#[derive(Clone, Copy, Debug, PartialEq, Eq)]
+pub(crate) enum Behind {
+    /// A script, which is run.
+    Script,
+    /// A log, which is judged.
+    Log,
+}
 
 /// Writes a text for a status. A sink that fails gives another in its place.
 fn write<K: Sink>(status: Status, text: &[u8], out: &mut K) -> Status
@@ -40,14 +53,26 @@ pub fn run_script<S: Source, K: Sink>(alloc: Global, task: Task, src: &mut S, ou
         result.0 }
 {
     match task.mode {
-        RunMode::Sim => run_input(alloc, src, out),
+        RunMode::Sim => run_input(alloc, Behind::Script, src, out),
         RunMode::Gen => run_generated(alloc, task, out),
+        RunMode::Check => run_input(alloc, Behind::Log, src, out),
     }
 }
 
-/// Runs the input that the source gives.
-fn run_input<S: Source, K: Sink>(alloc: Global, src: &mut S, out: &mut K) -> Status
-    ensures { RunsInput
+/// The answer to an input.
+fn reply_to(alloc: Global, behind: Behind, bytes: &[u8]) -> Result<Reply, AllocError>
+    requires { length bytes.now ≤ most_bytes }
+    ensures { IfOk result (AnswersAs (answer_in behind bytes.now)) }
+{
+    match behind {
+        Behind::Script => answer(alloc, bytes),
+        Behind::Log => judged(alloc, bytes),
+    }
+}
+
+/// Answers the input that the source gives.
+fn run_input<S: Source, K: Sink>(alloc: Global, behind: Behind, src: &mut S, out: &mut K) -> Status
+    ensures { RunsInput behind
         (record { left = S.left src.old; faults = S.faults src.old })
         (record { left = S.left src.new; faults = S.faults src.new })
         (record { got = K.got out.old; faults = K.faults out.old })
@@ -60,7 +85,7 @@ fn run_input<S: Source, K: Sink>(alloc: Global, src: &mut S, out: &mut K) -> Sta
         Err(ReadFault::TooLong) => return write(Status::TOO_LONG, b"input too long\n", out),
         Err(ReadFault::OutOfMemory) => return Status::NO_MEMORY,
     };
-    match answer(alloc, &bytes) {
+    match reply_to(alloc, behind, &bytes) {
         Ok(reply) => write(reply.status, reply.text.as_bytes(), out),
         Err(AllocError) => Status::NO_MEMORY,
     }

@@ -113,7 +113,7 @@ valid_with spec w valid is =
     }
 
 -- only the words behind `add` tell an added resource
-abbrev is_added : LogEntry → Bool
+abbrev pub is_added : LogEntry → Bool
 is_added (logs.Add name r model replicas parts mode) = true
 is_added _ = false
 
@@ -127,11 +127,11 @@ made f other r e is = let from = map_ok_from f r e is in ap is_added (sym from.2
 behind : {A : Type 0} (r : Result A ScriptKind) (f : A → Result LogEntry ScriptKind) (e : LogEntry) → then_ok r f ≡ Ok e → ((x : A) → f x ≡ Ok e → is_added e ≡ false) → is_added e ≡ false
 behind r f e is other = let from = then_ok_from r f e is in other from.0 from.2
 
-abbrev is_add_verb : LogVerb → Bool
+abbrev pub is_add_verb : LogVerb → Bool
 is_add_verb verbs.Add = true
 is_add_verb _ = false
 
-others_add_nothing : (spec : Spec) (verb : LogVerb) (ws ls : List (List ℕ)) (e : LogEntry) → is_add_verb verb ≡ false → told_by spec verb ws ls ≡ Ok e → is_added e ≡ false
+pub others_add_nothing : (spec : Spec) (verb : LogVerb) (ws ls : List (List ℕ)) (e : LogEntry) → is_add_verb verb ≡ false → told_by spec verb ws ls ≡ Ok e → is_added e ≡ false
 others_add_nothing spec verbs.Line ws ls e other is = behind (one_word ws) _ e (alone_from ls _ e is) (λ w is. made logs.Line (λ x. refl) (short_number w) e is)
 others_add_nothing spec verbs.Join ws ls e other is = made (λ (t : _). logs.Join t.0 t.1) (λ x. refl) (instance_and_session spec ws) e (alone_from ls _ e is)
 others_add_nothing spec verbs.End ws ls e other is = made (λ (t : _). logs.End t.0 t.1) (λ x. refl) (instance_and_session spec ws) e (alone_from ls _ e is)
@@ -185,7 +185,7 @@ added_named spec w ws e is =
     let name = then_ok_from (name_before t.0.0) _ e t.2 in
     ap (λ l. is_name (before_first is_hash (second_word (w ∷ l)))) (five_from ws t.0 t.1) ∙ name_is t.0.0 name.0 name.1
 
-adds_nothing : (spec : Spec) (words : List (List ℕ)) (e : LogEntry) → is_added e ≡ false → with_added spec words (Some e) ≡ spec
+pub adds_nothing : (spec : Spec) (words : List (List ℕ)) (e : LogEntry) → is_added e ≡ false → with_added spec words (Some e) ≡ spec
 adds_nothing spec words (logs.Add name r model replicas parts mode) other = cc
 adds_nothing spec words _ other = refl
 

@@ -29,7 +29,7 @@ use Rattle.hx_check.proofs.Telling.{IsPostOf, Tells, answered_tells}
 use Rattle.hx_check.proofs.Tellable.{steps_tell}
 use Rattle.hx_check.proofs.Told.{tells_answered}
 use Rattle.hx_check.proofs.Standings.{stood_cluster, turn_there, lawful_more, lawful_last}
-use Rattle.hx_check.proofs.Marks.{marks_tell}
+use Rattle.hx_check.proofs.Marking.{marks_tell}
 
 -- what the judge tests of an answered event
 pub record IsGood (spec : Spec) (w : Standing) (e : Event) : Type 0 where

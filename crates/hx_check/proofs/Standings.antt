@@ -60,7 +60,7 @@ turn_there spec h k has =
     ∙ ap (λ t. turn_from (opening spec) k t h) (get_or-replicate spec.controllers k.0 idle_turn idle_turn below)
 
 -- a lawful history with one event more, and without its last
-legal_more : (c : Cluster) (h : List Event) (e : Event) → IsLegal c h → IsStep (replay c h) e → IsLegal c (h ++ e ∷ [])
+pub legal_more : (c : Cluster) (h : List Event) (e : Event) → IsLegal c h → IsStep (replay c h) e → IsLegal c (h ++ e ∷ [])
 legal_more c [] e legal step = (step, tt)
 legal_more c (x ∷ h) e legal step = (legal.0, legal_more (next c x) h e legal.1 step)
 

@@ -1,3 +1,5 @@
 pub mod Standing
 pub mod Answers
 pub mod Judge
+pub mod Judging
+pub mod Streams

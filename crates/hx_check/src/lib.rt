@@ -1,7 +1,15 @@
 //! The judge of logs: whether a log is that of a lawful history.
 #![tactic(auto)]
 
+mod answers;
+mod checking;
+mod judge;
 pub mod laws;
+mod marks;
+mod replayed;
+mod turns;
+
+pub use checking::check;
 
 /// Why a line of a log isn't lawful: the first of these that fits.
 #[derive(Clone, Copy, Debug, PartialEq, Eq)]

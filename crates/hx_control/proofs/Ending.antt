@@ -1,40 +1,48 @@
 -- How a kept turn makes its plan, sends it and posts.
-use Rattle.std.proofs.Common.{◌≡◌, ◌+◌, ◌⊎◌, inr, ◌&&◌, not, Bool, true, false, List, [], ◌∷◌, length, drop, Option, None, Some, refl, sym, ap, ◌∙◌, subst, arith}
-use Rattle.std.specs.Prelude.{Ok, Err, option_map, if◌then◌else◌}
+use Rattle.std.proofs.Common.{◌≡◌, ℕ, suc, ◌+◌, ◌⊎◌, inr, ◌&&◌, not, Bool, true, false, List, [], ◌∷◌, length, drop, Option, None, Some, refl, sym, ap, ap₂, ◌∙◌, subst, arith}
+use Rattle.std.specs.Prelude.{◌==◌, Ok, Err, option_map, nat_lt, if◌then◌else◌}
 use Rattle.std.proofs.lemmas.Bool.Decides.{nat_tests}
 use Rattle.hx_cluster.specs.declared.description.Spec.{Spec}
 use Rattle.hx_cluster.specs.declared.state.Cluster.{Cluster}
+use Rattle.hx_cluster.specs.declared.state.Message.{Message}
+use Rattle.hx_cluster.specs.declared.planning.Report.{Report}
 use Rattle.hx_cluster.specs.declared.planning.Plan.{Plan}
+use Rattle.hx_cluster.specs.declared.happenings.Proposal.{Proposal}
 use Rattle.hx_cluster.specs.declared.happenings.Dispatched.{Dispatched}
 use Rattle.hx_cluster.specs.declared.happenings.Seen.{Seen}
 use Rattle.hx_cluster.specs.declared.happenings.Event.{Event}
 use Rattle.hx_cluster.specs.declared.happenings.Event.TheVariants as events
 use Rattle.hx_cluster.specs.Reads.{pass_of}
 use Rattle.hx_cluster.specs.Events.{dispatched_of, is_epoch, is_pass}
+use Rattle.hx_lists.specs.Lists.{count}
 use Rattle.hx_pass.specs.Plans.{plan}
-use Rattle.hx_pass.specs.Turns.{Send, Post, idle_turn, is_due, is_of_epoch, if_due, gone_on, turn_after, posted_of}
+use Rattle.hx_pass.specs.Drafts.{Draft, draft, finished}
+use Rattle.hx_pass.specs.Turns.{Turn, Send, Post, idle_turn, is_due, is_of_epoch, if_due, gone_on, turn_after, posted_of}
 use Rattle.hx_board.specs.Board.{Held, happened}
 use Rattle.hx_board.specs.Refusals.{full, post_refusal}
 use Rattle.hx_board.specs.declared.faults.PostRefusal.{PostRefusal}
 use Rattle.hx_board.specs.declared.faults.PostRefusal.TheVariants as posts
 use Rattle.hx_board.proofs.Free.{post_free}
 use Rattle.hx_control.specs.declared.PassOutcome.{PassOutcome}
+use Rattle.hx_control.specs.declared.PassOutcome.TheVariants as ends
 use Rattle.hx_control.specs.declared.ControlFault.{ControlFault}
 use Rattle.hx_control.specs.declared.ControlFault.TheVariants as faults
 use Rattle.hx_control.specs.declared.controller.Next.TheVariants as nexts
 use Rattle.hx_control.specs.declared.controller.Controller.TheInside.{Inside}
 use Rattle.hx_control.specs.Controllers.{Controller, idle_controller}
-use Rattle.hx_control.specs.Steps.{Step, Calls, Plans, Refuses, is_of_cluster, of_cluster, outcome_of, dispatch_step, planned_step, post_step, step_of}
+use Rattle.hx_control.specs.Steps.{Step, Calls, Plans, Refuses, is_sent, is_of_cluster, of_cluster, outcome_of, dispatch_step, planned_step, post_step, step_of}
 use Rattle.hx_control.specs.OfBoard.{IsPlanOf}
 use Rattle.hx_control.specs.Turning.{controller, with_plan}
+use Rattle.hx_control.specs.Drafted.{IsToSend, IsDispatched}
 use Rattle.hx_control.specs.Faults.{of_post}
 use Rattle.hx_control.specs.Made.{step_fault, Tries}
 use Rattle.hx_control.proofs.Making.{if_true, own, with_turn, call_made, full_same, tried_in_vain, tried_well, due, next_step}
 
-pub planned_of : (spec : Spec) (a : Inside) (x : Controller) (p : Plan) → controller a ≡ x → Some p ≡ a.plan → IsPlanOf spec x.turn x.plan → p ≡ plan spec.models spec.rules a.view
-planned_of spec a x p seen is planned =
-    let of : IsPlanOf spec (controller a).turn a.plan = subst (λ (v : Controller). IsPlanOf spec v.turn v.plan) (sym seen) planned in
-    (subst (λ (o : Option Plan). IsPlanOf spec (controller a).turn o) (sym is) of).1
+pub planned_of : (spec : Spec) (a : Inside) (x : Controller) (d : Draft) → controller a ≡ x → Some d ≡ a.draft → IsPlanOf spec x.turn x.plan
+    → finished a.view d ≡ plan spec.models spec.rules a.view
+planned_of spec a x d seen is planned =
+    let of : IsPlanOf spec (controller a).turn (option_map (finished a.view) a.draft) = subst (λ (v : Controller). IsPlanOf spec v.turn v.plan) (sym seen) planned in
+    (subst (λ (o : Option Draft). IsPlanOf spec (controller a).turn (option_map (finished a.view) o)) (sym is) of).1
 
 -- the plan
 plan_made : (spec : Spec) (b : Held) (x y : Controller) (p : Plan) → x.turn.left ≡ Send ∷ Post ∷ [] → x.plan ≡ None → is_of_cluster spec b.cluster x.turn.view ≡ true
@@ -45,12 +53,72 @@ plan_made spec b x y p left none of is now =
     subst (λ (s : Step). Tries s b b x y (Ok None)) (sym plans)
     (record { refused = refl; made = record { answer = refl; board = refl; controller = now ∙ ap (λ (q : Plan). record x { plan = Some q }) is }; kept = tt })
 
-pub plan_done : (spec : Spec) (b : Held) (a : Inside) (x : Controller) (p : Plan) → controller a ≡ x → x.turn.left ≡ Send ∷ Post ∷ [] → x.plan ≡ None
-    → is_of_cluster spec b.cluster a.view ≡ true → p ≡ plan spec.models spec.rules a.view
-    → Tries (step_of spec b.cluster x) b b x (controller (record a { plan = Some p })) (Ok None)
-plan_done spec b a x p seen left none of is =
-    subst (λ (v : Controller). v.turn.left ≡ Send ∷ Post ∷ [] → v.plan ≡ None → Tries (step_of spec b.cluster v) b b v (controller (record a { plan = Some p })) (Ok None)) seen
-    (λ left none. plan_made spec b (controller a) (controller (record a { plan = Some p })) p left none of is refl) left none
+pub plan_done : (spec : Spec) (b : Held) (a : Inside) (x : Controller) (d : Draft) → controller a ≡ x → x.turn.left ≡ Send ∷ Post ∷ [] → x.plan ≡ None
+    → is_of_cluster spec b.cluster a.view ≡ true → d ≡ draft spec.models spec.rules a.view
+    → Tries (step_of spec b.cluster x) b b x (controller (record a { draft = Some d })) (Ok None)
+plan_done spec b a x d seen left none of is =
+    subst (λ (v : Controller). v.turn.left ≡ Send ∷ Post ∷ [] → v.plan ≡ None → Tries (step_of spec b.cluster v) b b v (controller (record a { draft = Some d })) (Ok None)) seen
+    (λ left none. plan_made spec b (controller a) (controller (record a { draft = Some d })) (finished a.view d) left none of (ap (finished a.view) is) refl) left none
+
+-- how a dispatch ends is the same by a plan without the report that it can't tell
+both_first : {A : Type 0} (t : Bool) (x y z : A) → t ≡ true → (if t then x else y) ≡ (if t then x else z)
+both_first t x y z is = if_true t x y is ∙ sym (if_true t x z is)
+
+some : (n : ℕ) → nat_lt 0 (suc n) ≡ true
+some n = grind (arith, nat_tests)
+
+ends_same : (t : Turn) (p q : Plan) (d : Dispatched) → p.proposals ≡ q.proposals → (p.proposals ≡ [] → t.view.mail ≡ [] → p.report ≡ q.report) → outcome_of t p d ≡ outcome_of t q d
+ends_same t p q d proposals report =
+    by p.proposals t.view.mail report ∙ ap (λ (ps : List Proposal). if nat_lt 0 (length ps) then ends.Sent (count is_sent d.placed) else unsent t.view.mail q.report) proposals
+  where
+    unsent : List Message → Report → PassOutcome
+    unsent mail r = if nat_lt 0 (length mail) then ends.Waiting (length mail) else if t.begun.change == d.change then ends.Settled r else ends.Moved t.begun.change d.change
+
+    by : (ps : List Proposal) (mail : List Message) → (ps ≡ [] → mail ≡ [] → p.report ≡ q.report)
+        → (if nat_lt 0 (length ps) then ends.Sent (count is_sent d.placed) else unsent mail p.report) ≡ (if nat_lt 0 (length ps) then ends.Sent (count is_sent d.placed) else unsent mail q.report)
+    by [] [] report = ap (unsent []) (report refl refl)
+    by [] (m ∷ ms) report = both_first (nat_lt 0 (suc (length ms))) (ends.Waiting (suc (length ms))) _ _ (some (length ms))
+    by (x ∷ xs) mail report = both_first (nat_lt 0 (suc (length xs))) (ends.Sent (count is_sent d.placed)) _ _ (some (length xs))
+
+pub dispatched_draft : (spec : Spec) (old new : Held) (x : Controller) (draft : Draft) (p : Plan) (answer : Dispatched) (outcome : PassOutcome) → IsToSend x.turn.view draft p
+    → answer ≡ dispatched_of old.cluster x.id p.proposals
+    → new ≡ happened old (events.Dispatch x.id x.turn.begun.epoch x.turn.begun.pass p.proposals answer) → outcome ≡ outcome_of x.turn p answer
+    → IsDispatched old new x (finished x.turn.view draft) outcome
+dispatched_draft spec old new x draft p answer outcome sent is done ends =
+    let q : Plan = finished x.turn.view draft in
+    let here : answer ≡ dispatched_of old.cluster x.id q.proposals = is ∙ ap (dispatched_of old.cluster x.id) sent.proposals in
+    record {
+      ended = ends ∙ ends_same x.turn p q answer sent.proposals sent.report ∙ ap (outcome_of x.turn q) here;
+      board = done ∙ ap₂ (λ (ps : List Proposal) (d : Dispatched). happened old (events.Dispatch x.id x.turn.begun.epoch x.turn.begun.pass ps d)) sent.proposals here;
+    }
+
+-- and so is what refuses it
+same_fault : (b : Held) (of : Bool) (x : Controller) (p q : Plan) (d e : Dispatched) → p.proposals ≡ q.proposals → d ≡ e
+    → step_fault b (of_cluster of (dispatch_step b.cluster x p d)) ≡ step_fault b (of_cluster of (dispatch_step b.cluster x q e))
+same_fault b false x p q d e proposals is = refl
+same_fault b true x p q d e proposals is = one (is_epoch b.cluster x.turn.begun.epoch) (is_pass b.cluster x.id x.turn.begun.pass)
+  where
+    event : Plan → Dispatched → Event
+    event r f = events.Dispatch x.id x.turn.begun.epoch x.turn.begun.pass r.proposals f
+
+    event_same : event p d ≡ event q e
+    event_same = ap₂ (λ (ps : List Proposal) (f : Dispatched). events.Dispatch x.id x.turn.begun.epoch x.turn.begun.pass ps f) proposals is
+
+    one : (epoch pass : Bool)
+        → step_fault b (if not epoch then Refuses (faults.Fenced b.cluster.epoch) else if not pass then Refuses (faults.OldPass (pass_of b.cluster x.id)) else Calls (event p d) (Some (outcome_of x.turn p d)))
+        ≡ step_fault b (if not epoch then Refuses (faults.Fenced b.cluster.epoch) else if not pass then Refuses (faults.OldPass (pass_of b.cluster x.id)) else Calls (event q e) (Some (outcome_of x.turn q e)))
+    one true true = ap (λ (v : Event). step_fault b (Calls v None)) event_same
+    one true false = refl
+    one false pass = refl
+
+pub fault_of_draft : (spec : Spec) (b : Held) (x : Controller) (p q : Plan) → x.turn.left ≡ Send ∷ Post ∷ [] → p.proposals ≡ q.proposals
+    → step_fault b (step_of spec b.cluster (with_plan x p)) ≡ step_fault b (step_of spec b.cluster (with_plan x q))
+fault_of_draft spec b x p q left proposals =
+    let step : (r : Plan) → step_of spec b.cluster (with_plan x r) ≡ of_cluster (is_of_cluster spec b.cluster x.turn.view) (dispatch_step b.cluster (with_plan x r) r (dispatched_of b.cluster x.id r.proposals)) =
+    λ r. next_step spec b.cluster (with_plan x r) (Send ∷ Post ∷ []) left in
+    ap (step_fault b) (step p)
+    ∙ same_fault b (is_of_cluster spec b.cluster x.turn.view) x p q _ _ proposals (ap (dispatched_of b.cluster x.id) proposals)
+    ∙ sym (ap (step_fault b) (step q))
 
 -- the dispatch
 opened : (b : Held) (of epoch pass : Bool) (e : Event) (outcome : Option PassOutcome) (f g : ControlFault)
@@ -89,18 +157,15 @@ send_made spec b d x y p outcome left none done is now =
       kept = tt;
     })
 
-pub send_done : (spec : Spec) (b d : Held) (a : Inside) (x : Controller) (p : Plan) (answer : Dispatched) (outcome : PassOutcome) → controller a ≡ x → x.turn.left ≡ Send ∷ Post ∷ []
-    → step_fault b (step_of spec b.cluster (with_plan x p)) ≡ None → answer ≡ dispatched_of b.cluster x.id p.proposals
-    → d ≡ happened b (events.Dispatch x.id x.turn.begun.epoch x.turn.begun.pass p.proposals answer) → outcome ≡ outcome_of x.turn p answer
-    → Tries (step_of spec b.cluster (with_plan x p)) b d (with_plan x p) (controller (record a { next = nexts.Post; plan = None })) (Ok (Some outcome))
-send_done spec b d a x p answer outcome seen left none is done ends =
-    let y : Controller = controller (record a { next = nexts.Post; plan = None }) in
+pub send_done : (spec : Spec) (b d : Held) (a : Inside) (x : Controller) (p : Plan) (outcome : PassOutcome) → controller a ≡ x → x.turn.left ≡ Send ∷ Post ∷ []
+    → step_fault b (step_of spec b.cluster (with_plan x p)) ≡ None → IsDispatched b d x p outcome
+    → Tries (step_of spec b.cluster (with_plan x p)) b d (with_plan x p) (controller (record a { next = nexts.Post; draft = None })) (Ok (Some outcome))
+send_done spec b d a x p outcome seen left none made =
+    let y : Controller = controller (record a { next = nexts.Post; draft = None }) in
     let now : y ≡ with_turn x (gone_on x.turn x.turn.view) =
-    subst (λ (v : Controller). v.turn.left ≡ Send ∷ Post ∷ [] → controller (record a { next = nexts.Post; plan = None }) ≡ with_turn v (gone_on v.turn v.turn.view)) seen
+    subst (λ (v : Controller). v.turn.left ≡ Send ∷ Post ∷ [] → controller (record a { next = nexts.Post; draft = None }) ≡ with_turn v (gone_on v.turn v.turn.view)) seen
     (λ left. (λ i. record { id = a.id; turn = record { left = sym (ap (drop 1) left) i; begun = a.begun; view = a.view }; plan = None })) left in
-    send_made spec b d x y p outcome left none
-    (done ∙ ap (λ (o : Dispatched). happened b (events.Dispatch x.id x.turn.begun.epoch x.turn.begun.pass p.proposals o)) is)
-    (ends ∙ ap (outcome_of x.turn p) is) now
+    send_made spec b d x y p outcome left none made.board made.ended now
 
 -- the post
 post_same : (b : Held) (x : Controller) (rows : List Seen) → rows ≡ posted_of x.turn.view

@@ -26,7 +26,7 @@ module _ (spec : Spec) (b d : Held) (a : Inside) where
   live_gone : has_controller b.cluster a.id ≡ true → left_of a.next a.view.live ≡ Live ∷ [] → read_refusal b a.id a.begun.pass ≡ None
       → (shown : List (SessionId × InstanceId)) (next : Next) → shown ≡ live_shown b.cluster → left_of next shown ≡ calls_after_live shown
       → d ≡ happened b (events.Live a.id a.begun.pass)
-      → Tries (step_of spec b.cluster (controller a)) b d (controller a) (controller (record a { next = next; view = record a.view { live = shown }; plan = None })) (Ok None)
+      → Tries (step_of spec b.cluster (controller a)) b d (controller a) (controller (record a { next = next; view = record a.view { live = shown }; draft = None })) (Ok None)
   live_gone there first none shown next is left done =
       read_tried spec b d (controller a) _ (events.Live a.id a.begun.pass) (with_live b.cluster (controller a).turn) there refl
       (next_step spec b.cluster (controller a) (Live ∷ []) first) (live_turn b.cluster (controller a) [] first) none done
@@ -37,7 +37,7 @@ module _ (spec : Spec) (b d : Held) (a : Inside) (x : Controller) (seen : contro
   pub live_done : has_controller b.cluster x.id ≡ true → x.turn.left ≡ Live ∷ [] → read_refusal b a.id a.begun.pass ≡ None
       → (shown : List (SessionId × InstanceId)) (next : Next) → shown ≡ live_shown b.cluster → left_of next shown ≡ calls_after_live shown
       → d ≡ happened b (events.Live a.id a.begun.pass)
-      → Tries (step_of spec b.cluster x) b d x (controller (record a { next = next; view = record a.view { live = shown }; plan = None })) (Ok None)
+      → Tries (step_of spec b.cluster x) b d x (controller (record a { next = next; view = record a.view { live = shown }; draft = None })) (Ok None)
   live_done there first none shown next is left done =
-      subst (λ (v : Controller). has_controller b.cluster v.id ≡ true → v.turn.left ≡ Live ∷ [] → Tries (step_of spec b.cluster v) b d v (controller (record a { next = next; view = record a.view { live = shown }; plan = None })) (Ok None)) seen
+      subst (λ (v : Controller). has_controller b.cluster v.id ≡ true → v.turn.left ≡ Live ∷ [] → Tries (step_of spec b.cluster v) b d v (controller (record a { next = next; view = record a.view { live = shown }; draft = None })) (Ok None)) seen
       (λ there first. live_gone spec b d a there first none shown next is left done) there first

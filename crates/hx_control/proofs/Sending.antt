@@ -4,6 +4,7 @@ use Rattle.std.specs.List.{list_all}
 use Rattle.hx_cluster.specs.declared.description.Spec.{Spec}
 use Rattle.hx_cluster.specs.declared.planning.Plan.{Plan}
 use Rattle.hx_cluster.specs.declared.planning.View.{View}
+use Rattle.hx_cluster.specs.declared.happenings.Proposal.{Proposal}
 use Rattle.hx_cluster.specs.declared.happenings.Seen.{Seen}
 use Rattle.hx_cluster.specs.Events.{is_proposable, is_postable}
 use Rattle.hx_cluster.specs.Views.{is_well_formed}
@@ -22,10 +23,10 @@ pub use Rattle.hx_calls.proofs.Placing.{placed_each}
 given_of : (spec : Spec) (b : Held) → HasHistory b → b.spec ≡ spec → HasGiven spec b.cluster
 given_of spec b told same = subst (λ (s : Spec). HasGiven s b.cluster) same (given b told)
 
-pub proposals_fit : (spec : Spec) (b : Held) (p : Plan) (view : View) → HasHistory b → b.spec ≡ spec → p ≡ plan spec.models spec.rules view
+pub proposals_fit : (spec : Spec) (b : Held) (p : Plan) (view : View) → HasHistory b → b.spec ≡ spec → p.proposals ≡ (plan spec.models spec.rules view).proposals
     → is_of_cluster spec b.cluster view ≡ true → list_all (is_proposable b.cluster) p.proposals ≡ true
 proposals_fit spec b p view told same is of =
-    subst (λ (q : Plan). list_all (is_proposable b.cluster) q.proposals ≡ true) (sym is) (proposed spec b.cluster view (given_of spec b told same) of)
+    subst (λ (qs : List Proposal). list_all (is_proposable b.cluster) qs ≡ true) (sym is) (proposed spec b.cluster view (given_of spec b told same) of)
 
 pub rows_fit : (spec : Spec) (b : Held) (rows : List Seen) (view : View) → HasHistory b → b.spec ≡ spec → rows ≡ posted_of view
     → is_of_cluster spec b.cluster view ≡ true → list_all (is_postable b.cluster) rows ≡ true

@@ -1,8 +1,9 @@
 -- How a controller's turn is kept: by the call that comes next, and what was shown.
-use Rattle.std.specs.Prelude.{ℕ, ◌-◌, ◌<◌, ◌^◌, List, [], ◌∷◌, ◌++◌, length, drop, map, Some}
+use Rattle.std.specs.Prelude.{ℕ, ◌-◌, ◌<◌, ◌^◌, List, [], ◌∷◌, ◌++◌, length, drop, map, Some, option_map}
 use Rattle.hx_ids.specs.declared.SessionId.{SessionId}
 use Rattle.hx_ids.specs.declared.InstanceId.{InstanceId}
 use Rattle.hx_cluster.specs.declared.planning.Plan.{Plan}
+use Rattle.hx_pass.specs.Drafts.{finished}
 use Rattle.hx_pass.specs.Turns.{Call, Live, Mail, States, Ideals, Send, Post}
 use Rattle.hx_control.specs.declared.controller.Next.{Next}
 use Rattle.hx_control.specs.declared.controller.Next.TheVariants as nexts
@@ -46,7 +47,7 @@ abbrev pub controller : Inside → Controller
 controller a = record {
   id = a.id;
   turn = record { left = left_of a.next a.view.live; begun = a.begun; view = a.view };
-  plan = a.plan;
+  plan = option_map (finished a.view) a.draft;
 }
 
 abbrev pub with_plan : Controller → Plan → Controller

@@ -8,9 +8,10 @@ ghost use Rattle.hx_control.specs.Turning.{others_at};
 ghost use Rattle.hx_pass.specs.Turns.{idle_turn};
 
 use crate::Stage;
-use hx_cluster::{Begun, Ideals, Plan, View};
+use hx_cluster::{Begun, Ideals, View};
 use hx_ids::{ControllerId, Epoch, PassNo};
 use hx_lists::Seq;
+use hx_pass::Draft;
 use std::alloc::Global;
 use std::marker::Model;
 
@@ -82,14 +83,15 @@ fn is_first(next: Next) -> bool
     matches!(next, Next::Begin)
 }
 
-/// A controller with its turn. Contracts see its number, the turn, and the plan where it was made.
+/// A controller with its turn. Contracts see its number, the turn, and the plan where it was made:
+/// what is kept of it is a draft, of which the report is made only where it is told.
 #[derive(Drop)]
 pub struct Controller {
     pub(crate) id: ControllerId,
     pub(crate) next: Next,
     pub(crate) begun: Begun,
     pub(crate) view: View,
-    pub(crate) plan: Option<Plan>,
+    pub(crate) draft: Option<Draft>,
 }
 
 impl Model for Controller {
@@ -117,7 +119,7 @@ impl Controller {
                 change: 0,
             },
             view: nothing_shown(alloc),
-            plan: None,
+            draft: None,
         }
     }
 
@@ -138,7 +140,7 @@ impl Controller {
             Next::Mail(read) => Stage::Mail(read),
             Next::States(read) => Stage::States(read),
             Next::Ideals => Stage::Ideals,
-            Next::Send if self.plan.is_none() => Stage::Plan,
+            Next::Send if self.draft.is_none() => Stage::Plan,
             Next::Send => Stage::Send,
             Next::Post => Stage::Post,
         }
@@ -151,7 +153,7 @@ impl Controller {
         is_first(self.next)
             && is_unbegun(self.begun)
             && shows_nothing(&self.view)
-            && self.plan.is_none()
+            && self.draft.is_none()
     }
 
     /// How many sessions the turn was shown. It takes no memory.

@@ -6,18 +6,22 @@ ghost use Rattle.hx_cluster.specs.Steps.{has_controller};
 ghost use Rattle.hx_cluster.specs.declared.happenings.Event.TheVariants as events;
 ghost use Rattle.hx_cluster.specs.Events.{dispatched_of};
 ghost use Rattle.hx_pass.specs.Plans.{plan as plan_of};
+ghost use Rattle.hx_pass.specs.Drafts.{finished};
 ghost use Rattle.hx_board.specs.Board.{happened};
 ghost use Rattle.hx_control.specs.Steps.{is_sent, outcome_of, step_of, planned_step};
 ghost use Rattle.hx_control.specs.Turning.{left_of, with_plan};
+ghost use Rattle.hx_control.specs.Drafted.{IsToSend, IsDispatched};
 ghost use Rattle.hx_control.specs.Made.{Tries, step_fault};
 
 use crate::controller::Next;
 use crate::views::{is_of_board, posted};
 use crate::{ControlFault, Controller, PassOutcome};
 use hx_board::Board;
-use hx_cluster::{Dispatched, Placed, Plan, Spec};
+use hx_cluster::{Dispatched, Placed, Plan, Report, Spec};
 use hx_hops::Hops;
-use hx_pass::plan;
+use hx_lists::Seq;
+use hx_pass::{Draft, draft};
+use std::alloc::AllocError;
 
 fn is_sent(placed: &Placed) -> bool
     ensures { result ≡ is_sent placed.now }
@@ -59,7 +63,7 @@ impl Controller {
         }
     }
 
-    /// Makes the plan of what was shown.
+    /// Drafts the plan of what was shown.
     #[tactic(auto, using(crate::proofs::Sending::view_modelled))]
     pub(crate) fn make_plan(
         &mut self,
@@ -78,8 +82,24 @@ impl Controller {
         if !is_of_board(alloc, spec, board, &self.view)? {
             return Err(ControlFault::OtherBoard);
         }
-        self.plan = Some(plan(alloc, spec, hops, &self.view)?);
+        self.draft = Some(draft(alloc, spec, hops, &self.view)?);
         Ok(None)
+    }
+
+    /// The plan of a draft, but for the report where its dispatch can't tell it.
+    fn plan_to_send(&self, draft: &Draft) -> Result<Plan, AllocError>
+        ensures { IfOk result (IsToSend self.now.turn.view draft.now) }
+    {
+        let alloc = self.view.live.allocator();
+        let proposals = draft.proposals(alloc)?;
+        let report = if proposals.is_empty() && self.view.mail.is_empty() {
+            draft.report(alloc, &self.view)?
+        } else {
+            Report {
+                entries: Seq::new(alloc),
+            }
+        };
+        Ok(Plan { proposals, report })
     }
 
     /// Dispatches what a plan proposes. More than 4,294,967,295 proposals or messages are want of
@@ -93,8 +113,8 @@ impl Controller {
     ) -> Result<Dispatched, ControlFault>
         requires controller { has_controller board.old.cluster self.now.id ≡ true }
         requires board { board.old.spec ≡ spec.now }
-        requires planned { plan.now
-            ≡ plan_of spec.now.models spec.now.rules self.now.turn.view }
+        requires planned { plan.now.proposals
+            ≡ (plan_of spec.now.models spec.now.rules self.now.turn.view).proposals }
         requires next { self.now.turn.left ≡ left_of Next.Send self.now.turn.view.live }
         ensures refused { RefusedBy ControlFault.OutOfMemory
             (step_fault board.old
@@ -122,29 +142,56 @@ impl Controller {
         Ok(board.dispatch(self.id, epoch, pass, proposals)?)
     }
 
-    /// Dispatches a plan, and goes on to the post.
+    /// Dispatches a drafted plan, and tells how that ended.
+    fn dispatch_draft(
+        &self,
+        spec: &Spec,
+        draft: &Draft,
+        board: &mut Board,
+    ) -> Result<PassOutcome, ControlFault>
+        requires controller { has_controller board.old.cluster self.now.id ≡ true }
+        requires board { board.old.spec ≡ spec.now }
+        requires planned { finished self.now.turn.view draft.now
+            ≡ plan_of spec.now.models spec.now.rules self.now.turn.view }
+        requires next { self.now.turn.left ≡ left_of Next.Send self.now.turn.view.live }
+        ensures refused { RefusedBy ControlFault.OutOfMemory
+            (step_fault board.old
+            (step_of spec.now board.old.cluster
+            (with_plan self.now (finished self.now.turn.view draft.now))))
+            result }
+        ensures answer { IfOk result
+            (IsDispatched board.old board.new self.now (finished self.now.turn.view draft.now)) }
+        ensures err { OnErr result (board.new ≡ board.old) }
+    {
+        let plan = self.plan_to_send(draft)?;
+        let answer = self.dispatch(spec, &plan, board)?;
+        Ok(self.outcome(plan, &answer))
+    }
+
+    /// Dispatches a drafted plan, and goes on to the post.
     pub(crate) fn send(
         &mut self,
         spec: &Spec,
-        plan: Plan,
+        draft: Draft,
         board: &mut Board,
     ) -> Result<Option<PassOutcome>, ControlFault>
         requires controller { has_controller board.old.cluster self.old.id ≡ true }
         requires board { board.old.spec ≡ spec.now }
-        requires planned { plan ≡ plan_of spec.now.models spec.now.rules self.old.turn.view }
+        requires planned { finished self.old.turn.view draft
+            ≡ plan_of spec.now.models spec.now.rules self.old.turn.view }
         requires next { self.old.turn.left ≡ left_of Next.Send self.old.turn.view.live }
-        ensures { Tries (step_of spec.now board.old.cluster (with_plan self.old plan)) board.old
-            board.new (with_plan self.old plan) self.new result }
+        ensures { let planned = with_plan self.old (finished self.old.turn.view draft) in
+            Tries (step_of spec.now board.old.cluster planned) board.old board.new planned
+            self.new result }
     {
-        match self.dispatch(spec, &plan, board) {
-            Ok(answer) => {
-                let outcome = self.outcome(plan, &answer);
+        match self.dispatch_draft(spec, &draft, board) {
+            Ok(outcome) => {
                 self.next = Next::Post;
-                self.plan = None;
+                self.draft = None;
                 Ok(Some(outcome))
             }
             Err(fault) => {
-                self.plan = Some(plan);
+                self.draft = Some(draft);
                 Err(fault)
             }
         }

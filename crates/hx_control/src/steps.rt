@@ -42,9 +42,9 @@ impl Controller {
             Next::Mail(place) => self.read_mail(place, board),
             Next::States(place) => self.read_states(place, board),
             Next::Ideals => self.read_ideals(board),
-            Next::Send => match self.plan.take() {
+            Next::Send => match self.draft.take() {
                 None => self.make_plan(spec, hops, board),
-                Some(plan) => self.send(spec, plan, board),
+                Some(draft) => self.send(spec, draft, board),
             },
             Next::Post => self.post(spec, board),
         }

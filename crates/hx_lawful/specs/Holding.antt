@@ -1,5 +1,5 @@
 -- What holds at each place of a history.
-use Rattle.std.specs.Prelude.{List}
+use Rattle.std.specs.Prelude.{◌≡◌, List, ◌++◌}
 use Rattle.hx_ids.specs.declared.ControllerId.{ControllerId}
 use Rattle.hx_cluster.specs.declared.description.Spec.{Spec}
 use Rattle.hx_cluster.specs.declared.happenings.Event.{Event}
@@ -7,6 +7,7 @@ use Rattle.hx_cluster.specs.Steps.{opening}
 use Rattle.hx_cluster.specs.Events.{replay}
 use Rattle.hx_cluster.specs.Safe.{IsSafe}
 use Rattle.hx_cluster.specs.Runs.{IsOneRunEach}
+use Rattle.hx_pass.specs.Lawful.{IsLawful}
 use Rattle.hx_covers.specs.Covers.{Covers}
 use Rattle.hx_lawful.specs.Unrefused.{IsUnrefused}
 
@@ -21,3 +22,8 @@ pub record HoldsOfLawful (spec : Spec) (h : List Event) : Type 0 where
   pub legal : HoldsOfLegal spec h
   pub covered : (k : ControllerId) → Covers spec h k
   pub unrefused : IsUnrefused h
+
+-- a history is lawful, and so all of this holds at each place of it
+pub record IsSound (spec : Spec) (history : List Event) : Type 0 where
+  pub lawful : IsLawful spec history
+  pub holds : (h more : List Event) → history ≡ h ++ more → HoldsOfLawful spec h

@@ -97,6 +97,20 @@ impl Records {
         self.rest.is_leader(controller)
     }
 
+    /// The number of the script's line that was taken last.
+    pub fn line(&self) -> Option<u32>
+        ensures { result ≡ self.now.line }
+    {
+        self.rest.line
+    }
+
+    /// The number that the next message gets.
+    pub fn next_message(&self) -> u64
+        ensures { result ≡ self.now.next_msg }
+    {
+        self.rest.next_msg
+    }
+
     /// The epoch that stands.
     pub fn epoch(&self) -> Epoch
         ensures { result ≡ self.now.epoch }

@@ -1,5 +1,5 @@
 -- A delivery: what it refuses, and that the slots stay laid out.
-use Rattle.std.proofs.Common.{◌≡◌, ◌≢◌, ℕ, ◌<◌, ◌++◌, ◌∷◌, [], List, map, length, get_or, set, arith, refl, sym, Bool, true, false, Option, None, Some, ◌==◌, ◌∙◌}
+use Rattle.std.proofs.Common.{◌≡◌, ◌≢◌, ℕ, ◌<◌, ◌++◌, ◌∷◌, [], List, map, length, get_or, arith, refl, sym, Bool, true, false, Option, None, Some, ◌==◌, ◌∙◌}
 use Rattle.std.specs.List.{find, position}
 use Rattle.std.proofs.lemmas.Grind.{common_steps}
 use Rattle.hx_ids.specs.declared.PartId.{PartId}
@@ -16,12 +16,15 @@ use Rattle.hx_replicas.specs.declared.slots.Slot.{Slot}
 use Rattle.hx_replicas.specs.Participants.{IsSound, IsLike, slot_fault, state_for, slot_in, put_slot, accepted}
 use Rattle.hx_replicas.specs.Ledger.{lent}
 use Rattle.hx_replicas.specs.Layout.{plain_slot, IsSlot, Stands, IsLaidOut, AreDistinct, taken, fresh, has_part}
+use Rattle.hx_links.specs.declared.Node.{Node}
+use Rattle.hx_replicas.specs.Indexes.{alter}
+use Rattle.hx_replicas.proofs.Altering.{alter-set}
 use Rattle.hx_replicas.proofs.Parts.{state_same, state_other, state_differs}
 use Rattle.hx_replicas.proofs.Searching.{found-in}
 use Rattle.hx_replicas.proofs.Placing.{slot-found, put-at, part-found, unused-put, unused-any}
 use Rattle.hx_replicas.proofs.Laying.{IsLaidOut-set, IsLaidOut-push}
 
-idle-from_none : (w : Work) (s : StateId) (l : MsgId) (i : Option StateId) (m : Message) → slot_fault w s l i m ≡ None → w ≡ Idle
+pub idle-from_none : (w : Work) (s : StateId) (l : MsgId) (i : Option StateId) (m : Message) → slot_fault w s l i m ≡ None → w ≡ Idle
 idle-from_none Idle s l i m none = refl
 idle-from_none (Accepted n) s l i m none = (cc)
 idle-from_none (Out n is_held) s l i m none = (cc)
@@ -62,8 +65,8 @@ module _ {H : Type 0} (k : handler.Ghosts H) (told : Option (List Failure)) wher
       let own : s ≡ m.from = counts-own s i m counts was.0.not_dropped in
       (record { of_part = was.0.of_part; of_initial = rw (← like) was.0.of_initial; is_at = rw (← own) was.0.is_at; of_list = was.0.of_list; not_dropped = live }, refl)
 
-  IsSlot-taken : (x : Slot H) (m : Message) → m.part ≡ x.part → IsSlot k told x → slot_fault x.work x.state x.last x.initial m ≡ None → IsSound m → IsLike x.initial m → IsSlot k told (taken x m)
-  IsSlot-taken x m same was none sound like =
+  IsSlot-taken : (x : Slot H) (m : Message) (n : Node) → m.part ≡ x.part → IsSlot k told x → slot_fault x.work x.state x.last x.initial m ≡ None → IsSound m → IsLike x.initial m → IsSlot k told (taken m n x)
+  IsSlot-taken x m n same was none sound like =
       let counts : state_for x.initial x.state m.initial ≡ m.from = counts-from_none x.work x.state x.last x.initial m none in
       let idle : x.work ≡ Idle = idle-from_none x.work x.state x.last x.initial m none in
       let stands : Stands k told x.part x.state x.initial 0 x.handler = rw idle at was.handler in
@@ -74,19 +77,20 @@ module _ {H : Type 0} (k : handler.Ghosts H) (told : Option (List Failure)) wher
         out = λ e. (cc);
       }
 
-  pub IsLaidOut-accept : {made retired : ℕ} (xs : List (Slot H)) (m : Message) (i : ℕ) (x : Slot H) → position (has_part m.part) xs ≡ Some i → x ≡ get_or xs i x → slot_fault x.work x.state x.last x.initial m ≡ None → IsSound m → IsLike (slot_in (map (plain_slot k) xs) m.part).initial m → IsLaidOut k told xs made retired → IsLaidOut k told (set xs i (taken x m)) made retired
-  IsLaidOut-accept xs m i x e at_i none sound like was =
+  pub IsLaidOut-accept : {made retired : ℕ} (xs : List (Slot H)) (m : Message) (n : Node) (i : ℕ) (x : Slot H) → position (has_part m.part) xs ≡ Some i → x ≡ get_or xs i x → slot_fault x.work x.state x.last x.initial m ≡ None → IsSound m → IsLike (slot_in (map (plain_slot k) xs) m.part).initial m → IsLaidOut k told xs made retired → IsLaidOut k told (alter (taken m n) i xs) made retired
+  IsLaidOut-accept xs m n i x e at_i none sound like was =
       let lt : i < length xs = found-in (has_part m.part) xs i x e in
       let same : x.part ≡ m.part = part-found xs m.part i x e at_i in
       let idle : x.work ≡ Idle = idle-from_none x.work x.state x.last x.initial m none in
       let quiet : lent x.work ≡ 0 = rw idle refl in
-      IsLaidOut-set xs i (taken x m) x lt (rw (← at_i) refl)
-      (IsSlot-taken x m (sym same) (let h : IsSlot k told (get_or xs i x) = was.fits i x lt in rw (← at_i) at h) none sound (rw (slot-found k xs m.part i x e at_i) at like))
-      (rw (← at_i) (omega (arith, quiet))) was
+      rw (alter-set (taken m n) xs i x lt at_i)
+      (IsLaidOut-set xs i (taken m n x) x lt (rw (← at_i) refl)
+      (IsSlot-taken x m n (sym same) (let h : IsSlot k told (get_or xs i x) = was.fits i x lt in rw (← at_i) at h) none sound (rw (slot-found k xs m.part i x e at_i) at like))
+      (rw (← at_i) (omega (arith, quiet))) was)
 
-  pub IsLaidOut-fresh : {made retired : ℕ} (xs : List (Slot H)) (m : Message) → find (λ y. part_eq y.part m.part) (map (plain_slot k) xs) ≡ None → m.initial ≡ m.from → IsSound m → IsLaidOut k told xs made retired → IsLaidOut k told (xs ++ fresh m ∷ []) made retired
-  IsLaidOut-fresh xs m new is sound was =
-      IsLaidOut-push xs (fresh m) (unused-any k xs m.part new)
+  pub IsLaidOut-fresh : {made retired : ℕ} (xs : List (Slot H)) (m : Message) (n : Node) → find (λ y. part_eq y.part m.part) (map (plain_slot k) xs) ≡ None → m.initial ≡ m.from → IsSound m → IsLaidOut k told xs made retired → IsLaidOut k told (xs ++ fresh m n ∷ []) made retired
+  IsLaidOut-fresh xs m n new is sound was =
+      IsLaidOut-push xs (fresh m n) (unused-any k xs m.part new)
       (record {
         handler = λ z n0 n1. rw is refl;
         work = record { sound = sound; of_part = refl; is_from = refl; not_dropped = λ e. sound.not_dropped (is ∙ e); of_initial = refl };
@@ -95,10 +99,10 @@ module _ {H : Type 0} (k : handler.Ghosts H) (told : Option (List Failure)) wher
       refl was
 
 module _ {H : Type 0} (k : handler.Ghosts H) where
-  pub accept-held : (xs : List (Slot H)) (m : Message) (i : ℕ) (x : Slot H) → AreDistinct (map (λ x. x.part) xs) → position (has_part m.part) xs ≡ Some i → x ≡ get_or xs i x → map (plain_slot k) (set xs i (taken x m)) ≡ put_slot (map (plain_slot k) xs) (accepted (slot_in (map (plain_slot k) xs) m.part) m)
-  accept-held xs m i x distinct e at_i =
-      rw (slot-found k xs m.part i x e at_i)
-      (sym (put-at k xs i x (taken x m) distinct (found-in (has_part m.part) xs i x e) at_i refl))
+  pub accept-held : (xs : List (Slot H)) (m : Message) (n : Node) (i : ℕ) (x : Slot H) → AreDistinct (map (λ x. x.part) xs) → position (has_part m.part) xs ≡ Some i → x ≡ get_or xs i x → map (plain_slot k) (alter (taken m n) i xs) ≡ put_slot (map (plain_slot k) xs) (accepted (slot_in (map (plain_slot k) xs) m.part) m)
+  accept-held xs m n i x distinct e at_i =
+      rw (alter-set (taken m n) xs i x (found-in (has_part m.part) xs i x e) at_i, slot-found k xs m.part i x e at_i)
+      (sym (put-at k xs i x (taken m n x) distinct (found-in (has_part m.part) xs i x e) at_i refl))
 
-  pub accept-new : (xs : List (Slot H)) (m : Message) → find (λ y. part_eq y.part m.part) (map (plain_slot k) xs) ≡ None → map (plain_slot k) (xs ++ fresh m ∷ []) ≡ put_slot (map (plain_slot k) xs) (accepted (slot_in (map (plain_slot k) xs) m.part) m)
-  accept-new xs m new = rw new (sym (unused-put k xs (fresh m) m.part refl new))
+  pub accept-new : (xs : List (Slot H)) (m : Message) (n : Node) → find (λ y. part_eq y.part m.part) (map (plain_slot k) xs) ≡ None → map (plain_slot k) (xs ++ fresh m n ∷ []) ≡ put_slot (map (plain_slot k) xs) (accepted (slot_in (map (plain_slot k) xs) m.part) m)
+  accept-new xs m n new = rw new (sym (unused-put k xs (fresh m n) m.part refl new))

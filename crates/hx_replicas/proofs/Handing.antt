@@ -16,7 +16,10 @@ use Rattle.hx_handler.specs.Makings.{tried_up}
 use Rattle.hx_replicas.specs.Ledger.{lent, in_place}
 use Rattle.hx_replicas.specs.Jobs.{StandsEmpty, runs_of, seen, seen_in}
 use Rattle.hx_replicas.specs.Layout.{plain_slot, IsSlot, Stands, OfSlot, IsLaidOut, AreDistinct, has_number, has_part, filled, sent_out}
-use Rattle.hx_replicas.proofs.Searching.{found-in, found-passes}
+use Rattle.std.specs.Prelude.{slice_get}
+use Rattle.hx_replicas.specs.Indexes.{alter}
+use Rattle.hx_replicas.proofs.Altering.{alter-set, stands-some, stands-get}
+use Rattle.hx_replicas.proofs.Searching.{found-in, found-passes, place-in}
 use Rattle.hx_replicas.proofs.Placing.{slot-at, put-at, slot-found, slot-none, part-found}
 use Rattle.hx_replicas.proofs.Putting.{slot_in-put}
 use Rattle.hx_replicas.proofs.Laying.{IsLaidOut-set}
@@ -95,6 +98,12 @@ module _ {H : Type 0} {k : handler.Ghosts H} {told : Option (List Failure)} {xs 
         fit = fit-at laid i x lt at_i;
       }
 
+  -- the slot in the place that was found
+  pub slot-stands : {made retired : ℕ} → IsLaidOut k told xs made retired → (m : Message) (i : ℕ) → position (has_part m.part) xs ≡ Some i → (slot_in (map (plain_slot k) xs) m.part).work ≡ Accepted m → (x : Slot H) × (slice_get xs i ≡ Some x) × IsTaken k told xs m i x
+  slot-stands laid m i e is =
+      let stands = stands-some xs i (place-in (has_part m.part) xs i e) in
+      (stands.0, stands.1, slot-held laid m i stands.0 e (stands-get xs i stands.0 stands.1) is)
+
   -- the slot that was found by a message's number is that of its part
   pub stands-accepted : {made retired : ℕ} → IsLaidOut k told xs made retired → (id : MsgId) (m : Message) (i : ℕ) (x : Slot H) → position (has_number id) xs ≡ Some i → x ≡ get_or xs i x → x.work ≡ Accepted m → (slot_in (map (plain_slot k) xs) m.part).work ≡ Accepted m
   stands-accepted laid id m i x e at_i is =
@@ -127,6 +136,9 @@ module _ {H : Type 0} {k : handler.Ghosts H} {told : Option (List Failure)} {xs 
       let same : y.part ≡ x.part = ap (λ s. s.part) is in
       ap (λ ss. slot_in ss m.part) (sym (put-at k xs i x y t.distinct t.lt t.at_i same)) ∙ slot_in-put (map (plain_slot k) xs) (plain_slot k y) m.part (same ∙ sym t.part)
 
+  pub IsLaidOut-given : {made retired : ℕ} → IsTaken k told xs m i x → IsLaidOut k told xs made retired → IsLaidOut k told (alter (λ y. sent_out y m) i xs) made retired
+  IsLaidOut-given t was = rw (alter-set (λ y. sent_out y m) xs i x t.lt t.at_i) (IsLaidOut-sent t was)
+
   -- the plain slots after one of them was put
   put-taken : IsTaken k told xs m i x → (w : Participant) (y : Slot H) (s : PlainSlot) → w.slots ≡ map (plain_slot k) xs → y.part ≡ x.part → plain_slot k y ≡ s → map (plain_slot k) (set xs i y) ≡ put_slot w.slots s
   put-taken t w y s is same at =
@@ -141,9 +153,9 @@ module _ {H : Type 0} {k : handler.Ghosts H} {told : Option (List Failure)} {xs 
       let tries_too : tried ≡ (readied w m f).tried = tries ∙ sym (ap (λ s. if makes s m then tried_up w.tried m.part else w.tried) found) in
       (λ j. record { session = w.session; slots = slots j; tried = tries_too j })
 
-  pub given-plain : IsTaken k told xs m i x → (w : Participant) → w.slots ≡ map (plain_slot k) xs → record { session = w.session; slots = map (plain_slot k) (set xs i (sent_out x m)); tried = w.tried } ≡ given w m
-  given-plain t w is =
+  pub given-plain : IsTaken k told xs m i x → (w : Participant) → w.slots ≡ map (plain_slot k) xs → record { session = w.session; slots = map (plain_slot k) (alter (λ y. sent_out y m) i xs); tried = w.tried } ≡ given w m
+  given-plain t w is = rw (alter-set (λ y. sent_out y m) xs i x t.lt t.at_i) (
       let found : slot_of w m.part ≡ plain_slot k x = ap (λ ss. slot_in ss m.part) is ∙ slot-taken t in
       let sent : plain_slot k (sent_out x m) ≡ emptied_for (plain_slot k x) m = rw (is_some-map (λ h. k.runs h) x.handler) refl in
       let slots = put-taken t w (sent_out x m) (emptied_for (slot_of w m.part) m) is refl (sent ∙ sym (ap (λ s. emptied_for s m) found)) in
-      (λ j. record { session = w.session; slots = slots j; tried = w.tried })
+      (λ j. record { session = w.session; slots = slots j; tried = w.tried }))

@@ -11,3 +11,7 @@ pub mod Wiping
 pub mod Together
 pub mod Sorting
 pub mod Outs
+pub mod Queues
+pub mod Altering
+pub mod Indexing
+pub mod Ordering

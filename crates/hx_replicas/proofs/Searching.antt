@@ -16,6 +16,10 @@ module _ {X : Type 0} (p : X → Bool) (xs : List X) where
   place_is : (i : ℕ) → position p xs ≡ Some i → i ≡ position_or_len p xs
   place_is i e = grind (arith, nat_tests, e)
 
+  -- a list without items has no place, so none has to be named
+  pub place-in : (i : ℕ) → position p xs ≡ Some i → i < length xs
+  place-in i e = grind (arith, nat_tests, e)
+
   none-past : position p xs ≡ None → length xs ≤ position_or_len p xs
   none-past e = grind (arith, nat_tests, e)
 

@@ -1,5 +1,5 @@
--- The accepted messages, put in order from the last slot on.
-use Rattle.std.proofs.Common.{◌≡◌, ℕ, ◌<◌, List, [], ◌∷◌, suc, map, drop, length, get_or, arith, refl, sym, ap, subst, ◌∙◌, drop-cons, Option, None, Bool, true, false}
+-- The accepted messages, put in order.
+use Rattle.std.proofs.Common.{◌≡◌, ℕ, List, [], ◌∷◌, suc, map, arith, refl, sym, ap, subst, ◌∙◌, Option, None, Bool, true, false}
 use Rattle.std.specs.List.{filter_map, list_any, All}
 use Rattle.std.proofs.lemmas.Grind.{common_steps}
 use Rattle.hx_lists.specs.Lists.{sort_by, insert_by}
@@ -13,22 +13,11 @@ use Rattle.hx_replicas.specs.declared.slots.Work.TheVariants.{Idle, Accepted, Ou
 use Rattle.hx_replicas.specs.declared.slots.Slot.{Slot}
 use Rattle.hx_replicas.specs.Participants.{Participant, Slot as PlainSlot, slot_in, slot_of, accepted_of, accepted_all, number_before}
 use Rattle.hx_replicas.specs.Layout.{plain_slot, IsSlot, IsLaidOut, AreDistinct}
-use Rattle.hx_replicas.specs.Batches.{with_accepted, AreApart, AreSpread, AreAccepted}
+use Rattle.hx_replicas.specs.Batches.{AreApart, AreSpread, AreAccepted}
 use Rattle.hx_replicas.proofs.Parts.{part_eq-same}
 use Rattle.hx_replicas.proofs.Putting.{find-step}
 use Rattle.hx_replicas.proofs.Handing.{of-slot}
 use Rattle.hx_replicas.proofs.Together.{part_eq-flip, AreAccepted-same}
-
-sort-first : {H : Type 0} (x : Slot H) (xs : List (Slot H)) → sort_by number_before (filter_map (λ y. accepted_of y.work) (x ∷ xs)) ≡ with_accepted (accepted_of x.work) (sort_by number_before (filter_map (λ y. accepted_of y.work) xs))
-sort-first x xs = one x.work refl
-  where
-    one : (w : Work) → x.work ≡ w → sort_by number_before (filter_map (λ y. accepted_of y.work) (x ∷ xs)) ≡ with_accepted (accepted_of x.work) (sort_by number_before (filter_map (λ y. accepted_of y.work) xs))
-    one Idle e = rw e refl
-    one (Accepted m) e = rw e refl
-    one (Out m b) e = rw e refl
-
-pub sort-next : {H : Type 0} (xs : List (Slot H)) (i j : ℕ) (x : Slot H) → suc j ≡ i → j < length xs → x ≡ get_or xs j x → sort_by number_before (filter_map (λ y. accepted_of y.work) (drop j xs)) ≡ with_accepted (accepted_of x.work) (sort_by number_before (filter_map (λ y. accepted_of y.work) (drop i xs)))
-sort-next xs i j x next lt at_j = rw (← next, drop-cons xs j x, ← at_j) (sort-first x (drop (suc j) xs))
 
 -- they are those of the plain slots
 pub accepted-plain : {H : Type 0} (k : handler.Ghosts H) (xs : List (Slot H)) → filter_map (λ y. accepted_of y.work) (map (plain_slot k) xs) ≡ filter_map (λ y. accepted_of y.work) xs
@@ -153,9 +142,11 @@ pub record AreSorted (w : Participant) (ms : List Message) : Type 0 where
   pub spread : AreSpread ms
   pub accepted : AreAccepted w ms
 
-pub sorted-all : {H : Type 0} {k : handler.Ghosts H} {told : Option (List Failure)} {xs : List (Slot H)} {made retired : ℕ} → IsLaidOut k told xs made retired → (w : Participant) (ms : List Message) → w.slots ≡ map (plain_slot k) xs → ms ≡ sort_by number_before (filter_map (λ y. accepted_of y.work) xs) → AreSorted w ms
-sorted-all {k = k} {told = told} {xs = xs} laid w ms is sorted = record {
-  all = rw (is, accepted-plain k xs) (sym sorted);
-  spread = rw sorted (spread-all k told xs laid.distinct laid.fits);
-  accepted = rw sorted (accepted-sorted k told w xs is laid.distinct laid.fits);
-}
+pub sorted-all : {H : Type 0} {k : handler.Ghosts H} {told : Option (List Failure)} {xs : List (Slot H)} {made retired : ℕ} → IsLaidOut k told xs made retired → (w : Participant) (ms : List Message) → w.slots ≡ map (plain_slot k) xs → ms ≡ accepted_all w → AreSorted w ms
+sorted-all {k = k} {told = told} {xs = xs} laid w ms is all =
+    let sorted : ms ≡ sort_by number_before (filter_map (λ y. accepted_of y.work) xs) = all ∙ rw (is, accepted-plain k xs) refl in
+    record {
+      all = sym all;
+      spread = rw sorted (spread-all k told xs laid.distinct laid.fits);
+      accepted = rw sorted (accepted-sorted k told w xs is laid.distinct laid.fits);
+    }

@@ -1,18 +1,12 @@
 -- Messages that are handed out together. No public clause cites this module.
-use Rattle.std.specs.Prelude.{◌≡◌, ◌≤◌, Bool, false, List, [], ◌∷◌, Option, None, Some, is_none}
+use Rattle.std.specs.Prelude.{◌≡◌, ◌≤◌, Bool, false, List, [], ◌∷◌, is_none}
 use Rattle.std.specs.Option.{ForSome}
-use Rattle.hx_lists.specs.Lists.{insert_by}
 use Rattle.hx_ids.specs.declared.PartId.{PartId}
 use Rattle.hx_cluster.specs.Ends.{part_eq}
 use Rattle.hx_cluster.specs.declared.state.Message.{Message}
 use Rattle.hx_replicas.specs.declared.slots.Work.TheVariants.{Accepted}
-use Rattle.hx_replicas.specs.Participants.{Participant, slot_of, number_before, made_ready, readied_all}
+use Rattle.hx_replicas.specs.Participants.{Participant, slot_of, made_ready, readied_all}
 use Rattle.hx_replicas.specs.Jobs.{ParticipantState, Job, KeepsRest, AreAnswered, runs_of}
-
--- an accepted message is put among others
-abbrev pub with_accepted : Option Message → List Message → List Message
-with_accepted None ms = ms
-with_accepted (Some m) ms = insert_by number_before m ms
 
 -- a part that no message is of, and messages of parts of their own
 abbrev pub AreApart : PartId → List Message → Type 0

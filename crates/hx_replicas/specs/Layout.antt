@@ -7,6 +7,7 @@ use Rattle.hx_ids.specs.declared.StateId.{StateId}
 use Rattle.hx_ids.specs.declared.MsgId.{MsgId}
 use Rattle.hx_model.specs.Model.{dropped}
 use Rattle.hx_cluster.specs.declared.state.Message.{Message}
+use Rattle.hx_links.specs.declared.Node.{Node}
 use Rattle.hx_cluster.specs.declared.description.Failure.{Failure}
 use Rattle.hx_cluster.specs.Ends.{part_eq}
 use Rattle.hx_handler.specs.declared.Handler as handler
@@ -83,19 +84,19 @@ IsBare x = x.handler ≡ None
 
 -- what becomes of a slot: it gets a handler, accepts a message, sends it out, gets its handler back, or is emptied
 abbrev pub filled : {H : Type 0} → Slot H → Option H → Slot H
-filled x h = record { part = x.part; state = x.state; last = x.last; initial = x.initial; work = x.work; handler = h }
+filled x h = record { part = x.part; state = x.state; last = x.last; initial = x.initial; work = x.work; node = x.node; handler = h }
 
-abbrev pub taken : {H : Type 0} → Slot H → Message → Slot H
-taken x m = record { part = x.part; state = m.from; last = m.id; initial = Some m.initial; work = Accepted m; handler = x.handler }
+abbrev pub taken : {H : Type 0} → Message → Node → Slot H → Slot H
+taken m n x = record { part = x.part; state = m.from; last = m.id; initial = Some m.initial; work = Accepted m; node = n; handler = x.handler }
 
-abbrev pub fresh : {H : Type 0} → Message → Slot H
-fresh m = record { part = m.part; state = m.from; last = m.id; initial = Some m.initial; work = Accepted m; handler = None }
+abbrev pub fresh : {H : Type 0} → Message → Node → Slot H
+fresh m n = record { part = m.part; state = m.from; last = m.id; initial = Some m.initial; work = Accepted m; node = n; handler = None }
 
 abbrev pub sent_out : {H : Type 0} → Slot H → Message → Slot H
-sent_out x m = record { part = x.part; state = x.state; last = x.last; initial = x.initial; work = Out m (is_some x.handler); handler = None }
+sent_out x m = record { part = x.part; state = x.state; last = x.last; initial = x.initial; work = Out m (is_some x.handler); node = x.node; handler = None }
 
 abbrev pub restored : {H : Type 0} → Slot H → StateId → Option H → Slot H
-restored x t h = record { part = x.part; state = t; last = x.last; initial = x.initial; work = Idle; handler = h }
+restored x t h = record { part = x.part; state = t; last = x.last; initial = x.initial; work = Idle; node = x.node; handler = h }
 
 abbrev pub wiped : {H : Type 0} → Slot H → Slot H
-wiped x = record { part = x.part; state = dropped; last = record { 0 = 0 }; initial = None; work = Idle; handler = None }
+wiped x = record { part = x.part; state = dropped; last = record { 0 = 0 }; initial = None; work = Idle; node = x.node; handler = None }

@@ -4,8 +4,10 @@
 
 use hx_ids::{MsgId, SessionId, StateId};
 
+mod indexed;
 mod jobs;
 mod participants;
+mod queue;
 mod slots;
 
 pub use jobs::{Done, Job, Ran};

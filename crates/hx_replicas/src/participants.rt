@@ -19,10 +19,11 @@ ghost use Rattle.hx_replicas.specs.Jobs.{KeepsRest, runs_of};
 ghost use Rattle.hx_replicas.specs.Batches.{AreSpread, AreAccepted, IsReadied, AreGiven};
 
 use crate::DeliverFault;
+use crate::indexed::Indexed;
 use crate::jobs::{Done, Job};
+use crate::queue::messages_of;
 use crate::slots::{
-    Slot, Work, accepted_messages, accepted_place, all_rest, bring, count_used, free, give, keep,
-    place_of, ready, refusal, state_for, wipe_all,
+    Work, all_rest, bring, count_used, free, keep, ready, refusal, state_for, wipe_all,
 };
 use hx_cluster::Message;
 use hx_handler::Factory;
@@ -31,21 +32,25 @@ use hx_model::DROPPED;
 use std::alloc::{AllocError, Global};
 use std::marker::Model;
 
+/// More parts and accepted messages than there ever are.
+const MOST: usize = u32::MAX as usize;
+
 /// An instance's session, its parts, and its factory of handlers. It can't be dropped: it has to be
 /// closed.
 pub struct Participant<F: Factory> {
     instance: InstanceId,
     session: Option<SessionId>,
-    slots: Vec<Slot<F::H>>,
+    slots: Indexed<F::H>,
     // How many more deliveries need no memory.
     spare: usize,
     factory: F,
 }
 
 impl<F: Factory> Model for Participant<F> {
-    ghost use Rattle.std.specs.Prelude.{◌+◌, ◌≤◌, map, vec_len, vec_capacity};
+    ghost use Rattle.std.specs.Prelude.{map};
     ghost use Rattle.hx_replicas.specs.Jobs.{ParticipantState};
     ghost use Rattle.hx_replicas.specs.Layout.{plain_slot, IsLaidOut};
+    ghost use Rattle.hx_replicas.specs.Indexes.{IsIndexed, HasRoom};
 
     ghost Value = { ParticipantState };
 
@@ -53,7 +58,7 @@ impl<F: Factory> Model for Participant<F> {
       instance = a.instance;
       plain = record {
         session = a.session;
-        slots = map (plain_slot F.H.Handler) a.slots.items;
+        slots = map (plain_slot F.H.Handler) a.slots.items.items;
         tried = F.tried a.factory;
       };
       spare = a.spare;
@@ -64,9 +69,9 @@ impl<F: Factory> Model for Participant<F> {
     } };
 
     ghost invariant = { λ a.
-        IsLaidOut F.H.Handler (F.listed a.factory) a.slots.items
+        IsLaidOut F.H.Handler (F.listed a.factory) a.slots.items.items
         (F.made a.factory) (F.retired a.factory)
-        × (vec_len a.slots + a.spare ≤ vec_capacity a.slots) };
+        × IsIndexed a.slots × HasRoom a.spare a.slots };
 }
 
 impl<F: Factory> Participant<F> {
@@ -86,7 +91,7 @@ impl<F: Factory> Participant<F> {
         Participant {
             instance,
             session: None,
-            slots: Vec::new(alloc),
+            slots: Indexed::new(alloc),
             spare: 0,
             factory,
         }
@@ -110,7 +115,7 @@ impl<F: Factory> Participant<F> {
     pub fn idle(&self) -> bool
         ensures { result ≡ all_idle self.now.plain }
     {
-        all_rest(&self.slots)
+        all_rest(&self.slots.items)
     }
 
     /// The state as which a part counts for a message with an initial state, and the number of the
@@ -119,10 +124,10 @@ impl<F: Factory> Participant<F> {
         ensures state { result.0 ≡ counts_as (slot_of self.now.plain part) initial }
         ensures last { result.1 ≡ (slot_of self.now.plain part).last.0 }
     {
-        match place_of(&self.slots, part) {
+        match self.slots.place_of(part) {
             None => (initial, 0),
             Some(place) => {
-                let slot = &self.slots[place];
+                let slot = &self.slots.items[place];
                 (state_for(slot.initial, slot.state, initial), slot.last.0)
             }
         }
@@ -132,9 +137,9 @@ impl<F: Factory> Participant<F> {
     pub fn initial_of(&self, part: PartId) -> Option<StateId>
         ensures { result ≡ (slot_of self.now.plain part).initial }
     {
-        match place_of(&self.slots, part) {
+        match self.slots.place_of(part) {
             None => None,
-            Some(place) => self.slots[place].initial,
+            Some(place) => self.slots.items[place].initial,
         }
     }
 
@@ -142,7 +147,7 @@ impl<F: Factory> Participant<F> {
     pub fn slots(&self) -> usize
         ensures { result ≡ length self.now.plain.slots }
     {
-        self.slots.len()
+        self.slots.items.len()
     }
 
     /// The part of the slot in a place.
@@ -150,22 +155,21 @@ impl<F: Factory> Participant<F> {
         requires { place < length self.now.plain.slots }
         ensures { option_map (λ x. x.part) (slice_get self.now.plain.slots place) ≡ Some result }
     {
-        self.slots[place].part
+        self.slots.items[place].part
     }
 
     /// How many parts have accepted a message in this session.
     pub fn used(&self) -> u64
         ensures { result ≡ used_of self.now.plain }
     {
-        count_used(&self.slots) as u64
+        count_used(&self.slots.items) as u64
     }
 
     /// The accepted messages, by number.
     pub fn accepted(&self) -> Result<Vec<Message>, AllocError>
         ensures { IfOk result (λ messages. messages.items ≡ accepted_all self.now.plain) }
     {
-        let messages = accepted_messages(*self.slots.allocator(), &self.slots)?;
-        Ok(messages)
+        self.ordered()
     }
 
     /// Makes room for so many deliveries.
@@ -177,6 +181,9 @@ impl<F: Factory> Participant<F> {
     {
         if n <= self.spare {
             return Ok(());
+        }
+        if self.slots.items.len().saturating_add(n) >= MOST {
+            return Err(AllocError);
         }
         self.slots.reserve(n)?;
         self.spare = n;
@@ -202,29 +209,19 @@ impl<F: Factory> Participant<F> {
         if !is_mine(self.session, message.session) {
             return Err(DeliverFault::OtherSession { mine: self.session });
         }
-        let Some(place) = place_of(&self.slots, message.part) else {
+        let Some(place) = self.slots.place_of(message.part) else {
             if let Some(fault) = refusal(Work::Idle, DROPPED, MsgId(0), None, message) {
                 return Err(fault);
             }
-            self.slots.push_reserved(Slot {
-                part: message.part,
-                state: message.from,
-                last: message.id,
-                initial: Some(message.initial),
-                work: Work::Accepted(*message),
-                handler: None,
-            });
+            self.slots.accept_first(message);
             self.spare -= 1;
             return Ok(());
         };
-        let slot = &mut self.slots[place];
+        let slot = &self.slots.items[place];
         if let Some(fault) = refusal(slot.work, slot.state, slot.last, slot.initial, message) {
             return Err(fault);
         }
-        slot.state = message.from;
-        slot.last = message.id;
-        slot.initial = Some(message.initial);
-        slot.work = Work::Accepted(*message);
+        self.slots.accept(place, message);
         self.spare -= 1;
         Ok(())
     }
@@ -242,10 +239,10 @@ impl<F: Factory> Participant<F> {
         ensures rest { KeepsRest self.old self.new }
         ensures ledger { IsBalanced self.new.made self.new.retired self.new.plain }
     {
-        let Some(place) = accepted_place(&self.slots, id) else {
+        let Some(place) = self.slots.accepted_place(id) else {
             return Ok(None);
         };
-        let Work::Accepted(message) = self.slots[place].work else {
+        let Work::Accepted(message) = self.slots.items[place].work else {
             unreachable!()
         };
         self.ready_one(&message)?;
@@ -268,8 +265,8 @@ impl<F: Factory> Participant<F> {
         ensures rest { KeepsRest self.old self.new }
         ensures ledger { IsBalanced self.new.made self.new.retired self.new.plain }
     {
-        let alloc = *self.slots.allocator();
-        let messages = accepted_messages(alloc, &self.slots)?;
+        let alloc = *self.slots.items.allocator();
+        let messages = self.ordered()?;
         self.ready_all(&messages)?;
         let mut jobs = Vec::with_capacity(alloc, messages.len())?;
         self.give_all(&messages, &mut jobs);
@@ -294,11 +291,11 @@ impl<F: Factory> Participant<F> {
         ensures ledger { IsBalanced self.new.made self.new.retired self.new.plain }
     {
         let end = done.end();
-        let Some(place) = place_of(&self.slots, done.message().part) else {
+        let Some(place) = self.slots.place_of(done.message().part) else {
             unreachable!()
         };
         let (_, handler) = done.into_parts();
-        let slot = &mut self.slots[place];
+        let slot = &mut self.slots.items[place];
         let kept = keep(handler, end, &mut self.factory);
         bring(slot, end, kept);
     }
@@ -316,7 +313,8 @@ impl<F: Factory> Participant<F> {
         ensures listed { self.new.listed ≡ self.old.listed }
         ensures ledger { IsBalanced self.new.made self.new.retired self.new.plain }
     {
-        wipe_all(&mut self.slots, &mut self.factory);
+        wipe_all(&mut self.slots.items, &mut self.factory);
+        self.slots.forget_all();
         self.session = session;
     }
 
@@ -332,13 +330,28 @@ impl<F: Factory> Participant<F> {
         let Participant {
             instance: _,
             session: _,
-            mut slots,
+            slots,
             spare: _,
             mut factory,
         } = self;
-        wipe_all(&mut slots, &mut factory);
-        free(slots);
+        let Indexed {
+            mut items,
+            queue: _,
+            places: _,
+            numbers: _,
+        } = slots;
+        wipe_all(&mut items, &mut factory);
+        free(items);
         factory
+    }
+
+    // The accepted messages, by number.
+    fn ordered(&self) -> Result<Vec<Message>, AllocError>
+        ensures { IfOk result (λ messages. messages.items ≡ accepted_all self.now.plain) }
+    {
+        let alloc = *self.slots.items.allocator();
+        let waiting = self.slots.queue.in_order(alloc)?;
+        messages_of(alloc, &waiting)
     }
 
     // Makes the handler that an accepted message needs, where its part has none.
@@ -357,10 +370,10 @@ impl<F: Factory> Participant<F> {
         ensures rest { KeepsRest self.old self.new }
         ensures ledger { IsBalanced self.new.made self.new.retired self.new.plain }
     {
-        let Some(place) = place_of(&self.slots, message.part) else {
+        let Some(place) = self.slots.place_of(message.part) else {
             unreachable!()
         };
-        ready(&mut self.slots[place], message, &mut self.factory)?;
+        ready(&mut self.slots.items[place], message, &mut self.factory)?;
         Ok(())
     }
 
@@ -375,10 +388,10 @@ impl<F: Factory> Participant<F> {
         ensures rest { self.new ≡ record self.old { plain = self.new.plain } }
         ensures ledger { IsBalanced self.new.made self.new.retired self.new.plain }
     {
-        let Some(place) = place_of(&self.slots, message.part) else {
+        let Some(place) = self.slots.place_of(message.part) else {
             unreachable!()
         };
-        give(&mut self.slots[place], message)
+        self.slots.send(place, message)
     }
 
     // Makes the handlers that messages need, as far as there is memory.

@@ -1,30 +1,29 @@
 //! The slots of a participant, and what is done with one of them.
 ghost use Rattle.std.specs.Prelude.{◌≡◌, ℕ, ◌+◌, ◌≤◌, ◌==◌, Bool, true, false, List, Option, map};
-ghost use Rattle.std.specs.Prelude.{None, Some, position, OnOk, OnErr, IfOk, IfSome, is_none};
+ghost use Rattle.std.specs.Prelude.{None, Some, position, OnOk, OnErr, IfSome, is_none};
 ghost use Rattle.std.specs.Prelude.{nat_lt, if◌then◌else◌, vec_len, vec_capacity};
-ghost use Rattle.std.specs.List.{All, sum_by, list_all, filter_map};
-ghost use Rattle.hx_lists.specs.Lists.{count, sort_by};
+ghost use Rattle.std.specs.List.{All, sum_by, list_all};
+ghost use Rattle.hx_lists.specs.Lists.{count};
 ghost use Rattle.hx_model.specs.Model.{dropped};
 ghost use Rattle.hx_cluster.specs.declared.description.Failure.{Failure};
 ghost use Rattle.hx_handler.specs.Makings.{tried_up};
 ghost use Rattle.hx_replicas.specs.declared.slots.Work.TheVariants.{Accepted};
 ghost use Rattle.hx_replicas.specs.Ledger.{in_place};
-ghost use Rattle.hx_replicas.specs.Participants.{slot_fault, has_accepted, accepted_of};
-ghost use Rattle.hx_replicas.specs.Participants.{number_before, is_idle, makes, made_ready, is_out};
+ghost use Rattle.hx_replicas.specs.Participants.{slot_fault, has_accepted};
+ghost use Rattle.hx_replicas.specs.Participants.{is_idle, makes, made_ready, is_out};
 ghost use Rattle.hx_replicas.specs.Participants.{state_for as state_of_slot};
 ghost use Rattle.hx_replicas.specs.Jobs.{seen_in, Job as SeenJob, IsMaking};
-ghost use Rattle.hx_replicas.specs.Layout.{IsSlot, IsQuiet, IsBare, has_part, has_number};
+ghost use Rattle.hx_replicas.specs.Layout.{IsSlot, IsQuiet, IsBare, has_number};
 ghost use Rattle.hx_replicas.specs.Layout.{plain_slot, count_of, filled, wiped, restored, sent_out};
-ghost use Rattle.hx_replicas.specs.Batches.{with_accepted};
 
 use crate::DeliverFault;
 use crate::jobs::Job;
 use hx_cluster::Message;
 use hx_handler::{Factory, Handler, MakeFault};
 use hx_ids::{MsgId, PartId, StateId};
-use hx_lists::insert_reserved;
+use hx_links::Node;
 use hx_model::{DROPPED, ERROR};
-use std::alloc::{AllocError, Global};
+use std::alloc::AllocError;
 use std::mem;
 
 /// What a slot holds: no message, one that was accepted, or one that is out in a job, with a
@@ -43,14 +42,9 @@ pub struct Slot<H> {
     pub last: MsgId,
     pub initial: Option<StateId>,
     pub work: Work,
+    /// Where its accepted message is linked.
+    pub node: Node,
     pub handler: Option<H>,
-}
-
-/// The place of a part's slot.
-pub fn place_of<H>(slots: &[Slot<H>], part: PartId) -> Option<usize>
-    ensures { result ≡ position (has_part part) slots.now }
-{
-    slots.iter().position(|slot| slot.part == part)
 }
 
 /// Whether a slot has nothing to do.
@@ -92,30 +86,6 @@ pub fn accepted_place<H>(slots: &[Slot<H>], id: MsgId) -> Option<usize>
     ensures { result ≡ position (has_number id) slots.now }
 {
     slots.iter().position(|slot| holds(slot.work, id))
-}
-
-/// Puts an accepted message among others, by number.
-fn insert_accepted(messages: &mut Vec<Message>, work: Work) -> Result<(), AllocError>
-    ensures { OnOk result
-        (messages.new.items ≡ with_accepted (accepted_of work) messages.old.items) }
-{
-    if let Work::Accepted(message) = work {
-        messages.reserve(1)?;
-        insert_reserved(messages, message, |other| other.id.0 < message.id.0);
-    }
-    Ok(())
-}
-
-/// The accepted messages, by number.
-pub fn accepted_messages<H>(alloc: Global, slots: &[Slot<H>]) -> Result<Vec<Message>, AllocError>
-    ensures { IfOk result (λ messages. messages.items
-        ≡ sort_by number_before (filter_map (λ x. accepted_of x.work) slots.now)) }
-{
-    let mut messages = Vec::new(alloc);
-    for i in (0..slots.len()).rev() {
-        insert_accepted(&mut messages, slots[i].work)?;
-    }
-    Ok(messages)
 }
 
 /// Why a slot refuses a message, if it does.
@@ -306,6 +276,7 @@ pub fn free<H>(mut slots: Vec<Slot<H>>)
             last: _,
             initial: _,
             work: _,
+            node: _,
             handler,
         } = slot;
         match handler {

@@ -8,12 +8,13 @@ use Rattle.hx_worlds.specs.Items.{items_text}
 use Rattle.hx_worlds.specs.Runs.{Deed, GoesOn, Stops, items_of, state_of, is_stopped}
 use Rattle.hx_worlds.specs.Scripts.{sim_run, end_text}
 use Rattle.hx_worlds.specs.Summaries.{summary_of}
-use Rattle.hx_replies.specs.Constants as statuses
-use Rattle.hx_replies.specs.declared.reply.Reply.{Reply}
+use Rattle.hx_answers.specs.Constants as statuses
+use Rattle.hx_answers.specs.declared.replies.Reply.{Reply}
 use Rattle.hx_replies.specs.declared.input.Scenario.{Scenario}
 use Rattle.hx_replies.specs.declared.input.InputFault.{InputFault}
 use Rattle.hx_replies.specs.declared.simulation.Simulated.{Simulated}
-use Rattle.hx_replies.specs.Answers.{Answer, AnswersAs, answer_by, ended_status, sim_answer, summary_text, summary_answer}
+use Rattle.hx_answers.specs.Answers.{Answer, AnswersAs}
+use Rattle.hx_replies.specs.Answers.{answer_by, ended_status, sim_answer, summary_text, summary_answer}
 use Rattle.hx_replies.specs.Simulation.{IsSimulated, full_at}
 
 record IsDone (r : Deed) : Type 0 where

@@ -7,6 +7,7 @@ use Rattle.hx_text.specs.Lines.{cut_of, lines_of}
 use Rattle.hx_script.specs.declared.Line.{Line}
 use Rattle.hx_script.specs.declared.faults.ScriptFault.{ScriptFault}
 use Rattle.hx_script.specs.Grammar.{then_ok, script_of}
+use Rattle.hx_lawful.specs.Holding.{IsSound}
 use Rattle.hx_worlds.specs.Scripts.{sim_history}
 use Rattle.hx_scripted.proofs.DoingLines.{lawful_scripts, holds_of_scripts}
 use Rattle.hx_scripted.proofs.ReadScripts.{given_read}
@@ -18,7 +19,7 @@ use Rattle.hx_replies.specs.declared.input.InputFault.{InputFault}
 use Rattle.hx_replies.specs.declared.input.InputFault.TheVariants as faults
 use Rattle.hx_replies.specs.Input.{map_err, unless_fault, text_fault, script_in, scenario_in, scenario_of}
 use Rattle.hx_replies.specs.Simulation.{IsGiven}
-use Rattle.hx_replies.specs.History.{IsSound, IsSoundRun}
+use Rattle.hx_replies.specs.History.{IsSoundRun}
 
 pub given_in : (script : List ℕ) (spec new : Spec) (lines : List Line) → IsValid spec → script_in script spec ≡ Ok (lines, new) → IsGiven (record { spec = new; lines = lines })
 given_in script spec new lines valid is = one (text_fault script) is

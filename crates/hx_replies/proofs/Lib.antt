@@ -1,5 +1,3 @@
-pub mod Parts
-pub mod Described
 pub mod Given
 pub mod Inputs
 pub mod Numbers

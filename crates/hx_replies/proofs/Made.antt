@@ -9,7 +9,7 @@ use Rattle.hx_made.proofs.Cuts.{cut_of-made}
 use Rattle.hx_made.proofs.Descriptions.{input_spec-made}
 use Rattle.hx_made.proofs.Scripts.{lines_fault-script, script_of-script}
 use Rattle.hx_made.proofs.Lengths.{length-made}
-use Rattle.hx_replies.specs.Constants.{most_line, most_bytes}
+use Rattle.hx_answers.specs.Constants.{most_line, most_bytes}
 use Rattle.hx_replies.specs.declared.input.InputFault.TheVariants as faults
 use Rattle.hx_replies.specs.Input.{fault_by_text, unless_fault, map_err, scenario_in, scenario_of}
 

@@ -1,34 +1,22 @@
--- The status and the text that answer words and an input.
-use Rattle.std.specs.Prelude.{◌≡◌, ℕ, Bool, true, false, List, ◌++◌, Result, Ok, Err, codes, decimal}
-use Rattle.hx_words.specs.Usage.{usage_text, version_text}
+-- The status and the text that answer an input.
+use Rattle.std.specs.Prelude.{ℕ, Bool, true, false, List, Result, Ok, Err}
 use Rattle.hx_words.specs.declared.Task.{Task}
 use Rattle.hx_genwork.specs.Made.{made}
 use Rattle.hx_print.specs.Texts.{history_full_text}
 use Rattle.hx_worlds.specs.Runs.{Deed, GoesOn, Stops}
 use Rattle.hx_worlds.specs.Scripts.{sim_run, sim_text, is_full_after}
 use Rattle.hx_worlds.specs.Summaries.{summary_of}
-use Rattle.hx_replies.specs.Constants as statuses
-use Rattle.hx_replies.specs.KindNames.{desc_kind_name, script_kind_name}
-use Rattle.hx_replies.specs.declared.reply.Reply.{Reply}
+use Rattle.hx_answers.specs.Constants as statuses
+use Rattle.hx_answers.specs.Answers.{Answer, description_answer, script_answer}
 use Rattle.hx_replies.specs.declared.input.Scenario.{Scenario}
 use Rattle.hx_replies.specs.declared.input.InputFault.{InputFault}
 use Rattle.hx_replies.specs.declared.input.InputFault.TheVariants as faults
 use Rattle.hx_replies.specs.Input.{scenario_of}
 
-pub record Answer : Type 0 where
-  pub status : ℕ
-  pub text : List ℕ
-
 -- an input that isn't run
 abbrev pub fault_answer : InputFault → Answer
-fault_answer (faults.Description f) = record {
-  status = statuses.description_refused;
-  text = codes "description " ++ desc_kind_name f.kind ++ codes " " ++ f.path ++ codes "\n";
-}
-fault_answer (faults.Script f) = record {
-  status = statuses.script_refused;
-  text = codes "script " ++ decimal f.line ++ codes " " ++ script_kind_name f.kind ++ codes "\n";
-}
+fault_answer (faults.Description f) = description_answer f
+fault_answer (faults.Script f) = script_answer f
 
 -- a script that is run to its end, or up to where the history has no room
 abbrev pub ended_status : Bool → ℕ
@@ -57,24 +45,3 @@ answer_to bytes = answer_by sim_answer (scenario_of bytes)
 -- the answer to a generated input, which nobody gives
 abbrev pub generated_answer : Task → Answer
 generated_answer task = answer_by summary_answer (scenario_of (made task.seed task.size))
-
--- the other answers
-abbrev pub usage : Answer
-usage = record { status = statuses.done; text = usage_text }
-
-abbrev pub version : Answer
-version = record { status = statuses.done; text = version_text }
-
-abbrev pub words_refused : Answer
-words_refused = record { status = statuses.words_refused; text = codes "words refused\n" }
-
-abbrev pub read_fault : Answer
-read_fault = record { status = statuses.read_fault; text = codes "read fault\n" }
-
-abbrev pub too_long : Answer
-too_long = record { status = statuses.too_long; text = codes "input too long\n" }
-
--- a reply is an answer as it is defined
-pub record AnswersAs (wanted : Answer) (reply : Reply) : Type 0 where
-  pub status : reply.status.0 ≡ wanted.status
-  pub text : reply.text ≡ wanted.text

@@ -10,7 +10,7 @@ use Rattle.hx_script.specs.declared.faults.ScriptKind.TheVariants as kinds
 use Rattle.hx_script.specs.declared.faults.ScriptFault.{ScriptFault}
 use Rattle.hx_script.specs.Grammar.{then_ok, script_of}
 use Rattle.hx_desc.specs.Description.{input_spec}
-use Rattle.hx_replies.specs.Constants.{most_line}
+use Rattle.hx_answers.specs.Constants.{most_line}
 use Rattle.hx_replies.specs.declared.input.Scenario.{Scenario}
 use Rattle.hx_replies.specs.declared.input.InputFault.{InputFault}
 use Rattle.hx_replies.specs.declared.input.InputFault.TheVariants as faults

@@ -2,12 +2,12 @@
 ghost use Rattle.std.specs.Prelude.{◌≡◌, ◌≤◌, length, Ok, None, IfOk, IfErr};
 ghost use Rattle.hx_text.specs.Lines.{lines_of};
 ghost use Rattle.hx_script.specs.Parsing.{IsReadable};
-ghost use Rattle.hx_replies.specs.Constants.{most_bytes};
+ghost use Rattle.hx_answers.specs.Constants.{most_bytes};
 ghost use Rattle.hx_replies.specs.Input.{text_fault, script_in, scenario_of};
 ghost use Rattle.hx_replies.specs.Simulation.{IsGiven};
 ghost use Rattle.hx_replies.specs.Refusals.{Refuses, IsTextFault, RefusesScript};
 
-use crate::constants::MOST_LINE;
+use hx_answers::MOST_LINE;
 use hx_cluster::Spec;
 use hx_desc::{DescFault, DescRefusal, read};
 use hx_lists::Seq;

@@ -1,12 +1,12 @@
-//! The answer to an input: a status with its text.
+//! The answer to an input that is run.
 ghost use Rattle.std.specs.Prelude.{◌≡◌, ◌≤◌, ◌++◌, length, IfOk};
 ghost use Rattle.hx_print.specs.Texts.{history_full_text};
 ghost use Rattle.hx_worlds.specs.Summaries.{summary_of};
-ghost use Rattle.hx_replies.specs.Constants.{most_bytes, history_full};
+ghost use Rattle.hx_answers.specs.Answers.{AnswersAs};
+ghost use Rattle.hx_answers.specs.Constants.{most_bytes, history_full};
 ghost use Rattle.hx_words.specs.Tasks.{HasRanges};
 ghost use Rattle.hx_replies.specs.Simulation.{IsGiven};
 ghost use Rattle.hx_replies.specs.Answers.{
-  AnswersAs,
   answer_to,
   fault_answer,
   generated_answer,
@@ -14,69 +14,25 @@ ghost use Rattle.hx_replies.specs.Answers.{
   summary_answer,
 };
 
-use crate::constants::Status;
 use crate::input::{InputFault, InputRefusal, Scenario, read_scenario};
-use crate::kind_names::{desc_kind_name, script_kind_name};
 use crate::simulation::{print_full, simulate};
+use hx_answers::{Reply, Status, refuse_description, refuse_script};
 use hx_board::Board;
-use hx_desc::DescFault;
 use hx_genwork::make;
 use hx_scene::print_counts;
-use hx_script::ScriptFault;
 use hx_sim::summary_of;
-use hx_text::{Page, Piece};
+use hx_text::Page;
 use hx_words::Task;
 use std::alloc::{AllocError, Global};
-
-/// A status with its text.
-#[derive(Drop)]
-pub struct Reply {
-    pub status: Status,
-    pub text: Page,
-}
 
 /// The answer to an input that isn't run.
 fn refused(alloc: Global, fault: &InputFault) -> Result<Reply, AllocError>
     ensures { IfOk result (AnswersAs (fault_answer fault.now)) }
 {
     match fault {
-        InputFault::Description(fault) => description_refused(alloc, fault),
-        InputFault::Script(fault) => script_refused(alloc, fault),
+        InputFault::Description(fault) => refuse_description(alloc, fault),
+        InputFault::Script(fault) => refuse_script(alloc, fault),
     }
-}
-
-fn description_refused(alloc: Global, fault: &DescFault) -> Result<Reply, AllocError>
-    ensures { IfOk result (AnswersAs (fault_answer (InputFault.Description fault.now))) }
-{
-    let mut text = Page::new(alloc);
-    text.push_all(&[
-        Piece::Text("description "),
-        Piece::Text(desc_kind_name(fault.kind)),
-        Piece::Text(" "),
-        Piece::Text(fault.path.as_str()),
-        Piece::Text("\n"),
-    ])?;
-    Ok(Reply {
-        status: Status::DESCRIPTION_REFUSED,
-        text,
-    })
-}
-
-fn script_refused(alloc: Global, fault: &ScriptFault) -> Result<Reply, AllocError>
-    ensures { IfOk result (AnswersAs (fault_answer (InputFault.Script fault.now))) }
-{
-    let mut text = Page::new(alloc);
-    text.push_all(&[
-        Piece::Text("script "),
-        Piece::Number(fault.line as u64),
-        Piece::Text(" "),
-        Piece::Text(script_kind_name(fault.kind)),
-        Piece::Text("\n"),
-    ])?;
-    Ok(Reply {
-        status: Status::SCRIPT_REFUSED,
-        text,
-    })
 }
 
 /// A text behind which the history had no room.

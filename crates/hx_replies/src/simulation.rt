@@ -19,7 +19,6 @@ ghost use Rattle.hx_replies.specs.Simulation.{
   staff_from,
 };
 
-use crate::constants::MOST_WEIGHT;
 use crate::input::Scenario;
 use hx_board::{Board, RoomFault};
 use hx_cluster::{Failure, Spec};
@@ -32,6 +31,9 @@ use hx_script::Line;
 use hx_sim::World;
 use hx_text::Page;
 use std::alloc::{AllocError, Global};
+
+/// What the history of a run may weigh.
+const MOST_WEIGHT: u64 = 4_000_000;
 
 /// What a run printed, and its board. It was ended early where the history was full: what that then
 /// weighed.

@@ -19,6 +19,7 @@ use Rattle.hx_script.specs.declared.log.LogEntry.TheVariants as logs
 use Rattle.hx_script.specs.Logs.{log_of}
 use Rattle.hx_script.specs.LogEntries.{entry_told_by}
 use Rattle.hx_worlds.specs.Scripts.{sim_history}
+use Rattle.hx_logs.specs.Printed.{told_along}
 use Rattle.hx_check.specs.Judge.{built}
 use Rattle.hx_live.specs.Follows.{follows, follows_cut_off}
 use Rattle.hx_live.specs.Thrifty.{is_thrifty}
@@ -213,10 +214,6 @@ pub entries_are_read : map (λ l. l.entry) (log_of the_spec (lines_of the_log)).
 entries_are_read = refl
 
 -- what each event tells
-abbrev told_along : Cluster → List Event → List (Option LogEntry)
-told_along c [] = []
-told_along c (e ∷ es) = entry_told_by c e ∷ told_along (next c e) es
-
 pub entries_are_told : told_along (opening the_spec) the_history ≡ the_entries
 entries_are_told = refl
 

@@ -1,5 +1,5 @@
 -- An instance's session dies in a scene, and its participant stops: the scene stays one, and what is done is the operation.
-use Rattle.std.proofs.Common.{◌≡◌, ℕ, ◌⊎◌, inl, inr, true, List, [], ◌∷◌, ◌++◌, map, None, Some, refl, sym, ap, subst, ◌∙◌}
+use Rattle.std.proofs.Common.{◌≡◌, ℕ, ◌⊎◌, inl, inr, true, List, [], ◌∷◌, ◌++◌, None, Some, refl, sym, ap, subst, ◌∙◌}
 use Rattle.std.specs.Prelude.{Option, Result, Ok, Err, IsErrAnd}
 use Rattle.std.specs.List.{All}
 use Rattle.hx_ids.specs.declared.InstanceId.{InstanceId}
@@ -8,7 +8,7 @@ use Rattle.hx_cluster.specs.declared.happenings.Did.TheVariants as dids
 use Rattle.hx_cluster.specs.declared.happenings.StepFault.{StepFault}
 use Rattle.hx_cluster.specs.declared.happenings.Event.{Event}
 use Rattle.hx_cluster.specs.declared.happenings.Event.TheVariants as events
-use Rattle.hx_cluster.specs.Steps.{has_instance, did_of}
+use Rattle.hx_cluster.specs.Steps.{has_instance}
 use Rattle.hx_text.specs.Texts.{Prints, PutsFront}
 use Rattle.hx_print.specs.declared.roll.Roll.{Roll}
 use Rattle.hx_print.specs.declared.Note.TheVariants as notes
@@ -28,12 +28,12 @@ use Rattle.hx_scripted.proofs.Standing.{since}
 use Rattle.hx_agreed.proofs.Operations.{die_keeps}
 use Rattle.hx_scene.specs.Scenes.{SceneState, OpenState, at, lists_of}
 use Rattle.hx_scene.specs.Kept.{IsScene, IsListed}
-use Rattle.hx_scene.specs.Doing.{Keeps, Ends, Fails, DoesDeed}
+use Rattle.hx_scene.specs.Doing.{Keeps, Ends, IsCut, Fails, DoesDeed}
 use Rattle.hx_scene.specs.Ending.{Adopts, KeepsParts}
-use Rattle.hx_scene.proofs.Reaching.{reaches_as, does_as, happens_and, kept_going}
+use Rattle.hx_scene.proofs.Reaching.{reaches_as, cut_as, does_as, happens_and, happens_and_cut, kept_going}
 use Rattle.hx_scene.proofs.Standing.{valid_in}
 use Rattle.hx_scene.proofs.Happening.{same_roll, step_free, step_fault, step_full, stopped_here, no_room}
-use Rattle.hx_scene.proofs.Turning.{printed_after, front_after}
+use Rattle.hx_scene.proofs.Turning.{printed_after}
 
 abbrev ended : InstanceId → Event
 ended i = events.Admin (steps.End i) dids.Done
@@ -80,6 +80,17 @@ died_printed {T} {E} {roll} v i s b later after p q t free made adopts kept same
     printed_after p q (died_ends v i s b later after free made adopts kept)
     ((printed s.board.history (ended i) (ap (λ c. c.history) made)).ok ∙ ap (λ text. p ++ text) (same_roll s (ended i) same))
 
+died_cut : (v : Voice) (i : InstanceId) (s : SceneState) (b : Held) (later : List OpenState) (after : List ParticipantState) (p q : List ℕ) → step_refusal s.board (steps.End i) ≡ None
+    → b ≡ on_board s.board (ended i) → KeepsParts s.jobs later s.staff after → PutsFront (entry_text s.spec s.board.cluster (ended i)) p q
+    → IsCut (λ x. do_die v i x) s p (record s { board = b; jobs = later; staff = after }) q
+died_cut v i s b later after p q free made kept front =
+    let f = step_free s.board (steps.End i) free in
+    let c = on_board s.board (ended i) in
+    let w : SceneState = record s { board = c; jobs = later; staff = after } in
+    subst (λ d. IsCut (λ x. do_die v i x) s p (record s { board = d; jobs = later; staff = after }) q) (sym made)
+    (cut_as (λ a. ap (λ (o : Option StepFault). died v i o (at s a)) f.none)
+    (happens_and_cut (ended i) (λ x. done (adopt_in i None x)) [] s w p q f.room refl refl (parts_kept s c later after refl kept) front))
+
 pub died_front : {R T E : Type 0} {roll : Roll} (v : Voice) (i : InstanceId) (s : SceneState) (b : Held) (later : List OpenState) (after : List ParticipantState) (p q : List ℕ) (fault : E)
     (result : Result R RoomFault) → step_refusal s.board (steps.End i) ≡ None → b ≡ on_board s.board (ended i) → Adopts i None s.jobs later s.staff after → KeepsParts s.jobs later s.staff after
     → roll ≡ roll_of s.board.cluster → ((h : List Event) (d : Event) → b.history ≡ h ++ d ∷ [] → Prints {T = T} (event_text s.spec roll d) p (Err fault) q)
@@ -87,7 +98,7 @@ pub died_front : {R T E : Type 0} {roll : Roll} (v : Voice) (i : InstanceId) (s 
 died_front v i s b later after p q fault (Ok x) free made adopts kept same printed failed = absurd failed
 died_front {R} {T} {E} {roll} v i s b later after p q fault (Err x) free made adopts kept same printed failed =
     subst (λ y. Fails (λ z. do_die v i z) s p y (record s { board = b; jobs = later; staff = after }) q) (sym failed)
-    (front_after p q (died_ends v i s b later after free made adopts kept)
+    (died_cut v i s b later after p q free made kept
     (subst (λ text. PutsFront text p q) (same_roll s (ended i) same) (printed s.board.history (ended i) (ap (λ c. c.history) made)).err))
 
 -- it is refused

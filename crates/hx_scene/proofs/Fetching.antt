@@ -13,6 +13,7 @@ use Rattle.hx_cluster.specs.Ends.{message_of}
 use Rattle.hx_cluster.specs.Reads.{fetched}
 use Rattle.hx_cluster.specs.Steps.{has_instance, session_of}
 use Rattle.hx_text.specs.Texts.{Prints}
+use Rattle.hx_text.proofs.Printing.{puts_none}
 use Rattle.hx_print.specs.Texts.{event_text, entry_text}
 use Rattle.hx_board.specs.declared.faults.RoomFault.{RoomFault}
 use Rattle.hx_board.specs.declared.faults.RoomFault.TheVariants as rooms
@@ -38,7 +39,7 @@ use Rattle.hx_scene.specs.Advances.{no_roll}
 use Rattle.hx_scene.specs.Doing.{Keeps, Ends, Fails, DoesDeed}
 use Rattle.hx_scene.specs.Kept.{IsScene, IsListed}
 use Rattle.hx_scene.specs.Ending.{KeepsParts, Follows}
-use Rattle.hx_scene.proofs.Reaching.{reaches_as, cut_as, at_happened, happens_and, happens_and_cut, room_of, puts_none}
+use Rattle.hx_scene.proofs.Reaching.{reaches_as, cut_as, at_happened, happens_and, happens_and_cut, room_of}
 use Rattle.hx_scene.proofs.Standing.{valid_in, stands_in}
 use Rattle.hx_scene.proofs.Happening.{refused_as, stopped_here, made_here, room_is, scene_happened}
 
@@ -86,7 +87,7 @@ module _ (s : SceneState) (i : InstanceId) (b : Held) (made : b ≡ on_board s.b
   alone p (Err x) failed =
       subst (λ y. Fails (λ x. do_fetch i x) s p y (record s { board = b }) p) (sym failed)
       (cut_as (λ a. refl)
-      (happens_and_cut (fetch_event s i) (λ y. done (fetched_as i (fetched s.board.cluster i) y)) [] s (record s { board = b }) p p room made refl event_keeps (puts_none (entry_text s.spec s.board.cluster (fetch_event s i)) p)))
+      (happens_and_cut (fetch_event s i) (λ y. done (fetched_as i (fetched s.board.cluster i) y)) [] s (record s { board = b }) p p room made refl event_keeps (puts_none (entry_text s.spec s.board.cluster (fetch_event s i)) p p refl)))
 
   pub event_alone : {R : Type 0} (bag : List Message) → bag ≡ s.bag → (p : List ℕ) (result : Result R RoomFault) → IsErrAnd result (λ x. x ≡ rooms.OutOfMemory)
       → DoesDeed (λ x. do_fetch i x) s p (record s { board = b; bag = bag }) p result

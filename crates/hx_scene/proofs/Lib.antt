@@ -1,3 +1,4 @@
+pub mod Fronts
 pub mod Reaching
 pub mod Advancing
 pub mod Charging

@@ -1,14 +1,12 @@
 -- How operations on a scene come further, step by step: laws of what is done, also where the history has no room or memory is wanted.
-use Rattle.std.proofs.Common.{◌≡◌, ℕ, ◌+◌, ◌≤◌, ◌<◌, Bool, true, false, List, [], ◌∷◌, ◌++◌, suc, zero, inl, inr, map, take, drop, length, Option, None, Some, refl, sym, ap, subst, ◌∙◌, append_assoc, arith}
+use Rattle.std.proofs.Common.{◌≡◌, ℕ, ◌+◌, ◌≤◌, ◌<◌, Bool, true, false, List, [], ◌∷◌, ◌++◌, suc, zero, inl, inr, map, drop, length, Option, None, Some, refl, sym, ap, subst, ◌∙◌, append_assoc, arith}
 use Rattle.std.specs.Prelude.{if◌then◌else◌, nat_lt, slice_index_or, Result, Ok, Err, IsErrAnd, ◌⊎◌}
 use Rattle.std.proofs.lemmas.List.{append-nil, drop_more, drop_all}
 use Rattle.std.proofs.lemmas.Bool.Decides.{nat_tests}
 use Rattle.hx_cluster.specs.declared.description.Spec.{Spec}
 use Rattle.hx_cluster.specs.declared.description.Failure.{Failure}
-use Rattle.hx_cluster.specs.declared.state.Cluster.{Cluster}
 use Rattle.hx_cluster.specs.declared.happenings.Event.{Event}
 use Rattle.hx_cluster.specs.declared.happenings.Outcome.{Outcome}
-use Rattle.hx_cluster.specs.Events.{next, replay}
 use Rattle.hx_cluster.specs.Weight.{weight_of, weight_of_all}
 use Rattle.hx_text.specs.Texts.{PutsFront}
 use Rattle.hx_print.specs.Texts.{entry_text}
@@ -18,7 +16,7 @@ use Rattle.hx_board.specs.Refusals.{full}
 use Rattle.hx_board.specs.declared.faults.RoomFault.{RoomFault}
 use Rattle.hx_board.specs.declared.faults.RoomFault.TheVariants as rooms
 use Rattle.hx_worlds.specs.World.{Answers, Told, Answered, Missing, State, rest_of}
-use Rattle.hx_worlds.specs.Items.{Item, Happens, Says, events_in, items_text}
+use Rattle.hx_worlds.specs.Items.{Item, Happens, Says}
 use Rattle.hx_worlds.specs.Runs.{Run, Deed, GoesOn, Stops, gives, done, items_of, state_of, after_items, go_on, and_then, happened, make, happen, charged, say, for_each}
 use Rattle.hx_worlds.specs.Brings.{Past, past_of, Brings}
 use Rattle.hx_worlds.proofs.Brought.{brings_nothing, brings_both, brings_event}
@@ -30,6 +28,7 @@ use Rattle.hx_agreed.proofs.Going.{IsGoing}
 use Rattle.hx_scene.specs.Scenes.{SceneState, at, world_of, lists_of}
 use Rattle.hx_scene.specs.Telling.{IsCharged}
 use Rattle.hx_scene.specs.Doing.{Asked, Gives, left, IsToldBy, AreTold, IsCounted, Keeps, Reaches, Ends, StopsHere, IsCut, Fails, Does}
+use Rattle.hx_scene.proofs.Fronts.{texts_both, prints_none, prints_event, prints_said, prints_all, prints_both}
 
 -- answers to one list of questions and then to another
 pub gives_both : (xs ys : List Asked) (a : Answers) → Gives xs a → Gives ys (left xs a) → Gives (xs ++ ys) a
@@ -76,81 +75,6 @@ items_after is (Stops more x) = refl
 pub on_after : {A B : Type 0} (is : List Item) (r : Run A) (k : A → State → Run B) → go_on (after_items is r) k ≡ after_items is (go_on r k)
 on_after is (GoesOn more x answer) k = after_both is more (k answer x)
 on_after is (Stops more x) k = refl
-
--- events and texts of items
-pub events_both : (is js : List Item) → events_in (is ++ js) ≡ events_in is ++ events_in js
-events_both [] js = refl
-events_both (Happens e ∷ is) js = ap (λ es. e ∷ es) (events_both is js)
-events_both (Says charge text ∷ is) js = events_both is js
-
-pub text_both : (spec : Spec) (c : Cluster) (is js : List Item) → items_text spec c (is ++ js) ≡ items_text spec c is ++ items_text spec (replay c (events_in is)) js
-text_both spec c [] js = refl
-text_both spec c (Happens e ∷ is) js =
-    ap (λ t. entry_text spec c e ++ t) (text_both spec (next c e) is js)
-    ∙ sym (append_assoc (entry_text spec c e) (items_text spec (next c e) is) (items_text spec (replay (next c e) (events_in is)) js))
-text_both spec c (Says charge text ∷ is) js =
-    ap (λ t. text ++ t) (text_both spec c is js)
-    ∙ sym (append_assoc text (items_text spec c is) (items_text spec (replay c (events_in is)) js))
-
--- fronts of texts
-takes_past : (n : ℕ) (xs ys : List ℕ) → (m : ℕ) × (take m (xs ++ ys) ≡ xs ++ take n ys)
-takes_past n [] ys = (n, refl)
-takes_past n (x ∷ xs) ys = let more = takes_past n xs ys in (suc more.0, ap (λ h. x ∷ h) more.1)
-
-takes_all : (xs : List ℕ) → (m : ℕ) × (take m xs ≡ xs)
-takes_all [] = (0, refl)
-takes_all (x ∷ xs) = let more = takes_all xs in (suc more.0, ap (λ h. x ∷ h) more.1)
-
-takes_front : (n : ℕ) (xs ys : List ℕ) → (m : ℕ) × (take m (xs ++ ys) ≡ take n xs)
-takes_front zero xs ys = (0, refl)
-takes_front (suc n) [] ys = (0, refl)
-takes_front (suc n) (x ∷ xs) ys = let more = takes_front n xs ys in (suc more.0, ap (λ h. x ∷ h) more.1)
-
-takes_twice : (k n : ℕ) (xs : List ℕ) → (m : ℕ) × (take m xs ≡ take k (take n xs))
-takes_twice zero n xs = (0, refl)
-takes_twice (suc k) zero xs = (0, refl)
-takes_twice (suc k) (suc n) [] = (0, refl)
-takes_twice (suc k) (suc n) (x ∷ xs) = let more = takes_twice k n xs in (suc more.0, ap (λ h. x ∷ h) more.1)
-
-pub puts_none : (text old : List ℕ) → PutsFront text old old
-puts_none text old = (0, sym (append-nil old))
-
-pub puts_all : (text old new : List ℕ) → new ≡ old ++ text → PutsFront text old new
-puts_all text old new e = let all = takes_all text in (all.0, e ∙ ap (λ t. old ++ t) (sym all.1))
-
--- one text, and then a front of another
-pub puts_then : (first text old middle new : List ℕ) → middle ≡ old ++ first → PutsFront text middle new → PutsFront (first ++ text) old new
-puts_then first text old middle new e front =
-    let all = takes_past front.0 first text in
-    (all.0, front.1 ∙ ap (λ t. t ++ take front.0 text) e ∙ append_assoc old first (take front.0 text) ∙ ap (λ t. old ++ t) (sym all.1))
-
--- a front of a text is one of a longer text, and so is a front of a front
-pub puts_longer : (text more old new : List ℕ) → PutsFront text old new → PutsFront (text ++ more) old new
-puts_longer text more old new front = let all = takes_front front.0 text more in (all.0, front.1 ∙ ap (λ t. old ++ t) (sym all.1))
-
-pub puts_shorter : (n : ℕ) (text old new : List ℕ) → PutsFront (take n text) old new → PutsFront text old new
-puts_shorter n text old new front = let all = takes_twice front.0 n text in (all.0, front.1 ∙ ap (λ t. old ++ t) (sym all.1))
-
--- texts of items, one after the other
-later_text : (spec other : Spec) (c d : Cluster) (is js : List Item) → other ≡ spec → d ≡ replay c (events_in is)
-    → items_text other d js ≡ items_text spec (replay c (events_in is)) js
-later_text spec other c d is js es ed = ap (λ z. items_text z d js) es ∙ ap (λ z. items_text spec z js) ed
-
-texts_both : (spec other : Spec) (c d : Cluster) (is js : List Item) (p q r : List ℕ) → other ≡ spec → d ≡ replay c (events_in is)
-    → q ≡ p ++ items_text spec c is → r ≡ q ++ items_text other d js → r ≡ p ++ items_text spec c (is ++ js)
-texts_both spec other c d is js p q r es ed eq er =
-    er
-    ∙ ap (λ w. w ++ items_text other d js) eq
-    ∙ append_assoc p (items_text spec c is) (items_text other d js)
-    ∙ ap (λ t. p ++ (items_text spec c is ++ t)) (later_text spec other c d is js es ed)
-    ∙ ap (λ t. p ++ t) (sym (text_both spec c is js))
-
-front_both : (spec other : Spec) (c d : Cluster) (is js : List Item) (p q r : List ℕ) → other ≡ spec → d ≡ replay c (events_in is)
-    → q ≡ p ++ items_text spec c is → PutsFront (items_text other d js) q r → PutsFront (items_text spec c (is ++ js)) p r
-front_both spec other c d is js p q r es ed eq front =
-    subst (λ t. PutsFront t p r) (sym (text_both spec c is js))
-    (puts_then (items_text spec c is) (items_text spec (replay c (events_in is)) js) p q r eq
-    (subst (λ t. PutsFront t q r) (later_text spec other c d is js es ed) front))
 
 -- what is kept
 pub counted_same : (s : SceneState) (b : Held) → IsCounted s → IsCounted (record s { board = b })
@@ -282,7 +206,7 @@ cut_after {A} {f} {g} {s} {u} {v} {p} {q} {r} a b = record {
             ∙ sym (append_assoc a.items b.items rest.0),
       );
   brings = λ o. brings_both (past_of (at s o)) (past_of (at u o)) (past_of (at v o)) a.items b.items (a.brings o) (b.brings o);
-  text = front_both s.spec u.spec s.board.cluster u.board.cluster a.items b.items p q r (a.brings Missing).spec (a.brings Missing).cluster a.text b.text;
+  text = prints_both s.spec u.spec s.board.cluster u.board.cluster a.items b.items p q r (a.brings Missing).spec (a.brings Missing).cluster a.text b.text;
   keeps = keeps_both a.keeps b.keeps;
 }
 
@@ -380,7 +304,7 @@ cut_here f s p = record {
   items = [];
   front = λ a _. (items_of (f (at s a)), refl);
   brings = λ a. brings_nothing (past_of (at s a));
-  text = puts_none [] p;
+  text = prints_none s.spec s.board.cluster p;
   keeps = keeps_nothing s;
 }
 
@@ -392,6 +316,17 @@ brings_same : (s u : SceneState) (a : Answers) → u.board ≡ s.board → u.spe
 brings_same s u a board spec =
     subst (λ past. Brings (past_of (at s a)) [] past) (ap (λ z. past_at z s.board) (sym spec) ∙ ap (λ b. past_at u.spec b) (sym board)) (brings_nothing (past_of (at s a)))
 
+-- or where all is done and printed
+pub cut_at_end : {A : Type 0} {f : State → Run A} {s u : SceneState} {p q : List ℕ} {answer : A} → Ends f s p answer u q → IsCut f s p u q
+cut_at_end {A} {f} {s} {u} {p} {q} e = record {
+  asked = e.asked;
+  items = e.items;
+  front = λ a given. ([], ap items_of (e.goes a given));
+  brings = e.brings;
+  text = prints_all s.spec s.board.cluster e.items p q e.text;
+  keeps = e.keeps;
+}
+
 -- memory is wanted where nothing that counts was done
 pub nothing_yet : {A : Type 0} (f : State → Run A) (s : SceneState) (p : List ℕ) (u : SceneState) → u.board ≡ s.board → u.spec ≡ s.spec → Keeps s u [] → IsCut f s p u p
 nothing_yet f s p u board spec keeps = record {
@@ -399,7 +334,7 @@ nothing_yet f s p u board spec keeps = record {
   items = [];
   front = λ a _. (items_of (f (at s a)), refl);
   brings = λ a. brings_same s u a board spec;
-  text = puts_none [] p;
+  text = prints_none s.spec s.board.cluster p;
   keeps = keeps;
 }
 
@@ -490,7 +425,7 @@ makes_cut e s u p q is front = record {
   items = Happens e ∷ [];
   front = λ a _. ([], refl);
   brings = λ a. brings_happened e s u a is;
-  text = puts_longer (entry_text s.spec s.board.cluster e) [] p q front;
+  text = prints_event s.spec s.board.cluster e p q front;
   keeps = keeps_board s u (on_board s.board e) is refl;
 }
 
@@ -585,7 +520,7 @@ event_cut f e asked s u p q is board spec keeps front = record {
   brings = λ a.
       let w : SceneState = record s { board = on_board s.board e } in
       brings_both (past_of (at s a)) (past_of (at w a)) (past_of (at u a)) (Happens e ∷ []) [] (brings_happened e s w a refl) (brings_same w u a board spec);
-  text = puts_longer (entry_text s.spec s.board.cluster e) [] p q front;
+  text = prints_event s.spec s.board.cluster e p q front;
   keeps = keeps;
 }
 
@@ -636,7 +571,7 @@ says_cut f n text s u p q is room after front = record {
   items = Says n text ∷ [];
   front = λ a _. ([], ap items_of (is a ∙ say_said n text s a room));
   brings = λ a. brings_charged n text s u a after;
-  text = puts_longer text [] p q front;
+  text = prints_said s.spec s.board.cluster n text p q front;
   keeps = keeps_board s u (charged_board s.board n) after refl;
 }
 

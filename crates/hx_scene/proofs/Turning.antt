@@ -1,7 +1,8 @@
 -- A controller takes a step of its turn in a scene: the scene stays one, and what is done is the operation.
 use Rattle.std.proofs.Common.{◌≡◌, ℕ, ◌⊎◌, inl, inr, not, Bool, true, false, List, [], ◌∷◌, ◌++◌, length, Option, None, Some, refl, sym, ap, subst, ◌∙◌}
-use Rattle.std.specs.Prelude.{if◌then◌else◌, nat_lt, slice_index_or, slice_set, Result, Ok, Err, IsErrAnd}
-use Rattle.std.proofs.lemmas.List.{append-nil, set-get_or, get_or_read}
+use Rattle.std.specs.Prelude.{if◌then◌else◌, slice_index_or, slice_set, Result, Ok, Err, IsErrAnd}
+use Rattle.std.proofs.lemmas.List.{set-get_or, get_or_read}
+use Rattle.std.proofs.Math.Seq.{take-nil}
 use Rattle.hx_ids.specs.declared.ControllerId.{ControllerId}
 use Rattle.hx_cluster.specs.declared.description.Spec.{Spec}
 use Rattle.hx_cluster.specs.declared.state.Cluster.{Cluster}
@@ -27,16 +28,16 @@ use Rattle.hx_control.specs.declared.ControlFault.TheVariants as faults
 use Rattle.hx_control.specs.Controllers.{Controller, idle_controller}
 use Rattle.hx_control.specs.OfBoard.{IsPlanOf}
 use Rattle.hx_control.specs.Steps.{Step, Calls, Plans, Refuses, outcome_of, is_of_cluster, read_step, planned_step, post_step, of_cluster, step_at, step_of, after_step}
-use Rattle.hx_control.specs.Made.{step_fault, board_after, ends_turn, after_fault, IsMade, Takes}
-use Rattle.hx_worlds.specs.World.{State, Answers, Missing, controller_of, with_controller}
-use Rattle.hx_worlds.specs.Runs.{Run, Stops, items_of, gives, and_then, happen}
+use Rattle.hx_control.specs.Made.{step_fault, ends_turn, IsMade, Takes}
+use Rattle.hx_worlds.specs.World.{State, Missing, controller_of, with_controller}
+use Rattle.hx_worlds.specs.Runs.{Run, gives, and_then}
 use Rattle.hx_scripted.proofs.Standing.{since}
 use Rattle.hx_agreed.proofs.Operations.{controller_is, turn_planned, restart_stands}
 use Rattle.hx_scene.specs.Scenes.{SceneState, at, world_of}
 use Rattle.hx_scene.specs.Kept.{IsScene}
 use Rattle.hx_scene.specs.Doing.{Keeps, Ends, IsCut, Fails, Does}
 use Rattle.hx_scene.specs.Advances.{advanced, advance, with_turn, IsStepped, IsRollFor}
-use Rattle.hx_scene.proofs.Reaching.{reaches_as, cut_here, happens_and, changed_gives, room_of, no_room_of, kept_going}
+use Rattle.hx_scene.proofs.Reaching.{reaches_as, cut_as, cut_here, cut_at_end, happens_and, happens_and_cut, changed_gives, room_of, no_room_of, kept_going}
 use Rattle.hx_scene.proofs.Standing.{valid_in, stands_in, has_turn}
 use Rattle.hx_scene.proofs.Advancing.{keeps_advance}
 use Rattle.hx_scene.proofs.Happening.{stopped_here, no_room}
@@ -124,19 +125,23 @@ fault_ends {s} k fault p is next =
     (reaches_as (λ a. ap (λ t. advanced c t (at s a)) next)
     (changed_gives (λ x. with_controller z x) (Err fault) s p (with_turn s c.id s.board z) (λ a. refl) refl refl (keeps_same s c.id z)))
 
--- printed whole or by a front, after what was printed before
+-- after what was printed before
 pub printed_after : {A : Type 0} {f : State → Run A} {s u : SceneState} {answer : A} {text : List ℕ} (p q : List ℕ) → Ends f s [] answer u text → q ≡ p ++ text → Ends f s p answer u q
 printed_after p q e printed = record { asked = e.asked; items = e.items; goes = e.goes; brings = e.brings; text = printed ∙ ap (λ t. p ++ t) e.text; keeps = e.keeps }
 
-pub front_after : {A : Type 0} {f : State → Run A} {s u : SceneState} {answer : A} {text : List ℕ} (p q : List ℕ) → Ends f s [] answer u text → PutsFront text p q → IsCut f s p u q
-front_after p q e front = record {
-  asked = e.asked;
-  items = e.items;
-  front = λ a given. ([], ap items_of (e.goes a given));
-  brings = e.brings;
-  text = subst (λ t. PutsFront t p q) e.text front;
-  keeps = e.keeps;
-}
+-- a step that is made, printed by a front
+made_cut : {s : SceneState} (k : ControllerId) (b : Held) (y : Controller) (outcome : Option PassOutcome) (step : Step) (p q : List ℕ) → IsScene s → next_in s k ≡ step → step_fault s.board step ≡ None
+    → IsMade step s.board b (turn_in s k) y outcome → PutsFront (printed_of s.spec s.board.cluster step) p q → IsCut (λ x. advance k x) s p (with_turn s k b y) q
+made_cut {s} k b y outcome (Calls e o) p q is next free made front =
+    let c = turn_in s k in
+    let z = after_step s.board.cluster c (Calls e o) in
+    let u = with_turn s c.id (on_board s.board e) z in
+    subst (λ v. IsCut (λ x. advance k x) s p v q) (turn_same s c.id k (on_board s.board e) b z y (turn_id k is) (sym made.board) (sym made.controller))
+    (cut_as (λ a. ap (λ t. advanced c t (at s a)) next)
+    (happens_and_cut e (λ x. gives (with_controller z x) (Ok o)) [] s u p q (room_of s.board (weight_of e) faults.HistoryFull free) refl refl (keeps_turn s c.id e z) front))
+made_cut k b y outcome (Plans x) p q is next free made front =
+    cut_at_end (printed_after p q (made_ends k b y outcome (Plans x) is next free made) (front.1 ∙ ap (λ t. p ++ t) (take-nil front.0)))
+made_cut k b y outcome (Refuses f) p q is next free made front = cc
 
 -- the scene after a step is one
 scene_made : {s : SceneState} (k : ControllerId) (b : Held) (y : Controller) (outcome : Option PassOutcome) → IsScene s → HasHistory b → Takes (next_in s k) s.board b (turn_in s k) y (Ok outcome)
@@ -207,8 +212,9 @@ pub advance_front : {R T E : Type 0} {s u : SceneState} {k : ControllerId} {outc
 advance_front answer roll p q fault before (Ok x) is stepped serves count more same failed = absurd failed
 advance_front {R} {T} {E} {s} {u} {k} {outcome} answer roll p q fault before (Err x) is stepped serves count more same failed =
     subst (λ y. Fails (λ z. advance k z) s p y u q) (sym failed)
-    (front_after p q (ends_of is stepped)
-    (printed_step {T = T} {E = E} roll p q (Err fault) before (next_in s k) refl stepped stepped.takes.refused stepped.takes.made serves count more same).err)
+    (subst (λ v. IsCut (λ z. advance k z) s p v q) (sym stepped.left)
+    (made_cut k stepped.board stepped.turn outcome (next_in s k) p q is refl stepped.takes.refused stepped.takes.made
+    (printed_step {T = T} {E = E} roll p q (Err fault) before (next_in s k) refl stepped stepped.takes.refused stepped.takes.made serves count more same).err))
 
 pub advance_wanted : {R : Type 0} (k : ControllerId) (answer : R → Result (Option PassOutcome) ControlFault) (s : SceneState) (p : List ℕ) (result : Result R RoomFault)
     → IsErrAnd result (λ x. x ≡ rooms.OutOfMemory) → Does (λ x. advance k x) answer s p s p result

@@ -1,21 +1,22 @@
 -- How code does an operation on a world: what it brings is printed, also where the history has no room for the rest; and for want of
--- memory a front of it was brought, and a front of that printed.
-use Rattle.std.specs.Prelude.{◌≡◌, ℕ, ◌+◌, ◌≤◌, ◌^◌, Bool, List, [], ◌∷◌, ◌++◌, Option, None, Some, Result, MatchResult, slice_index_or}
+-- memory a front of it was brought, and that printed, up to a front of the last of it.
+use Rattle.std.specs.Prelude.{◌≡◌, ℕ, ◌-◌, ◌≤◌, ◌^◌, Bool, List, [], ◌∷◌, ◌++◌, length, take, Option, None, Some, Result, MatchResult, slice_index_or}
 use Rattle.std.specs.List.{All}
 use Rattle.hx_ids.specs.declared.InstanceId.{InstanceId}
 use Rattle.hx_ids.specs.declared.PartId.{PartId}
+use Rattle.hx_cluster.specs.declared.description.Spec.{Spec}
 use Rattle.hx_cluster.specs.declared.description.Failure.{Failure}
+use Rattle.hx_cluster.specs.declared.state.Cluster.{Cluster}
 use Rattle.hx_cluster.specs.declared.happenings.Outcome.{Outcome}
 use Rattle.hx_handler.specs.Failures.{has_failure}
 use Rattle.hx_handler.specs.Makings.{tried_of}
-use Rattle.hx_text.specs.Texts.{PutsFront}
 use Rattle.hx_board.specs.Board.{weight_at}
 use Rattle.hx_board.specs.declared.faults.RoomFault.{RoomFault}
 use Rattle.hx_board.specs.declared.faults.RoomFault.TheVariants as rooms
 use Rattle.hx_replicas.specs.Participants.{Slot}
 use Rattle.hx_replicas.specs.Jobs.{ParticipantState}
-use Rattle.hx_worlds.specs.World.{Answers, State, Job, answer_of, rest_of, told_outcome}
-use Rattle.hx_worlds.specs.Items.{Item, events_in, items_text}
+use Rattle.hx_worlds.specs.World.{Answers, State, answer_of, rest_of, told_outcome}
+use Rattle.hx_worlds.specs.Items.{Item, items_text}
 use Rattle.hx_worlds.specs.Runs.{Run, Deed, GoesOn, Stops, items_of, after_items}
 use Rattle.hx_worlds.specs.Brings.{Brings, past_of}
 use Rattle.hx_scene.specs.Scenes.{SceneState, plain_job, at, lists_of}
@@ -85,13 +86,20 @@ Ends f s page answer u later = Reaches f s page (λ x. GoesOn [] x answer) u lat
 abbrev pub StopsHere : {A : Type 0} → (State → Run A) → SceneState → List ℕ → SceneState → List ℕ → Type 0
 StopsHere f s page u later = Reaches f s page (λ x. Stops [] x) u later
 
--- it came as far as a front of its items, of which a front was printed
+-- items are printed from a cluster on: all but the last one whole, and a front of that
+abbrev pub but_last : List Item → List Item
+but_last items = take (length items - 1) items
+
+abbrev pub PrintsToLast : Spec → Cluster → List Item → List ℕ → List ℕ → Type 0
+PrintsToLast spec c items page later = (n : ℕ) × (length (items_text spec c (but_last items)) ≤ n) × (later ≡ page ++ take n (items_text spec c items))
+
+-- it came as far as a front of its items, which were printed, up to a front of the last one
 pub record IsCut {A : Type 0} (f : State → Run A) (s : SceneState) (page : List ℕ) (u : SceneState) (later : List ℕ) : Type 0 where
   pub asked : List Asked
   pub items : List Item
   pub front : (a : Answers) → Gives asked a → (more : List Item) × (items_of (f (at s a)) ≡ items ++ more)
   pub brings : (a : Answers) → Brings (past_of (at s a)) items (past_of (at u a))
-  pub text : PutsFront (items_text s.spec s.board.cluster items) page later
+  pub text : PrintsToLast s.spec s.board.cluster items page later
   pub keeps : Keeps s u asked
 
 abbrev pub Fails : {A : Type 0} → (State → Run A) → SceneState → List ℕ → RoomFault → SceneState → List ℕ → Type 0

@@ -1,3 +1,4 @@
+pub mod Bags
 pub mod Scenes
 pub mod Doing
 pub mod Kept

@@ -1,41 +1,78 @@
 //! The bag of all messages ever fetched.
 
-ghost use Rattle.std.specs.Prelude.{◌≡◌, ◌+◌, ◌≤◌, ◌==◌, find, length, position};
-ghost use Rattle.std.specs.Prelude.{vec_len, vec_capacity};
+ghost use Rattle.std.specs.Prelude.{◌≡◌, ◌+◌, ◌<◌, ◌≤◌, ◌==◌, [], find, length, OnOk};
 ghost use Rattle.hx_worlds.specs.Jobs.{put_in_bag, put_all as all_put};
 
 use crate::Scene;
 use hx_cluster::Message;
 use hx_handler::Factory;
 use hx_ids::MsgId;
+use indexmap::IndexMap;
+use std::alloc::{AllocError, Global};
+use std::marker::Model;
 
-/// The place of the message of a number.
-fn place_of(bag: &[Message], id: MsgId) -> Option<usize>
-    ensures { result ≡ position (λ m. m.id.0 == id.0) bag.now }
-{
-    bag.iter().position(|m| m.id == id)
+/// All messages ever fetched, each as it was fetched last, in order of first fetch.
+#[derive(Drop)]
+pub struct Bag {
+    messages: IndexMap<MsgId, Message>,
 }
 
-/// Puts a message into a bag that has room for it, in the place of the one of its number.
-fn put(bag: &mut Vec<Message>, message: Message)
-    requires { vec_len bag.old + 1 ≤ vec_capacity bag.old }
-    ensures bag { bag.new.items ≡ put_in_bag bag.old.items message }
-    ensures room { vec_capacity bag.new ≡ vec_capacity bag.old }
-    ensures len { vec_len bag.new ≤ vec_len bag.old + 1 }
-{
-    match place_of(bag, message.id) {
-        Some(place) => bag[place] = message,
-        None => bag.push_reserved(message),
+impl Model for Bag {
+    ghost use Rattle.indexmap.specs.IndexMap.{values, spare};
+    ghost use Rattle.hx_scene.specs.Bags.{BagState, IsKeyed};
+
+    ghost Value = { BagState };
+
+    ghost view = { λ b. record {
+      items = values b.messages;
+      spare = spare b.messages;
+    } };
+
+    ghost invariant = { λ b. IsKeyed b.messages.entries };
+}
+
+impl Bag {
+    /// No messages.
+    pub(crate) fn new(alloc: Global) -> Bag
+        ensures items { result.items ≡ [] }
+    {
+        Bag {
+            messages: IndexMap::new(alloc),
+        }
     }
-}
 
-/// Puts messages into a bag that has room for them.
-pub(crate) fn put_all(bag: &mut Vec<Message>, messages: &[Message])
-    requires { vec_len bag.old + length messages.now ≤ vec_capacity bag.old }
-    ensures { bag.new.items ≡ all_put bag.old.items messages.now }
-{
-    for message in messages {
-        put(bag, *message);
+    /// Makes room for so many more messages.
+    pub(crate) fn reserve(&mut self, n: usize) -> Result<(), AllocError>
+        ensures items { self.new.items ≡ self.old.items }
+        ensures room { OnOk result (n ≤ self.new.spare) }
+    {
+        self.messages.reserve(n)
+    }
+
+    /// Puts a message in, in the place of the one of its number. It takes no memory.
+    fn put(&mut self, message: Message)
+        requires { 0 < self.old.spare }
+        ensures items { self.new.items ≡ put_in_bag self.old.items message }
+        ensures spare { self.old.spare ≤ self.new.spare + 1 }
+    {
+        self.messages.insert(message.id, message).unwrap();
+    }
+
+    /// Puts messages in, each in the place of the one of its number. It takes no memory.
+    pub(crate) fn put_all(&mut self, messages: &[Message])
+        requires { length messages.now ≤ self.old.spare }
+        ensures { self.new.items ≡ all_put self.old.items messages.now }
+    {
+        for message in messages {
+            self.put(*message);
+        }
+    }
+
+    /// The message of a number.
+    pub(crate) fn get(&self, id: MsgId) -> Option<Message>
+        ensures { result ≡ find (λ m. m.id.0 == id.0) self.now.items }
+    {
+        self.messages.get(&id).copied()
     }
 }
 
@@ -44,6 +81,6 @@ impl<F: Factory> Scene<F> {
     pub fn fetched(&self, id: MsgId) -> Option<Message>
         ensures { result ≡ find (λ m. m.id.0 == id.0) self.now.bag }
     {
-        self.bag.iter().copied().find(|m| m.id == id)
+        self.bag.get(id)
     }
 }

@@ -9,7 +9,6 @@ ghost use Rattle.hx_scene.specs.Doing.{DoesDeed};
 ghost use Rattle.hx_scene.specs.Scenes.{IsBagged};
 
 use crate::Scene;
-use crate::bag::put_all;
 use crate::jobs::follow;
 use hx_board::RoomFault;
 use hx_cluster::Message;
@@ -53,7 +52,7 @@ impl<F: Factory> Scene<F> {
             mail.session,
             &open,
         );
-        put_all(&mut self.bag, mail.messages.as_slice());
+        self.bag.put_all(mail.messages.as_slice());
         self.print_last(&self.no_roll(), out)?;
         Ok(mail.messages.into_vec())
     }

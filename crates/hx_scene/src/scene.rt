@@ -12,6 +12,7 @@ ghost use Rattle.hx_scene.specs.Scenes.{world_of};
 ghost use Rattle.hx_scene.specs.Kept.{IsScene};
 ghost use Rattle.hx_scene.specs.Ending.{IsAtRest, plain_staff};
 
+use crate::bag::Bag;
 use crate::jobs::{OpenJob, end_all};
 use hx_board::Board;
 use hx_cluster::{Message, Spec};
@@ -34,8 +35,7 @@ pub struct Scene<F: Factory> {
     /// By instance.
     pub(crate) participants: Vec<Participant<F>>,
     pub(crate) jobs: Vec<OpenJob<F::H>>,
-    /// All messages ever fetched, each as it was fetched last.
-    pub(crate) bag: Vec<Message>,
+    pub(crate) bag: Bag,
     /// At least as many as the makings that were tried of a part, and as the runs of a handler.
     pub(crate) handed: u64,
 }
@@ -123,7 +123,7 @@ impl<F: Factory> Scene<F> {
                 controllers,
                 participants,
                 jobs: Vec::new(alloc),
-                bag: Vec::new(alloc),
+                bag: Bag::new(alloc),
                 handed: 0,
             }),
             Err(fault) => {
@@ -155,7 +155,7 @@ impl<F: Factory> Scene<F> {
 
     /// The allocator. It takes no memory.
     pub fn alloc(&self) -> Global {
-        *self.bag.allocator()
+        *self.controllers.allocator()
     }
 
     /// The description. It takes no memory.

@@ -2,6 +2,7 @@ pub mod AllWords
 pub mod Entries
 mod Examples
 pub mod FormsAgain
+pub mod Fronts
 pub mod Joined
 pub mod Later
 pub mod Letters

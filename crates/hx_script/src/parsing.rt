@@ -4,7 +4,7 @@ ghost use Rattle.std.specs.Prelude.{IfOk, OnErr, IfErr, Ok, Err, true};
 ghost use Rattle.std.specs.List.{list_all};
 ghost use Rattle.hx_text.specs.Lines.{words_of};
 ghost use Rattle.hx_script.specs.Grammar;
-ghost use Rattle.hx_script.specs.Parsing.{IsReadable, KeepsAllButNames};
+ghost use Rattle.hx_script.specs.Parsing.{IsReadable, KeepsAllButNames, Leaves};
 ghost use Rattle.hx_script.specs.Ranges.{is_line_in_range};
 
 use crate::faults::{ScriptFault, ScriptKind, ScriptRefusal};
@@ -113,7 +113,8 @@ fn add_line(script: &mut Vec<Line>, number: u32, what: Option<What>) -> Result<(
 /// The lines of a script that ask for something, each with its number. The names that `add` lines
 /// bring are added to the resource names; nothing else of the description changes.
 ///
-/// A fault is the first of the script. The names of the lines before it may have been added.
+/// A fault is the first of the script. It leaves the description with the names of the lines before
+/// it, and want of memory with those of the first lines, some or all.
 pub fn parse(alloc: Global, lines: &Lines, spec: &mut Spec) -> Result<Vec<Line>, ScriptRefusal>
     requires { IsReadable spec.old lines.now }
     ensures ok { IfOk result (λ script.
@@ -121,6 +122,7 @@ pub fn parse(alloc: Global, lines: &Lines, spec: &mut Spec) -> Result<Vec<Line>,
     ensures err { IfErr result (λ e. (e ≡ ScriptRefusal.OutOfMemory) ⊎
         ((fault : ScriptFault) × (e ≡ ScriptRefusal.Fault fault) ×
         (Grammar.script_of lines.now spec.old ≡ Err fault))) }
+    ensures leaves { IfErr result (λ refusal. Leaves lines.now refusal spec.old spec.new) }
     ensures kept { KeepsAllButNames spec.old spec.new }
 
     // The lines name what the description has by then, and their numbers are those of the grammar.

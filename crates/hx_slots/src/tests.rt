@@ -1,3 +1,5 @@
+ghost use Rattle.std.specs.Prelude.{◌≡◌, [], IfOk};
+
 use super::*;
 use hx_ids::Epoch;
 use std::test::Fail;
@@ -58,5 +60,25 @@ fn the_first_message_of_a_session_goes(rt: HostRuntime) -> Result<(), Fail> {
     let mut slots = with_row(rt.alloc())?;
     let first = slots.pop_message(SESSION).map(|m| m.id);
     assert_eq!(rt; first, Some(MsgId(1)));
+    Ok(())
+}
+
+// Slots with the row that is left of a message that was written and acknowledged.
+fn with_row_alone(alloc: Global) -> Result<Slots, AllocError>
+    ensures { IfOk result (λ slots. slots.mail ≡ []) }
+{
+    let mut slots = Slots::new(alloc);
+    slots.send(SENT)?;
+    slots.write(&SENT, STATE);
+    slots.acknowledge(SESSION, MsgId(1));
+    Ok(slots)
+}
+
+#[test]
+fn the_first_row_of_a_session_goes(rt: HostRuntime) -> Result<(), Fail> {
+    let mut slots = with_row_alone(rt.alloc())?;
+    let first = slots.pop_row(SESSION).map(|r| (r.part, r.state));
+    assert_eq!(rt; first, Some((PART, STATE)));
+    assert_eq!(rt; slots.state(SESSION, PART), None);
     Ok(())
 }

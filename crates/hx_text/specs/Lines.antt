@@ -1,6 +1,6 @@
 -- Lines and words of a text, and the cut of an input.
 -- A line ends at a line feed or at the end of the text. One carriage return before that line feed isn't part of it.
-use Rattle.std.specs.Prelude.{ℕ, ◌==◌, Bool, not, nat_lt, List, [], ◌∷◌, ◌++◌, length, codes, filter, Option, Some, None, if◌then◌else◌}
+use Rattle.std.specs.Prelude.{◌≡◌, ℕ, ◌==◌, Bool, not, nat_lt, List, [], ◌∷◌, ◌++◌, length, codes, filter, take, Option, Some, None, if◌then◌else◌}
 use Rattle.std.specs.List.{slice_split, join_with_byte, position_or_len, before_first, after_first}
 use Rattle.std.specs.Option.{option_map}
 use Rattle.std.specs.Str.{bytes_eq}
@@ -44,3 +44,7 @@ cut_of bytes = cut_parts (slice_split is_line_feed bytes)
 -- the words of a line, which are what stands between spaces
 abbrev pub words_of : List ℕ → List (List ℕ)
 words_of line = filter (λ word. not (length word == 0)) (slice_split is_space line)
+
+-- these are the first of a list
+abbrev pub IsFront : List (List ℕ) → List (List ℕ) → Type 0
+IsFront words all = (n : ℕ) × (words ≡ take n all)

@@ -1,9 +1,9 @@
 //! Where lines end, where an input is cut, and the words of a line.
-ghost use Rattle.std.specs.Prelude.{◌≡◌, map, length, OnOk};
+ghost use Rattle.std.specs.Prelude.{◌≡◌, map, length, OnOk, OnErr};
 ghost use Rattle.std.specs.List.{position};
 ghost use Rattle.std.specs.Option.{option_map};
 ghost use Rattle.std.specs.Str.Lines.{strip_carriage_return};
-ghost use Rattle.hx_text.specs.Lines.{is_line_feed, first_line, after_line, cut_of, words_of};
+ghost use Rattle.hx_text.specs.Lines.{is_line_feed, first_line, after_line, cut_of, words_of, IsFront};
 
 use std::alloc::AllocError;
 
@@ -68,8 +68,10 @@ pub fn cut(bytes: &[u8]) -> Option<Input<'_>>
 }
 
 /// Puts the words of a line, which one or more spaces part, into a list in place of what it holds.
+/// For want of memory the list then holds the first of them.
 pub fn split_words<'a>(line: &'a str, words: &mut Vec<&'a str>) -> Result<(), AllocError>
-    ensures { OnOk result (map (λ w. w.now) words.new.items ≡ words_of line.now) }
+    ensures ok { OnOk result (map (λ w. w.now) words.new.items ≡ words_of line.now) }
+    ensures err { OnErr result (IsFront (map (λ w. w.now) words.new.items) (words_of line.now)) }
 {
     words.clear();
     for word in line.split(' ') {

@@ -12,7 +12,7 @@ option_rule name parser = record (new_rule name) { long = Some name; action = So
 
 -- the modes that are built
 abbrev pub mode_names : List (List ℕ)
-mode_names = codes "sim" ∷ codes "gen" ∷ []
+mode_names = codes "sim" ∷ codes "gen" ∷ codes "check" ∷ []
 
 -- the names that a parser takes, where it takes names
 abbrev pub names_taken : ValueParser → Option (List (List ℕ))

@@ -29,6 +29,7 @@ abbrev pub mode_named : List ℕ → Option RunMode
 mode_named text =
     if bytes_eq text (codes "sim") then Some modes.Sim
     else if bytes_eq text (codes "gen") then Some modes.Gen
+    else if bytes_eq text (codes "check") then Some modes.Check
     else None
 
 abbrev pub mode_in : Option (List ℕ) → RunMode

@@ -19,6 +19,8 @@ pub enum RunMode {
     Sim,
     /// An input is generated and run, and its summary printed.
     Gen,
+    /// A log is judged.
+    Check,
 }
 
 /// A mode with the numbers that the modes need.

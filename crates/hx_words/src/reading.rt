@@ -22,6 +22,8 @@ fn mode_named(text: &str) -> Option<RunMode>
         Some(RunMode::Sim)
     } else if text == "gen" {
         Some(RunMode::Gen)
+    } else if text == "check" {
+        Some(RunMode::Check)
     } else {
         None
     }
@@ -103,5 +105,5 @@ pub fn read_words(alloc: Global, words: &[String]) -> Result<Words, WordsFault>
     ensures asked { HoldsOfAsked (map string_bytes words.now) (IsAnswer result) }
     ensures ranges { IfOk result MeetsRanges }
 {
-    read_words_with(alloc, &["sim", "gen"], words)
+    read_words_with(alloc, &["sim", "gen", "check"], words)
 }

@@ -59,6 +59,11 @@ fn options_have_ranges_and_defaults(rt: HostRuntime) -> Result<(), Fail> {
         asked(alloc, ["--mode", "gen", "--size", "8"].as_slice())?,
         Ok(want)
     );
+    let want = Words::Run(Task {
+        mode: RunMode::Check,
+        ..DEFAULTS
+    });
+    assert_eq!(rt; asked(alloc, ["--mode", "check"].as_slice())?, Ok(want));
     Ok(())
 }
 

@@ -10,12 +10,13 @@ pub fn usage() -> &'static str
 
 Usage: fodderca [OPTIONS] < INPUT
 
-The input is a description of a cluster, a line with three hyphens, and a script.
-Every step that is accepted is printed, then what each line came to, and last the view.
+The input is a description of a cluster, a line with three hyphens, and a script or a log.
+Of a script each accepted step is printed, then what its line came to, and last the view.
 
 Modes:
   sim             runs the script in one thread, line by line
   gen             makes an input of a size, runs it and prints its summary
+  check           tells whether a log, as sim prints it, is that of a lawful history
 
 Options:
   --mode MODE     the mode [default: sim]

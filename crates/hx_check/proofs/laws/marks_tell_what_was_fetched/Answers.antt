@@ -1,4 +1,4 @@
-use Rattle.hx_check.proofs.Marks.{marks_tell}
+use Rattle.hx_check.proofs.Marking.{marks_tell}
 use Rattle.hx_check.proofs.laws.marks_tell_what_was_fetched.Goals as goal
 
 pub returns : goal.returns

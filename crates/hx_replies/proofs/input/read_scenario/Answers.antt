@@ -4,8 +4,8 @@ use Rattle.hx_replies.specs.Simulation.{IsGiven}
 use Rattle.hx_text.specs.Lines.{lines_of}
 use Rattle.hx_replies.specs.Input.{scenario_of}
 use Rattle.hx_replies.specs.Refusals.{by_script}
-use Rattle.hx_replies.proofs.Parts.{script_fits, lines_fit}
-use Rattle.hx_replies.proofs.Described.{readable}
+use Rattle.hx_answers.proofs.Parts.{script_fits, lines_fit}
+use Rattle.hx_answers.proofs.Described.{readable}
 use Rattle.hx_replies.proofs.Given.{given_in}
 use Rattle.hx_replies.proofs.Inputs.{script_refused, handed_on}
 use Rattle.hx_replies.proofs.input.read_scenario.Goals as goal

@@ -1,7 +1,7 @@
 use Rattle.std.proofs.Common.{Ok, Err, List, ℕ, ◌≤◌, length, sym, ap, subst, ◌∙◌}
 use Rattle.hx_genwork.specs.Made.{made}
 use Rattle.hx_replies.specs.declared.input.InputRefusal.{InputRefusal}
-use Rattle.hx_replies.specs.Constants.{most_bytes}
+use Rattle.hx_answers.specs.Constants.{most_bytes}
 use Rattle.hx_replies.specs.Input.{scenario_of}
 use Rattle.hx_replies.specs.Refusals.{Refuses}
 use Rattle.hx_replies.specs.Answers.{summary_answer}

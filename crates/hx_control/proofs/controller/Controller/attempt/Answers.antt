@@ -4,8 +4,8 @@ use Rattle.hx_control.proofs.controller.Controller.attempt.Goals as goal
 
 pub send-requires-clause-planned : goal.send-requires-clause-planned
 send-requires-clause-planned c =
-    let is : Some c.in-Some.plan ≡ c.self.inside.plan = cc (c.in-Some.ensures.value) in
-    planned_of c.args.spec.now c.self.inside c.args.self.now c.in-Some.plan c.self.view_is is c.requires.planned
+    let is : Some c.in-Some.draft ≡ c.self.inside.draft = cc (c.in-Some.ensures.value) in
+    planned_of c.args.spec.now c.self.inside c.args.self.now c.in-Some.draft c.self.view_is is c.requires.planned
 
 pub returns-in-Live : goal.returns-in-Live
 returns-in-Live c = c.read_live.ensures c.args.spec.now

@@ -1,13 +1,16 @@
-use Rattle.std.proofs.Common.{◌≡◌, rules, refl, None, Some}
+use Rattle.std.proofs.Common.{◌≡◌, rules, refl, sym, ap, None, Some}
 use Rattle.std.specs.List.{position}
 use Rattle.hx_replicas.specs.Layout.{has_part}
+use Rattle.hx_replicas.specs.Participants.{accepted_of}
+use Rattle.hx_replicas.proofs.Altering.{stands-in, set-alter}
+use Rattle.hx_replicas.proofs.Indexing.{indexed-same}
 use Rattle.hx_replicas.proofs.Ledgers.{ledger}
 use Rattle.hx_replicas.proofs.Finishing.{out-found, coming, room-coming, IsLaidOut-restored, finish-slots}
 use Rattle.hx_replicas.proofs.participants.Participant.finish.Goals as goal
 
 pub unreachable-requires : goal.unreachable-requires
 unreachable-requires g c =
-    let xs = c.self.inside.slots.items in
+    let xs = c.self.inside.slots.items.items in
     let m = c.args.done.message in
     let is : c.message.result.now ≡ m = c.message.ensures in
     let none : position (has_part m.part) xs ≡ None = (cc) in
@@ -32,13 +35,20 @@ invariant_of-self g c =
     let seen = c.into_parts-handler.ensures.handler in
     let now = c.keep-kept.ensures in
     let laid = IsLaidOut-restored g.F.H.Handler (g.F.Factory.listed c.self.inside.factory) back c.end-end.result c.keep-kept.result (rw (c.end-end.ensures, seen) c.into_parts-handler.ensures.out.handler) (rw seen (rw (← c.self.view_is) at c.requires.listed)) now.kept now.retired c.self.invariant.0 in
-    (rw (c.bring.ensures, now.made, now.listed) laid, c.self.invariant.1)
+    let xs = c.self.inside.slots.items.items in
+    let i = c.in-Some.place in
+    let x = c.index_mut-slot.result.now in
+    let idle : None ≡ accepted_of x.work = ap accepted_of (sym back.work) in (
+      rw (c.bring.ensures, now.made, now.listed) laid,
+      indexed-same c.self.inside.slots _ c.self.invariant.1 i x c.bring.new.slot (stands-in xs i x back.lt back.at_i) (rw c.bring.ensures refl) (rw c.bring.ensures refl) (rw c.bring.ensures idle) (set-alter xs i c.bring.new.slot x back.lt back.at_i) refl (λ p. refl) (λ q. refl),
+      record { items = c.self.invariant.2.items; queue = c.self.invariant.2.queue; places = c.self.invariant.2.places; numbers = c.self.invariant.2.numbers },
+    )
 
 pub returns : goal.returns
 returns g c =
     let k = g.F.H.Handler in
     let told = g.F.Factory.listed c.self.inside.factory in
-    let xs = c.self.inside.slots.items in
+    let xs = c.self.inside.slots.items.items in
     let m = c.args.done.message in
     let is : c.message.result.now ≡ m = c.message.ensures in
     let i = c.in-Some.place in

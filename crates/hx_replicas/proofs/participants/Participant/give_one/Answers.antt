@@ -1,38 +1,51 @@
-use Rattle.std.proofs.Common.{rules, refl}
+use Rattle.std.proofs.Common.{ap, rules, refl, ◌∙◌}
+use Rattle.std.specs.Prelude.{slice_get}
+use Rattle.hx_replicas.proofs.Altering.{only-one}
 use Rattle.hx_replicas.proofs.Ledgers.{ledger}
-use Rattle.hx_replicas.proofs.Handing.{accepted-found, slot-held, slot-taken, runs-seen, listed-seen, IsLaidOut-sent, given-plain}
+use Rattle.hx_replicas.proofs.Handing.{accepted-found, slot-stands, slot-taken, runs-seen, listed-seen, IsLaidOut-given, given-plain}
 use Rattle.hx_replicas.proofs.participants.Participant.give_one.Goals as goal
 
 pub unreachable-requires : goal.unreachable-requires
-unreachable-requires g c = accepted-found g.F.H.Handler c.self.inside.slots.items c.args.message.now (rw (← c.self.view_is) at c.requires) (cc)
+unreachable-requires g c = accepted-found g.F.H.Handler c.self.inside.slots.items.items c.args.message.now (rw (← c.self.view_is) at c.requires) (cc)
 
-pub give-requires-clause-fits : goal.give-requires-clause-fits
-give-requires-clause-fits g c κs within =
+pub send-requires-clause-fits : goal.send-requires-clause-fits
+send-requires-clause-fits g c κs within =
     let told = g.F.Factory.listed c.self.inside.factory in
-    let t = slot-held c.self.invariant.0 c.args.message.now c.in-Some.place c.index_mut.result.now (cc) c.index_mut.ensures.value (rw (← c.self.view_is) at c.requires) in
-    (told, t.fit)
+    let xs = c.self.inside.slots.items.items in
+    let i = c.in-Some.place in
+    let s = slot-stands c.self.invariant.0 c.args.message.now i (cc) (rw (← c.self.view_is) at c.requires) in
+    (told, λ y stands. rw (only-one (slice_get xs i) s.0 y s.1 stands) s.2.fit)
 
-pub give-requires-clause-accepted : goal.give-requires-clause-accepted
-give-requires-clause-accepted g c κs within =
-    (slot-held c.self.invariant.0 c.args.message.now c.in-Some.place c.index_mut.result.now (cc) c.index_mut.ensures.value (rw (← c.self.view_is) at c.requires)).work
+pub send-requires-clause-place : goal.send-requires-clause-place
+send-requires-clause-place g c κs within =
+    (slot-stands c.self.invariant.0 c.args.message.now c.in-Some.place (cc) (rw (← c.self.view_is) at c.requires)).2.lt
+
+pub send-requires-clause-accepted : goal.send-requires-clause-accepted
+send-requires-clause-accepted g c κs within y stands =
+    let xs = c.self.inside.slots.items.items in
+    let i = c.in-Some.place in
+    let s = slot-stands c.self.invariant.0 c.args.message.now i (cc) (rw (← c.self.view_is) at c.requires) in
+    ap (λ z. z.work) (only-one (slice_get xs i) s.0 y s.1 stands) ∙ s.2.work
 
 pub invariant_of-self : goal.invariant_of-self
 invariant_of-self g c =
-    let t = slot-held c.self.invariant.0 c.args.message.now c.in-Some.place c.index_mut.result.now (cc) c.index_mut.ensures.value (rw (← c.self.view_is) at c.requires) in
-    (rw c.give.ensures.slot (IsLaidOut-sent t c.self.invariant.0), c.self.invariant.1)
+    let s = slot-stands c.self.invariant.0 c.args.message.now c.in-Some.place (cc) (rw (← c.self.view_is) at c.requires) in
+    (rw c.send.ensures.items (IsLaidOut-given s.2 c.self.invariant.0), c.send.ensures.indexed, c.send.ensures.room c.self.inside.spare c.self.invariant.2)
 
 pub returns : goal.returns
 returns g c =
     let k = g.F.H.Handler in
-    let x = c.index_mut.result.now in
     let told = g.F.Factory.listed c.self.inside.factory in
-    let t = slot-held c.self.invariant.0 c.args.message.now c.in-Some.place x (cc) c.index_mut.ensures.value (rw (← c.self.view_is) at c.requires) in
-    let laid = IsLaidOut-sent t c.self.invariant.0 in
+    let s = slot-stands c.self.invariant.0 c.args.message.now c.in-Some.place (cc) (rw (← c.self.view_is) at c.requires) in
+    let x = s.0 in
+    let t = s.2 in
+    let laid = IsLaidOut-given t c.self.invariant.0 in
+    let job = c.send.ensures.job x s.1 in
     record {
-      plain = rw (← c.self.view_is, c.give.ensures.slot) (given-plain t _ refl);
-      message = rw c.give.ensures.job refl;
-      runs = rw (← c.self.view_is, c.give.ensures.job, slot-taken t) (runs-seen k x.handler);
-      listed = rw (← c.self.view_is, c.give.ensures.job) (listed-seen k told x t.fit);
+      plain = rw (← c.self.view_is, c.send.ensures.items) (given-plain t _ refl);
+      message = rw job refl;
+      runs = rw (← c.self.view_is, job, slot-taken t) (runs-seen k x.handler);
+      listed = rw (← c.self.view_is, job) (listed-seen k told x t.fit);
       rest = search rules;
-      ledger = rw c.give.ensures.slot (ledger k told _ _ _ laid);
+      ledger = rw c.send.ensures.items (ledger k told _ _ _ laid);
     }

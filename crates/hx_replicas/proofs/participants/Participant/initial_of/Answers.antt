@@ -6,13 +6,13 @@ use Rattle.hx_replicas.proofs.participants.Participant.initial_of.Goals as goal
 
 pub returns-in-None : goal.returns-in-None
 returns-in-None g c =
-    let xs = c.self.inside.slots.items in
+    let xs = c.self.inside.slots.items.items in
     let e : position (has_part c.args.part) xs ≡ None = (cc) in
     rw (← c.self.view_is, slot-none g.F.H.Handler xs c.args.part e) refl
 
 pub returns-in-Some : goal.returns-in-Some
 returns-in-Some g c =
-    let xs = c.self.inside.slots.items in
+    let xs = c.self.inside.slots.items.items in
     let i = c.in-Some.place in
     let x = c.index.result.now in
     let e : position (has_part c.args.part) xs ≡ Some i = (cc) in

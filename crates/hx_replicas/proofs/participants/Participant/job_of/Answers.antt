@@ -8,13 +8,13 @@ use Rattle.hx_replicas.proofs.participants.Participant.job_of.Goals as goal
 
 pub returns-in_default-clause-asked : goal.returns-in_default-clause-asked
 returns-in_default-clause-asked g c =
-    let xs = c.self.inside.slots.items in
+    let xs = c.self.inside.slots.items.items in
     let e : position (has_number c.args.id) xs ≡ None = (cc) in
     rw (← c.self.view_is) (sym (accepted-none g.F.H.Handler xs c.args.id e))
 
 pub unreachable-requires : goal.unreachable-requires
 unreachable-requires g c =
-    is-accepted c.args.id c.self.inside.slots.items c.in-Some.place c.index.result.now (cc) c.index.ensures c.in_default-work.not-Accepted
+    is-accepted c.args.id c.self.inside.slots.items.items c.in-Some.place c.index.result.now (cc) c.index.ensures c.in_default-work.not-Accepted
 
 pub ready_one-requires : goal.ready_one-requires
 ready_one-requires g c =
@@ -35,7 +35,7 @@ returns g c =
     let now = c.give_one.ensures in
     let one = one-out c.args.self.now c.ready_one.new.self c.give_one.new.self c.in-Accepted.message job was.plain was.answer was.rest now.plain now.message now.runs now.listed now.rest in
     record {
-      asked = rw (← c.self.view_is, accepted-some g.F.H.Handler c.self.inside.slots.items c.args.id c.in-Some.place x (cc) c.index.ensures, c.in-Accepted.is, now.message) refl;
+      asked = rw (← c.self.view_is, accepted-some g.F.H.Handler c.self.inside.slots.items.items c.args.id c.in-Some.place x (cc) c.index.ensures, c.in-Accepted.is, now.message) refl;
       none = search rules;
       plain = one.plain;
       handed = one.handed;

@@ -2,12 +2,15 @@ use Rattle.hx_replicas.proofs.Ledgers.{ledger}
 use Rattle.hx_replicas.proofs.participants.Participant.reserve.Goals as goal
 
 pub returns-then-n-self-clause-ledger : goal.returns-then-n-self-clause-ledger
-returns-then-n-self-clause-ledger g c = rw (← c.self.view_is) (ledger g.F.H.Handler (g.F.Factory.listed c.self.inside.factory) c.self.inside.slots.items _ _ c.self.invariant.0)
+returns-then-n-self-clause-ledger g c = rw (← c.self.view_is) (ledger g.F.H.Handler (g.F.Factory.listed c.self.inside.factory) c.self.inside.slots.items.items _ _ c.self.invariant.0)
 
 pub returns-in_err-reserve-clause-ledger : goal.returns-in_err-reserve-clause-ledger
 returns-in_err-reserve-clause-ledger g c =
-    rw c.reserve.ensures.items (ledger g.F.H.Handler (g.F.Factory.listed c.self.inside.factory) c.self.inside.slots.items _ _ c.self.invariant.0)
+    rw c.reserve.ensures.items (ledger g.F.H.Handler (g.F.Factory.listed c.self.inside.factory) c.self.inside.slots.items.items _ _ c.self.invariant.0)
 
 pub returns-clause-ledger : goal.returns-clause-ledger
 returns-clause-ledger g c =
-    rw c.reserve.ensures.items (ledger g.F.H.Handler (g.F.Factory.listed c.self.inside.factory) c.self.inside.slots.items _ _ c.self.invariant.0)
+    rw c.reserve.ensures.items (ledger g.F.H.Handler (g.F.Factory.listed c.self.inside.factory) c.self.inside.slots.items.items _ _ c.self.invariant.0)
+
+pub invariant_of-self : goal.invariant_of-self
+invariant_of-self g c = (rw c.reserve.ensures.items c.self.invariant.0, c.reserve.ensures.indexed, c.reserve.ensures.spare c.self.inside.spare c.self.invariant.2)

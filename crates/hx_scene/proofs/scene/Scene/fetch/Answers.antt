@@ -58,7 +58,7 @@ invariant_of-self-2 g c =
       bag = c.self.inside.bag.items;
       handed = c.self.inside.handed;
     } in (
-      is_fetched_scene s c.args.instance c.fetch.new.self (event_made s c.args.instance c.fetch.new.self c.in_ok-mail.mail c.in_ok-mail.ensures.mail c.in_ok-mail.ensures.ok) c.in_ok-mail.ensures.refused c.follow.new.jobs.items c.follow.new.participants.items c.put_all.new.bag.items (follows_mail s c.args.instance c.in_ok-mail.mail c.follow.new.jobs.items c.follow.new.participants.items c.in_ok-mail.ensures.mail c.follow.ensures.follows) c.follow.ensures.kept (puts_mail s c.args.instance c.in_ok-mail.mail c.put_all.new.bag.items c.reserve.new.self.items c.as_slice.result.now c.in_ok-mail.ensures.mail c.put_all.ensures c.reserve.ensures.items c.as_slice.ensures) c.self.invariant.0 (rw (← c.self.view_is) at c.requires) c.history.ensures.history,
+      is_fetched_scene s c.args.instance c.fetch.new.self (event_made s c.args.instance c.fetch.new.self c.in_ok-mail.mail c.in_ok-mail.ensures.mail c.in_ok-mail.ensures.ok) c.in_ok-mail.ensures.refused c.follow.new.jobs.items c.follow.new.participants.items c.put_all.new.self.items (follows_mail s c.args.instance c.in_ok-mail.mail c.follow.new.jobs.items c.follow.new.participants.items c.in_ok-mail.ensures.mail c.follow.ensures.follows) c.follow.ensures.kept (puts_mail s c.args.instance c.in_ok-mail.mail c.put_all.new.self.items c.reserve.new.self.items c.as_slice.result.now c.in_ok-mail.ensures.mail c.put_all.ensures c.reserve.ensures.items c.as_slice.ensures) c.self.invariant.0 (rw (← c.self.view_is) at c.requires) c.history.ensures.history,
       c.self.invariant.1,
     )
 
@@ -74,7 +74,7 @@ returns-in_err-print_last-clause-does g c =
       handed = c.self.inside.handed;
     } in
     rw (← c.self.view_is)
-    (fetch_front s c.args.instance c.fetch.new.self (event_made s c.args.instance c.fetch.new.self c.in_ok-mail.mail c.in_ok-mail.ensures.mail c.in_ok-mail.ensures.ok) c.in_ok-mail.ensures.refused c.follow.new.jobs.items c.follow.new.participants.items c.put_all.new.bag.items (follows_mail s c.args.instance c.in_ok-mail.mail c.follow.new.jobs.items c.follow.new.participants.items c.in_ok-mail.ensures.mail c.follow.ensures.follows) c.follow.ensures.kept (puts_mail s c.args.instance c.in_ok-mail.mail c.put_all.new.bag.items c.reserve.new.self.items c.as_slice.result.now c.in_ok-mail.ensures.mail c.put_all.ensures c.reserve.ensures.items c.as_slice.ensures) c.args.out.now c.print_last.new.out c.in_err-print_last.field-0.0 c.from_residual-in_err-print_last.result (rw c.no_roll.ensures at c.in_err-print_last.ensures)
+    (fetch_front s c.args.instance c.fetch.new.self (event_made s c.args.instance c.fetch.new.self c.in_ok-mail.mail c.in_ok-mail.ensures.mail c.in_ok-mail.ensures.ok) c.in_ok-mail.ensures.refused c.follow.new.jobs.items c.follow.new.participants.items c.put_all.new.self.items (follows_mail s c.args.instance c.in_ok-mail.mail c.follow.new.jobs.items c.follow.new.participants.items c.in_ok-mail.ensures.mail c.follow.ensures.follows) c.follow.ensures.kept (puts_mail s c.args.instance c.in_ok-mail.mail c.put_all.new.self.items c.reserve.new.self.items c.as_slice.result.now c.in_ok-mail.ensures.mail c.put_all.ensures c.reserve.ensures.items c.as_slice.ensures) c.args.out.now c.print_last.new.out c.in_err-print_last.field-0.0 c.from_residual-in_err-print_last.result (rw c.no_roll.ensures at c.in_err-print_last.ensures)
     c.from_residual-in_err-print_last.ensures.1)
 
 pub returns-clause-does : goal.returns-clause-does
@@ -89,7 +89,7 @@ returns-clause-does g c =
       handed = c.self.inside.handed;
     } in
     rw (← c.self.view_is)
-    (fetch_printed s c.args.instance c.fetch.new.self (event_made s c.args.instance c.fetch.new.self c.in_ok-mail.mail c.in_ok-mail.ensures.mail c.in_ok-mail.ensures.ok) c.in_ok-mail.ensures.refused c.follow.new.jobs.items c.follow.new.participants.items c.put_all.new.bag.items (follows_mail s c.args.instance c.in_ok-mail.mail c.follow.new.jobs.items c.follow.new.participants.items c.in_ok-mail.ensures.mail c.follow.ensures.follows) c.follow.ensures.kept (puts_mail s c.args.instance c.in_ok-mail.mail c.put_all.new.bag.items c.reserve.new.self.items c.as_slice.result.now c.in_ok-mail.ensures.mail c.put_all.ensures c.reserve.ensures.items c.as_slice.ensures) c.args.out.now c.print_last.new.out c.in_ok-print_last.field-0 (rw c.no_roll.ensures at c.in_ok-print_last.ensures))
+    (fetch_printed s c.args.instance c.fetch.new.self (event_made s c.args.instance c.fetch.new.self c.in_ok-mail.mail c.in_ok-mail.ensures.mail c.in_ok-mail.ensures.ok) c.in_ok-mail.ensures.refused c.follow.new.jobs.items c.follow.new.participants.items c.put_all.new.self.items (follows_mail s c.args.instance c.in_ok-mail.mail c.follow.new.jobs.items c.follow.new.participants.items c.in_ok-mail.ensures.mail c.follow.ensures.follows) c.follow.ensures.kept (puts_mail s c.args.instance c.in_ok-mail.mail c.put_all.new.self.items c.reserve.new.self.items c.as_slice.result.now c.in_ok-mail.ensures.mail c.put_all.ensures c.reserve.ensures.items c.as_slice.ensures) c.args.out.now c.print_last.new.out c.in_ok-print_last.field-0 (rw c.no_roll.ensures at c.in_ok-print_last.ensures))
 
 pub returns-clause-bagged : goal.returns-clause-bagged
 returns-clause-bagged g c =
@@ -102,4 +102,4 @@ returns-clause-bagged g c =
       bag = c.self.inside.bag.items;
       handed = c.self.inside.handed;
     } in
-    mail_bagged s c.self.invariant.0 c.args.instance c.in_ok-mail.mail c.put_all.new.bag.items c.into_vec.result.items c.in_ok-mail.ensures.mail c.into_vec.ensures (puts_mail s c.args.instance c.in_ok-mail.mail c.put_all.new.bag.items c.reserve.new.self.items c.as_slice.result.now c.in_ok-mail.ensures.mail c.put_all.ensures c.reserve.ensures.items c.as_slice.ensures)
+    mail_bagged s c.self.invariant.0 c.args.instance c.in_ok-mail.mail c.put_all.new.self.items c.into_vec.result.items c.in_ok-mail.ensures.mail c.into_vec.ensures (puts_mail s c.args.instance c.in_ok-mail.mail c.put_all.new.self.items c.reserve.new.self.items c.as_slice.result.now c.in_ok-mail.ensures.mail c.put_all.ensures c.reserve.ensures.items c.as_slice.ensures)

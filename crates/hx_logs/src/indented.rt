@@ -1,0 +1,192 @@
+//! Indented lines: the sessions that a tick ended, and what became of a dispatch's proposals.
+ghost use Rattle.std.specs.Prelude.{◌≡◌, ℕ, ◌≤◌, [], ◌∷◌, map, length, IfOk};
+ghost use Rattle.hx_script.specs.Grammar.{all_words};
+ghost use Rattle.hx_script.specs.Logs;
+
+use crate::forms::instance_and_session;
+use crate::numbers::{message_word, session_word, short_number};
+use crate::words::{cut_words, move_word, part_named, state_or_dash};
+use hx_cluster::{Placed, Spec};
+use hx_ids::{InstanceId, SessionId};
+use hx_lists::Seq;
+use hx_script::{LogMove, ScriptKind};
+use std::alloc::{AllocError, Global};
+
+/// A session that a tick ended, with its instance.
+fn ended_words(spec: &Spec, words: &[&str]) -> Result<(InstanceId, SessionId), ScriptKind>
+    ensures { result ≡ Logs.ended_words spec.now (map (λ w. w.now) words.now) }
+{
+    let [first, rest @ ..] = words else {
+        return Err(ScriptKind::WordCount);
+    };
+    if *first != "end" {
+        return Err(ScriptKind::UnknownWord);
+    }
+    instance_and_session(spec, rest)
+}
+
+/// An answer of one word.
+fn bare_answer(word: &str) -> Result<Placed, ScriptKind>
+    ensures { result ≡ Logs.bare_answer word.now }
+{
+    if word == "ended" {
+        Ok(Placed::Ended)
+    } else if word == "dropped" {
+        Ok(Placed::ResourceDropped)
+    } else if word == "illegal" {
+        Ok(Placed::Illegal)
+    } else {
+        Err(ScriptKind::UnknownWord)
+    }
+}
+
+/// An answer with a message or a state.
+fn answer_with(spec: &Spec, word: &str, of: &str) -> Result<Placed, ScriptKind>
+    requires { length spec.now.states ≤ 256 }
+    ensures { result ≡ Logs.answer_with spec.now word.now of.now }
+{
+    if word == "sent" {
+        Ok(Placed::Sent(message_word(of)?))
+    } else if word == "busy" {
+        Ok(Placed::Busy {
+            id: message_word(of)?,
+        })
+    } else if word == "from" {
+        Ok(Placed::WrongFrom {
+            has: state_or_dash(spec, of)?,
+        })
+    } else {
+        Err(ScriptKind::UnknownWord)
+    }
+}
+
+/// The answer that a bound is reached.
+fn bound_answer(word: &str, count: &str, of: &str, bound: &str) -> Result<Placed, ScriptKind>
+    ensures { result ≡ Logs.bound_answer word.now count.now of.now bound.now }
+{
+    if word != "bound" || of != "of" {
+        return Err(ScriptKind::UnknownWord);
+    }
+    Ok(Placed::OverBound {
+        count: short_number(count)?,
+        bound: short_number(bound)?,
+    })
+}
+
+/// The answer that a throttle is full.
+fn throttle_answer(
+    word: &str,
+    rule: &str,
+    load: &str,
+    of: &str,
+    limit: &str,
+) -> Result<Placed, ScriptKind>
+    ensures { result ≡ Logs.throttle_answer word.now rule.now load.now of.now limit.now }
+{
+    if word != "throttle" || of != "of" {
+        return Err(ScriptKind::UnknownWord);
+    }
+    Ok(Placed::OverThrottle {
+        rule: short_number(rule)?,
+        load: short_number(load)?,
+        limit: short_number(limit)?,
+    })
+}
+
+/// A proposal with its answer.
+fn move_of(
+    spec: &Spec,
+    answer: Placed,
+    session: &str,
+    part: &str,
+    states: &str,
+) -> Result<LogMove, ScriptKind>
+    requires { length spec.now.states ≤ 256 }
+    ensures { result
+        ≡ Logs.move_of spec.now answer (session.now ∷ part.now ∷ states.now ∷ []) }
+{
+    let session = session_word(session)?;
+    let part = part_named(spec, part)?;
+    let (from, to) = move_word(spec, states)?;
+    Ok(LogMove {
+        session,
+        part,
+        from,
+        to,
+        answer,
+    })
+}
+
+/// What became of a proposal, by the words of its line.
+fn move_words(spec: &Spec, words: &[&str]) -> Result<LogMove, ScriptKind>
+    requires { length spec.now.states ≤ 256 }
+    ensures { result ≡ Logs.move_words spec.now (map (λ w. w.now) words.now) }
+{
+    match words {
+        [word, session, part, states] => {
+            move_of(spec, bare_answer(word)?, session, part, states)
+        }
+        [word, of, session, part, states] => {
+            move_of(spec, answer_with(spec, word, of)?, session, part, states)
+        }
+        [word, count, of, bound, session, part, states] => {
+            move_of(
+                spec,
+                bound_answer(word, count, of, bound)?,
+                session,
+                part,
+                states,
+            )
+        }
+        [word, rule, load, of, limit, session, part, states] => {
+            let answer = throttle_answer(word, rule, load, of, limit)?;
+            move_of(spec, answer, session, part, states)
+        }
+        _ => Err(ScriptKind::WordCount),
+    }
+}
+
+/// The sessions that a tick ended.
+pub fn ended_sessions(
+    alloc: Global,
+    spec: &Spec,
+    lines: &[&str],
+) -> Result<Result<Seq<(InstanceId, SessionId)>, ScriptKind>, AllocError>
+    ensures { IfOk result (λ r.
+        r ≡ all_words (λ l. Logs.ended_words spec.now (Logs.exact_words l))
+        (map (λ l. l.now) lines.now)) }
+{
+    let mut ended = Seq::new(alloc);
+    let mut words = Vec::new(alloc);
+    for line in lines {
+        cut_words(line, &mut words)?;
+        match ended_words(spec, words.as_slice()) {
+            Ok(session) => ended.push(session)?,
+            Err(kind) => return Ok(Err(kind)),
+        }
+    }
+    Ok(Ok(ended))
+}
+
+/// What became of a dispatch's proposals.
+pub fn moves(
+    alloc: Global,
+    spec: &Spec,
+    lines: &[&str],
+) -> Result<Result<Seq<LogMove>, ScriptKind>, AllocError>
+    requires { length spec.now.states ≤ 256 }
+    ensures { IfOk result (λ r.
+        r ≡ all_words (λ l. Logs.move_words spec.now (Logs.exact_words l))
+        (map (λ l. l.now) lines.now)) }
+{
+    let mut moves = Seq::new(alloc);
+    let mut words = Vec::new(alloc);
+    for line in lines {
+        cut_words(line, &mut words)?;
+        match move_words(spec, words.as_slice()) {
+            Ok(told) => moves.push(told)?,
+            Err(kind) => return Ok(Err(kind)),
+        }
+    }
+    Ok(Ok(moves))
+}
