@@ -1,3 +1,6 @@
 pub mod Ordered
+pub mod Dealing
+pub mod Linking
+pub mod Tables
 pub mod Narrow
 pub mod Sorting
