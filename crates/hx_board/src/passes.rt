@@ -114,8 +114,7 @@ impl Board {
             return Err(fault);
         }
         make_room(&mut self.history, self.owed, 1)?;
-        let mail = self.records.read_mail(session)?;
-        shown.extend_from_slice(mail.as_slice())?;
+        self.records.read_mail_into(session, shown)?;
         record(&mut self.history, Event::Mail(c, pass, session));
         self.weight += 1;
         Ok(())
@@ -158,8 +157,7 @@ impl Board {
             return Err(fault);
         }
         make_room(&mut self.history, self.owed, 1)?;
-        let rows = self.records.read_states(session)?;
-        shown.extend_from_slice(rows.as_slice())?;
+        self.records.read_states_into(session, shown)?;
         record(&mut self.history, Event::States(c, pass, session));
         self.weight += 1;
         Ok(())

@@ -118,18 +118,28 @@ impl Records {
         Ok(shown)
     }
 
-    /// A session's pending messages, by number.
-    pub fn read_mail(&self, session: SessionId) -> Result<Vec<Message>, AllocError>
-        ensures { IfOk result (λ mail. mail.items ≡ mail_shown self.now session) }
+    /// Adds a session's pending messages, by number, to those that were shown before.
+    pub fn read_mail_into(
+        &self,
+        session: SessionId,
+        shown: &mut Seq<Message>,
+    ) -> Result<(), AllocError>
+        ensures ok { OnOk result (shown.new ≡ shown.old ++ mail_shown self.now session) }
+        ensures err { OnErr result (shown.new ≡ shown.old) }
     {
-        self.slots.mail_of(session)
+        self.slots.push_mail_of(session, shown)
     }
 
-    /// A session's rows, by part.
-    pub fn read_states(&self, session: SessionId) -> Result<Vec<Row>, AllocError>
-        ensures { IfOk result (λ rows. rows.items ≡ states_shown self.now session) }
+    /// Adds a session's rows, by part, to those that were shown before.
+    pub fn read_states_into(
+        &self,
+        session: SessionId,
+        shown: &mut Seq<Row>,
+    ) -> Result<(), AllocError>
+        ensures ok { OnOk result (shown.new ≡ shown.old ++ states_shown self.now session) }
+        ensures err { OnErr result (shown.new ≡ shown.old) }
     {
-        self.slots.rows_of(session)
+        self.slots.push_rows_of(session, shown)
     }
 
     /// The resources, the drained instances and the reset flags.
@@ -151,15 +161,11 @@ impl Records {
     pub fn fetch(&self, instance: InstanceId) -> Result<Mail, AllocError>
         ensures { IfOk result (λ mail. mail ≡ fetched self.now instance) }
     {
-        match self.session_of(instance) {
-            Some(session) => Ok(Mail {
-                session: Some(session),
-                messages: Seq::from_vec(self.read_mail(session)?),
-            }),
-            None => Ok(Mail {
-                session: None,
-                messages: Seq::new(self.seats.allocator()),
-            }),
+        let mut messages = Seq::new(self.seats.allocator());
+        let session = self.session_of(instance);
+        if let Some(live) = session {
+            self.read_mail_into(live, &mut messages)?;
         }
+        Ok(Mail { session, messages })
     }
 }

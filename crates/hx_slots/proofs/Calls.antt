@@ -22,21 +22,11 @@ use Rattle.hx_store.specs.Refusals.{CanChange}
 use Rattle.hx_safe.proofs.Counting.{find-passes}
 use Rattle.hx_slots.specs.declared.slot.Slot.{Slot}
 use Rattle.hx_slots.specs.Kept.{Kept}
-use Rattle.hx_slots.specs.Slots.{IsPlaced, IsSlot, IsSlotOf, IsKept, AreSlots, IsPopped, HaveNext, slot_key, row_with, row_of, rows_of, values_of, owned_values, messages_of, sent_at, sent_last, put_at, unwritten_in}
-use Rattle.hx_slots.proofs.Keys.{both, key_small}
-use Rattle.hx_slots.proofs.Entries.{any-filter, all-insert, all-filter, all-at, all-set, all-weaker, only_at, some_is, value_of, entry_of, find-first, first_of, first_passes, filter-none, none_any}
+use Rattle.hx_slots.specs.Slots.{IsPlaced, IsSlot, IsSlotOf, IsKept, AreSlots, IsPopped, slot_key, row_with, row_of, rows_of, values_of, owned_values, messages_of, sent_at, sent_last, put_at, unwritten_in}
+use Rattle.hx_slots.proofs.Keys.{both}
+use Rattle.hx_slots.proofs.Entries.{any-filter, all-insert, all-filter, all-at, all-set, only_at, some_is, value_of, entry_of, find-first, first_of, first_passes, filter-none, none_any}
 use Rattle.hx_slots.proofs.RowsOf.{EachSlot, slots-sent, slots-put, rows-taken, rows-untaken, rows-owned}
 use Rattle.hx_slots.proofs.Mail.{EachKept, kept-sent, sent-here, kept-put, kept-removed, kept-taken, kept-written, messages-sent, messages-marked, messages-removed, mail-owned, message_is, found_at, unwritten-append, unwritten-filter, unwritten-taken, unwritten-written}
-
--- each key has one after it
-pub next_slots : (changes : ℕ) (slots : List (ℕ × Record Slot)) → EachSlot changes slots → HaveNext slots
-next_slots changes slots all = all-weaker (IsSlot changes) (λ e. e.0 < 18446744073709551615) one slots all
-  where
-    one : (e : ℕ × Record Slot) → IsSlot changes e → e.0 < 18446744073709551615
-    one e is = rw is.key (key_small e.1.value.session e.1.value.part is.placed)
-
-pub next_mail : (slots : List (ℕ × Record Slot)) (mail : List (ℕ × Record Message)) → EachKept slots mail → HaveNext mail
-next_mail slots mail all = all-weaker (IsKept slots) (λ e. e.0 < 18446744073709551615) (λ e is. is.next) mail all
 
 -- versions have room
 pub slot_room : (slots : List (ℕ × Record Slot)) (mail : List (ℕ × Record Message)) (changes paid k : ℕ) → AreSlots slots mail changes paid → CanChange (record_at slots k)
@@ -99,16 +89,15 @@ pub sent_mail : (slots : List (ℕ × Record Slot)) (mail later : List (ℕ × R
 sent_mail slots mail later m all last is = rw is (messages-sent slots m.id.0 (first_record (Some m.session) m) mail all last)
 
 pub sent_ok : (slots after : List (ℕ × Record Slot)) (mail later : List (ℕ × Record Message)) (changes paid : ℕ) (m : Message) → IsStrictlySortedBy nat_cmp (keys_of slots) → AreSlots slots mail changes paid
-    → IsPlaced m.session m.part → message_of (messages_of mail) m.session m.part ≡ None → list_all (λ x. nat_lt x.id.0 m.id.0) (messages_of mail) ≡ true → m.taken ≡ false → m.written ≡ false → m.id.0 < 18446744073709551615
-    → paid ≤ 4611686018427387902 → after ≡ sent_at slots (slot_key m.session m.part) m.session m.part m.id → later ≡ created mail m.id.0 (Some m.session) m → AreSlots after later (changes + 1) (paid + 2)
-sent_ok slots after mail later changes paid m ordered are placed idle last taken written small low is made =
+    → IsPlaced m.session m.part → message_of (messages_of mail) m.session m.part ≡ None → list_all (λ x. nat_lt x.id.0 m.id.0) (messages_of mail) ≡ true → m.taken ≡ false → m.written ≡ false → paid ≤ 4611686018427387902 → after ≡ sent_at slots (slot_key m.session m.part) m.session m.part m.id → later ≡ created mail m.id.0 (Some m.session) m → AreSlots after later (changes + 1) (paid + 2)
+sent_ok slots after mail later changes paid m ordered are placed idle last taken written low is made =
     let before = sent_err slots after mail changes paid m.session m.part m.id ordered are placed idle low is in
     let w : changes + unwritten_in (messages_of mail) ≤ paid = are.room in
     let counted : unwritten_in (messages_of later) ≡ unwritten_in (messages_of mail) + one_unless m.written = ap unwritten_in (sent_mail slots mail later m are.each_message last made) ∙ unwritten-append (messages_of mail) m in
     let one : one_unless m.written ≡ 1 = rw written refl in
     let two : one_unless m.taken ≡ 1 = rw taken refl in
     let named : sent_last (record_at after (slot_key m.session m.part)) ≡ Some m.id = rw is (sent-here m.session m.part m.id slots) in
-    let here : IsKept after (m.id.0, first_record (Some m.session) m) = record { key = refl; next = small; owner = refl; placed = placed; slot = named; marks = omega arith } in
+    let here : IsKept after (m.id.0, first_record (Some m.session) m) = record { key = refl; owner = refl; placed = placed; slot = named; marks = omega arith } in
     let kept : EachKept after (created mail m.id.0 (Some m.session) m) = all-insert (IsKept after) is_before (m.id.0, first_record (Some m.session) m) mail before.each_message here in
     record {
       each_slot = before.each_slot;

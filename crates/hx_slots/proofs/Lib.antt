@@ -4,3 +4,4 @@ pub mod RowsOf
 pub mod Walks
 pub mod Mail
 pub mod Calls
+pub mod Growing

@@ -40,7 +40,7 @@ kept-along : (slots after : List (ℕ × Record Slot)) (mail : List (ℕ × Reco
 kept-along slots after mail all same = all-also (IsKept slots) (λ e. sent_for after e ≡ sent_for slots e) (IsKept after) one mail all same
   where
     one : (e : ℕ × Record Message) → IsKept slots e → sent_for after e ≡ sent_for slots e → IsKept after e
-    one e is h = record { key = is.key; next = is.next; owner = is.owner; placed = is.placed; slot = h ∙ is.slot; marks = is.marks }
+    one e is h = record { key = is.key; owner = is.owner; placed = is.placed; slot = h ∙ is.slot; marks = is.marks }
 
 -- where a message was sent, the slot names it, and the others what they did
 sent-other : (s : SessionId) (p : PartId) (id : MsgId) (q : ℕ) (es : List (ℕ × Record Slot)) → (slot_key s p == q) ≡ false → record_at (sent_at es (slot_key s p) s p id) q ≡ record_at es q
@@ -256,14 +256,14 @@ kept-taken slots k r m kept same free =
     let is : IsKept slots (k, record r { value = m }) = subst (λ (x : Message). IsKept slots (k, record r { value = x })) same kept in
     let marks : r.version + one_unless m.taken + one_unless m.written ≤ 3 = is.marks in
     let one : one_unless m.taken ≡ 1 = rw free refl in
-    record { key = is.key; next = is.next; owner = is.owner; placed = is.placed; slot = is.slot; marks = omega arith }
+    record { key = is.key; owner = is.owner; placed = is.placed; slot = is.slot; marks = omega arith }
 
 pub kept-written : (slots : List (ℕ × Record Slot)) (k : ℕ) (r : Record Message) (m : Message) → IsKept slots (k, r) → r.value ≡ m → m.written ≡ false → IsKept slots (k, changed r (record m { written = true }))
 kept-written slots k r m kept same free =
     let is : IsKept slots (k, record r { value = m }) = subst (λ (x : Message). IsKept slots (k, record r { value = x })) same kept in
     let marks : r.version + one_unless m.taken + one_unless m.written ≤ 3 = is.marks in
     let one : one_unless m.written ≡ 1 = rw free refl in
-    record { key = is.key; next = is.next; owner = is.owner; placed = is.placed; slot = is.slot; marks = omega arith }
+    record { key = is.key; owner = is.owner; placed = is.placed; slot = is.slot; marks = omega arith }
 
 -- outcomes that may come
 pub unwritten-append : (ms : List Message) (m : Message) → unwritten_in (ms ++ m ∷ []) ≡ unwritten_in ms + one_unless m.written

@@ -1,5 +1,5 @@
--- A walk over what a session owns.
-use Rattle.std.proofs.Common.{◌≡◌, ℕ, ◌<◌, ◌+◌, ◌-◌, ◌^◌, List, [], ◌∷◌, Some, None, Option, sym, ap, ◌∙◌, subst}
+-- The first of what a session owns.
+use Rattle.std.proofs.Common.{◌≡◌, ℕ, List, Some, None, Option, subst}
 use Rattle.std.specs.Option.{option_map}
 use Rattle.std.specs.List.Sorted.{IsStrictlySortedBy}
 use Rattle.std.specs.Ordering.{nat_cmp}
@@ -7,12 +7,9 @@ use Rattle.std.specs.Map.{keys_of}
 use Rattle.hx_ids.specs.declared.SessionId.{SessionId}
 use Rattle.hx_store.specs.declared.Record.{Record}
 use Rattle.hx_store.specs.Records.{record_at, next_owned, deleted}
-use Rattle.hx_store.proofs.Nexts.{next_step, next_end}
-use Rattle.hx_slots.specs.Slots.{values_of, owned_values, HaveNext, IsPopped}
-use Rattle.hx_slots.proofs.Entries.{all-at, some_is}
-
-pub walk_end : {X : Type 0} (s : SessionId) (from : ℕ) (es : List (ℕ × Record X)) → None ≡ next_owned es s from → owned_values es s from ≡ []
-walk_end {X = X} s from es none = ap (λ (xs : List (ℕ × Record X)). values_of xs) (next_end s from es none)
+use Rattle.hx_store.proofs.Nexts.{next_step}
+use Rattle.hx_slots.specs.Slots.{IsPopped}
+use Rattle.hx_slots.proofs.Entries.{some_is}
 
 pub walk_there : {X : Type 0} (s : SessionId) (from k : ℕ) (es : List (ℕ × Record X)) → IsStrictlySortedBy nat_cmp (keys_of es) → Some k ≡ next_owned es s from → None ≡ option_map (λ (r : Record X). r.version) (record_at es k) → ⊥
 walk_there {X = X} s from k es ordered next none =
@@ -20,19 +17,6 @@ walk_there {X = X} s from k es ordered next none =
     let P : Option (Record X) → Type 0 = λ o. None ≡ option_map (λ (r : Record X). r.version) o in
     let no : None ≡ Some step.0.version = subst P step.1 none in
     cc
-
-pub walk_small : {X : Type 0} (s : SessionId) (from k : ℕ) (es : List (ℕ × Record X)) → IsStrictlySortedBy nat_cmp (keys_of es) → HaveNext es → Some k ≡ next_owned es s from → k < 2 ^ 64 - 1
-walk_small {X = X} s from k es ordered small next =
-    let step = next_step s from k es ordered next in
-    all-at (λ (e : ℕ × Record X). e.0 < 2 ^ 64 - 1) k step.0 es small step.1
-
-pub walk_on : {X : Type 0} (s : SessionId) (from k : ℕ) (v : X) (es : List (ℕ × Record X)) → IsStrictlySortedBy nat_cmp (keys_of es) → Some k ≡ next_owned es s from → Some v ≡ option_map (λ r. r.value) (record_at es k)
-    → owned_values es s from ≡ v ∷ owned_values es s (k + 1)
-walk_on {X = X} s from k v es ordered next found =
-    let step = next_step s from k es ordered next in
-    let P : Option (Record X) → Type 0 = λ o. Some v ≡ option_map (λ r. r.value) o in
-    let same : step.0.value ≡ v = some_is step.0.value v (sym (subst P step.1 found)) in
-    ap (λ (xs : List (ℕ × Record X)). values_of xs) step.2 ∙ ap (λ (x : X). x ∷ owned_values es s (k + 1)) same
 
 pub walk_popped : {X : Type 0} (s : SessionId) (k : ℕ) (v : X) (es fs : List (ℕ × Record X)) → IsStrictlySortedBy nat_cmp (keys_of es) → Some k ≡ next_owned es s 0 → option_map (λ r. r.value) (record_at es k) ≡ Some v
     → fs ≡ deleted es k → IsPopped es s v fs

@@ -1,5 +1,5 @@
 -- The slots and the messages that are kept, and what holds of them. No public clause cites this module.
-use Rattle.std.specs.Prelude.{◌≡◌, ℕ, ◌+◌, ◌*◌, ◌^◌, ◌-◌, ◌<◌, ◌≤◌, ◌==◌, List, [], ◌∷◌, map, Option, None, Some, if◌then◌else◌}
+use Rattle.std.specs.Prelude.{◌≡◌, ℕ, ◌+◌, ◌*◌, ◌^◌, ◌<◌, ◌≤◌, ◌==◌, List, [], ◌∷◌, map, Option, None, Some, if◌then◌else◌}
 use Rattle.std.specs.List.{filter_map, AllByRecursion}
 use Rattle.std.specs.List.Sorted.{IsStrictlySortedBy}
 use Rattle.std.specs.Map.{keys_of}
@@ -48,10 +48,6 @@ rows_of slots = filter_map row_of (values_of slots)
 
 abbrev pub messages_of : List (ℕ × Record Message) → List Message
 messages_of mail = values_of mail
-
--- each key has one after it
-abbrev pub HaveNext : {V : Type 0} → List (ℕ × Record V) → Type 0
-HaveNext records = AllByRecursion (λ e. e.0 < 2 ^ 64 - 1) records
 
 -- a value is that of the first record that a session owns, and the records are left without it
 pub record IsPopped {V : Type 0} (records : List (ℕ × Record V)) (session : SessionId) (taken : V) (left : List (ℕ × Record V)) : Type 0 where
@@ -107,7 +103,6 @@ pub record IsSlot (changes : ℕ) (e : ℕ × Record Slot) : Type 0 where
 -- what holds of each message with its key: its slot names it. Its version counts its marks
 pub record IsKept (slots : List (ℕ × Record Slot)) (e : ℕ × Record Message) : Type 0 where
   pub key : e.0 ≡ e.1.value.id.0
-  pub next : e.0 < 2 ^ 64 - 1
   pub owner : e.1.owner ≡ Some e.1.value.session
   pub placed : IsPlaced e.1.value.session e.1.value.part
   pub slot : sent_last (record_at slots (slot_key e.1.value.session e.1.value.part)) ≡ Some e.1.value.id

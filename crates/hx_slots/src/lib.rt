@@ -3,7 +3,7 @@
 
 ghost use Rattle.std.specs.Prelude.{◌≡◌, ◌&&◌, ◌||◌, ◌==◌, ◌++◌, [], ◌∷◌, not, true, false};
 ghost use Rattle.std.specs.Prelude.{None, Some, filter, find, map, nat_lt, option_copied};
-ghost use Rattle.std.specs.Prelude.{IfOk, OnOk, OnErr, MatchOption};
+ghost use Rattle.std.specs.Prelude.{OnOk, OnErr, MatchOption};
 ghost use Rattle.std.specs.List.{list_any, list_all};
 ghost use Rattle.hx_cluster.specs.Ends.{state_of, message_of, is_row};
 ghost use Rattle.hx_cluster.specs.Messages.{has_id, as_taken, as_written, row_put};
@@ -13,8 +13,9 @@ mod slot;
 
 use hx_cluster::{Message, Row};
 use hx_ids::{MsgId, PartId, ResourceId, SessionId, StateId};
+use hx_lists::Seq;
 use hx_store::Store;
-use owned::{next_owned, pop_owned, remove};
+use owned::{pop_owned, push_or_cut, remove};
 use slot::{Slot, add_message, mark, note_sent, put_at, slot_of};
 use std::alloc::{AllocError, Global};
 use std::marker::Model;
@@ -43,7 +44,7 @@ impl Model for Slots {
     ghost invariant = { λ a. AreSlots a.slots a.mail a.changes a.paid };
 }
 
-/// The most changes that are paid, and the highest number of a message.
+/// The most changes that are paid.
 const MOST: u64 = 1 << 62;
 
 impl Slots {
@@ -93,34 +94,36 @@ impl Slots {
         }
     }
 
-    /// A session's rows, by part.
-    pub fn rows_of(&self, session: SessionId) -> Result<Vec<Row>, AllocError>
-        ensures { IfOk result (λ rows.
-            rows.items ≡ filter (λ r. r.session.0 == session.0) self.now.rows) }
+    /// Adds a session's rows, by part, to some.
+    pub fn push_rows_of(&self, session: SessionId, rows: &mut Seq<Row>) -> Result<(), AllocError>
+        ensures ok { OnOk result
+            (rows.new ≡ rows.old ++ filter (λ r. r.session.0 == session.0) self.now.rows) }
+        ensures err { OnErr result (rows.new ≡ rows.old) }
     {
-        let mut rows = Vec::new(self.alloc);
-        let mut from = 0;
-        while let Some((slot, next)) = next_owned(&self.slots, session, from) {
+        let before = rows.len();
+        for slot in self.slots.owned(session) {
             if let Some(row) = slot.row() {
-                rows.push(row)?;
+                push_or_cut(rows, before, row)?;
             }
-            from = next;
         }
-        Ok(rows)
+        Ok(())
     }
 
-    /// A session's pending messages, by number.
-    pub fn mail_of(&self, session: SessionId) -> Result<Vec<Message>, AllocError>
-        ensures { IfOk result (λ mail.
-            mail.items ≡ filter (λ m. m.session.0 == session.0) self.now.mail) }
+    /// Adds a session's pending messages, by number, to some.
+    pub fn push_mail_of(
+        &self,
+        session: SessionId,
+        mail: &mut Seq<Message>,
+    ) -> Result<(), AllocError>
+        ensures ok { OnOk result
+            (mail.new ≡ mail.old ++ filter (λ m. m.session.0 == session.0) self.now.mail) }
+        ensures err { OnErr result (mail.new ≡ mail.old) }
     {
-        let mut mail = Vec::new(self.alloc);
-        let mut from = 0;
-        while let Some((message, next)) = next_owned(&self.mail, session, from) {
-            mail.push(*message)?;
-            from = next;
+        let before = mail.len();
+        for message in self.mail.owned(session) {
+            push_or_cut(mail, before, *message)?;
         }
-        Ok(mail)
+        Ok(())
     }
 
     /// Whether a session has a row or a message of a resource. It takes no memory.
@@ -139,12 +142,10 @@ impl Slots {
             ≡ list_any (λ r. (r.part.resource.0 == resource.0) && (r.session.0 == session.0))
             self.now.rows }
     {
-        let mut from = 0;
-        while let Some((slot, next)) = next_owned(&self.slots, session, from) {
+        for slot in self.slots.owned(session) {
             if slot.has_row_of(resource) {
                 return true;
             }
-            from = next;
         }
         false
     }
@@ -154,12 +155,10 @@ impl Slots {
             ≡ list_any (λ m. (m.part.resource.0 == resource.0) && (m.session.0 == session.0))
             self.now.mail }
     {
-        let mut from = 0;
-        while let Some((message, next)) = next_owned(&self.mail, session, from) {
+        for message in self.mail.owned(session) {
             if message.part.resource == resource {
                 return true;
             }
-            from = next;
         }
         false
     }
@@ -179,7 +178,7 @@ impl Slots {
             part,
             ..
         } = message;
-        if id.0 > MOST || self.paid > MOST - 2 {
+        if self.paid > MOST - 2 {
             return Err(AllocError);
         }
         note_sent(&mut self.slots, session, part, id)?;

@@ -1,32 +1,32 @@
-//! The records of a store that a session owns, and changes of records that are there.
-ghost use Rattle.std.specs.Prelude.{◌≡◌, ◌∷◌, [], Some, option_map, MatchOption};
+//! The first record that a session owns, changes of records that are there, and lists that grow.
+ghost use Rattle.std.specs.Prelude.{◌≡◌, ◌∷◌, ◌++◌, [], Some, take, option_map, MatchOption};
+ghost use Rattle.std.specs.Prelude.{OnOk, OnErr};
 ghost use Rattle.std.specs.Map.{keys_of};
 ghost use Rattle.std.specs.List.Sorted.{IsStrictlySortedBy};
 ghost use Rattle.std.specs.Ordering.{nat_cmp};
 ghost use Rattle.hx_store.specs.Records.{record_at, owned_from, set_to, deleted};
 ghost use Rattle.hx_store.specs.Refusals.{CanChange};
-ghost use Rattle.hx_slots.specs.Slots.{owned_values, HaveNext, IsPopped};
+ghost use Rattle.hx_slots.specs.Slots.{IsPopped};
 
 use hx_ids::SessionId;
+use hx_lists::Seq;
 use hx_store::Store;
+use std::alloc::AllocError;
 
-/// The first value from a key on that a session owns, and from where on the next one is. It takes
-/// no memory.
-pub(crate) fn next_owned<V: Drop>(
-    store: &Store<V>,
-    session: SessionId,
-    from: u64,
-) -> Option<(&V, u64)>
-    requires { HaveNext store.now }
-    ensures { MatchOption result (owned_values store.now session from ≡ []) (λ found.
-        owned_values store.now session from
-        ≡ found.0.now ∷ owned_values store.now session found.1) }
+/// Adds an item at the end, or leaves only so many.
+pub(crate) fn push_or_cut<T: Drop>(
+    items: &mut Seq<T>,
+    before: usize,
+    item: T,
+) -> Result<(), AllocError>
+    ensures ok { OnOk result (items.new ≡ items.old ++ item ∷ []) }
+    ensures err { OnErr result (items.new ≡ take before items.old) }
 {
-    let key = store.next_owned(session, from)?;
-    let Some((_, value)) = store.get(key) else {
-        unreachable!()
-    };
-    Some((value, key + 1))
+    if let Err(refused) = items.push(item) {
+        items.truncate(before);
+        return Err(refused);
+    }
+    Ok(())
 }
 
 /// Takes the first record out that a session owns, and gives its value. It takes no memory.

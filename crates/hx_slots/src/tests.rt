@@ -50,8 +50,12 @@ fn an_outcome_comes_to_the_row(rt: HostRuntime) -> Result<(), Fail> {
     let slots = with_row(rt.alloc())?;
     assert_eq!(rt; slots.state(SESSION, PART), Some(STATE));
     assert_eq!(rt; slots.holds(SESSION, ResourceId(1)), true);
-    assert_eq!(rt; slots.rows_of(SESSION)?.len(), 1);
-    assert_eq!(rt; slots.mail_of(SESSION)?.len(), 1);
+    let mut rows = Seq::new(rt.alloc());
+    slots.push_rows_of(SESSION, &mut rows)?;
+    assert_eq!(rt; rows.len(), 1);
+    let mut mail = Seq::new(rt.alloc());
+    slots.push_mail_of(SESSION, &mut mail)?;
+    assert_eq!(rt; mail.len(), 1);
     Ok(())
 }
 

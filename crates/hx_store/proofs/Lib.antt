@@ -7,3 +7,4 @@ pub mod Sorted
 pub mod Together
 pub mod Nexts
 pub mod Shelved
+pub mod Walks

@@ -2,7 +2,7 @@
 #![tactic(auto)]
 
 ghost use Rattle.std.specs.Prelude.{◌≡◌, ℕ, ◌==◌, [], IfOk, OnOk, OnErr, None, Some};
-ghost use Rattle.std.specs.Prelude.{option_map, IsSome, length, if◌then◌else◌};
+ghost use Rattle.std.specs.Prelude.{option_map, map, IsSome, length, if◌then◌else◌};
 ghost use Rattle.std.specs.List.{list_any};
 ghost use Rattle.std.specs.Map.{keys_of};
 ghost use Rattle.std.specs.List.Sorted.{IsStrictlySortedBy};
@@ -10,6 +10,7 @@ ghost use Rattle.std.specs.Ordering.{nat_cmp};
 ghost use Rattle.hx_lists.specs.Lists.{insert_by};
 ghost use Rattle.hx_store.specs.Records.{record_at, is_before, created, set_to, deleted};
 ghost use Rattle.hx_store.specs.Records.{without_owner, owned_by, keys_within, next_owned};
+ghost use Rattle.hx_store.specs.Records.{owned_from};
 ghost use Rattle.hx_lists.specs.Answers.{RefusedAs, RefusedBy};
 ghost use Rattle.hx_store.specs.Refusals.{create_refusal, change_refusal, CanChange};
 ghost use Rattle.hx_store.specs.Operations.{done_all, first_refusal, RefusedAt, CanDoAll};
@@ -20,6 +21,7 @@ mod draft;
 mod owners;
 mod records;
 mod shelf;
+mod walk;
 
 use changes::{claim_all, keys_in_order, settle, take_all};
 use draft::{Draft, draft_of};
@@ -30,6 +32,7 @@ use shelf::Shelf;
 use std::alloc::{AllocError, Global};
 use std::collections::BTreeMap;
 use std::marker::Model;
+pub use walk::Owned;
 
 /// A record: its version, which begins at 1 and rises with each change, the session that owns it,
 /// if any, and its value.
@@ -216,6 +219,17 @@ impl<V: Drop> Store<V> {
         ensures ordered { IsStrictlySortedBy nat_cmp (keys_of self.now) }
     {
         self.owners.first_from(owner, from)
+    }
+
+    /// The values of the records that a session owns, in order of key. It takes no memory, and goes
+    /// over no others.
+    pub fn owned(&self, owner: SessionId) -> Owned<'_, V>
+        ensures { result ≡ map (λ e. e.1.value) (owned_from self.now owner 0) }
+    {
+        Owned {
+            keys: self.owners.keys(owner),
+            records: &self.records,
+        }
     }
 
     /// The number of records.

@@ -4,10 +4,11 @@ ghost use Rattle.std.specs.List.{list_any};
 ghost use Rattle.hx_ids.specs.declared.SessionId.{SessionId};
 ghost use Rattle.hx_store.specs.Records.{owns};
 ghost use Rattle.hx_store.specs.Owners.{has, IsFirstFrom};
+ghost use Rattle.hx_store.specs.Walks.{AreThose, keys_left};
 
 use hx_ids::SessionId;
 use std::alloc::{AllocError, Global};
-use std::collections::{BTreeSet, HashMap};
+use std::collections::{BTreeSet, HashMap, btree_set};
 use std::marker::Model;
 
 /// The keys of each session that owns any, in order. Contracts see the sessions in no order.
@@ -99,6 +100,14 @@ impl Owners {
         let keys = self.sets.get(&owner)?;
         let key = keys.range(from..).next()?;
         Some(*key)
+    }
+
+    /// The keys of a session, in order, if it has any. It takes no memory.
+    pub(crate) fn keys(&self, owner: SessionId) -> Option<btree_set::Iter<'_, u64>>
+        ensures { AreThose (has self.now owner) (keys_left result) }
+    {
+        let keys = self.sets.get(&owner)?;
+        Some(keys.iter())
     }
 
     // Puts a key among those of a session.

@@ -54,6 +54,9 @@ fn a_session_finds_its_records_in_order(rt: HostRuntime) -> Result<(), Fail> {
     assert_eq!(rt; store.next_owned(here, 0), Some(3));
     assert_eq!(rt; store.next_owned(here, 4), Some(8));
     assert_eq!(rt; store.next_owned(here, 9), None);
+    assert_eq!(rt; store.owned(here).count(), 2);
+    assert_eq!(rt; store.owned(here).next().copied(), Some(40));
+    assert_eq!(rt; store.owned(SessionId(3)).count(), 0);
     assert_eq!(rt; store.end_session(here), 2);
     assert_eq!(rt; store.next_owned(here, 0), None);
     assert_eq!(rt; store.len(), 2);

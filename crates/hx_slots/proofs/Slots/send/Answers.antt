@@ -1,4 +1,4 @@
-use Rattle.std.proofs.Common.{◌<◌, ◌≤◌, ◌++◌, ◌∷◌, [], ap, ◌∙◌, arith}
+use Rattle.std.proofs.Common.{◌++◌, ◌∷◌, [], ap, ◌∙◌}
 use Rattle.std.specs.Prelude.{nat_lt}
 use Rattle.std.specs.List.{list_all}
 use Rattle.hx_cluster.specs.Ends.{message_of}
@@ -41,10 +41,8 @@ invariant_of-self-2 c =
     let m = c.args.message in
     let idle = ap (λ (x : Kept). message_of x.mail m.session m.part) c.self.view_is ∙ c.requires.idle in
     let last = ap (λ (x : Kept). list_all (λ y. nat_lt y.id.0 m.id.0) x.mail) c.self.view_is ∙ c.requires.last in
-    let h : m.id.0 ≤ 4611686018427387904 = c.if-id-gt-MOST.false in
-    let small : m.id.0 < 18446744073709551615 = omega arith in
     sent_ok c.self.inside.slots c.note_sent.new.slots c.self.inside.mail c.add_message.new.mail c.self.inside.changes c.self.inside.paid m c.in_ok-note_sent.ensures.ordered c.self.invariant c.in_ok-note_sent.ensures.placed idle last
-    c.requires.new.0 c.requires.new.1 small c.if-self.false c.in_ok-note_sent.ensures.ok c.in_ok-add_message.ensures.ok
+    c.requires.new.0 c.requires.new.1 c.if-self.false c.in_ok-note_sent.ensures.ok c.in_ok-add_message.ensures.ok
 
 pub returns-clause-rows : goal.returns-clause-rows
 returns-clause-rows c =
