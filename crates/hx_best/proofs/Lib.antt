@@ -3,3 +3,9 @@ pub mod Best
 pub mod Marking
 pub mod Found
 pub mod Errors
+pub mod Bits
+pub mod Sessions
+pub mod Meeting
+pub mod Entries
+pub mod Standing
+pub mod Moves

@@ -49,10 +49,9 @@ abbrev pub place_past : Wants → ℕ
 place_past (Listed list) = length list
 place_past (Mapped map) = 0
 
--- what is shown of a part
-pub record IsShownAt (x : Placing) (p : PartId) (rows : List Row) (resets : List (SessionId × PartId)) : Type 0 where
-  pub stand : rows ≡ items_at (λ r. r.part) p x.view.rows
-  pub asked : resets ≡ items_at (λ f. f.1) p x.view.ideals.resets
+-- the rows of a part
+abbrev pub rows_at : Placing → PartId → List Row
+rows_at x p = items_at (λ r. r.part) p x.view.rows
 
 -- marks of where a part is wanted
 pub record IsMarked (x : Placing) (p : PartId) (wants : Wants) (cells : List (Option Mark)) (past : ℕ) : Type 0 where

@@ -106,6 +106,23 @@ impl Shown<'_> {
         }
         Ok(())
     }
+
+    /// The same with a table for marks, of which what it has doesn't matter.
+    pub fn add_targets(
+        &self,
+        alloc: Global,
+        cells: &mut Vec<Option<Mark>>,
+        found: &mut Vec<Target>,
+    ) -> Result<(), AllocError>
+        ensures { OnOk result (
+            found.new.items
+            ≡ found.old.items
+            ++ targets_at self.now.0.models self.now.0.view self.now.0.resource self.now.1) }
+    {
+        clear(cells);
+        let past = self.mark(alloc, cells)?;
+        self.push_targets(cells.as_slice(), past, found)
+    }
 }
 
 /// Whether a replica stands or is wanted.
@@ -140,9 +157,7 @@ fn targets_of(
     let mut cells = Vec::new(alloc);
     for index in 0..places.resource().ideal.parts() {
         let shown = Shown::of(&*places, PartId { resource, index });
-        clear(&mut cells);
-        let past = shown.mark(alloc, &mut cells)?;
-        shown.push_targets(cells.as_slice(), past, &mut found)?;
+        shown.add_targets(alloc, &mut cells, &mut found)?;
     }
     Ok(found)
 }

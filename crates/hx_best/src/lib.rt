@@ -4,8 +4,12 @@
 mod aims;
 mod lookups;
 mod marks;
+mod moving;
+mod numbers;
 mod places;
+mod still;
 mod tables;
 
 pub use aims::{targets, targets_on};
 pub use lookups::Index;
+pub use moving::moving_targets;

@@ -1,5 +1,5 @@
 //! Where a part is wanted, instance by instance.
-ghost use Rattle.std.specs.Prelude.{◌≡◌, [], None, length, slice_index_or, IfOk};
+ghost use Rattle.std.specs.Prelude.{◌≡◌, [], None, length, slice_index_or, IfOk, OnOk};
 ghost use Rattle.hx_ids.specs.declared.InstanceId.{InstanceId};
 ghost use Rattle.std.specs.List.{list_any};
 ghost use Rattle.hx_cluster.specs.Ends.{state_of};
@@ -7,7 +7,7 @@ ghost use Rattle.hx_cluster.specs.Steps.{is_error, is_flag};
 ghost use Rattle.hx_best.specs.Wants.{Listed, Mapped, in_turn as in_turn_of};
 ghost use Rattle.hx_best.specs.Goals.{is_in_error, is_asked, is_eligible};
 ghost use Rattle.hx_best.specs.Lookups.{cell_of};
-ghost use Rattle.hx_best.specs.Places.{IsMarked, wants_at};
+ghost use Rattle.hx_best.specs.Places.{IsMarked, wants_at, rows_at};
 
 use crate::places::Places;
 use crate::tables::fill_first;
@@ -26,7 +26,8 @@ pub struct Mark {
     pub goal: StateId,
 }
 
-fn is_error(state: Option<StateId>) -> bool
+/// Whether a state is ERROR.
+pub fn is_error(state: Option<StateId>) -> bool
     ensures { result ≡ is_error state }
 {
     match state {
@@ -47,18 +48,18 @@ pub struct Shown<'a> {
     places: &'a Places<'a>,
     part: PartId,
     rows: &'a [Row],
-    resets: &'a [(SessionId, PartId)],
 }
 
 impl<'a> Model for Shown<'a> {
     ghost use Rattle.hx_ids.specs.declared.PartId.{PartId};
-    ghost use Rattle.hx_best.specs.Places.{Placing, IsShownAt};
+    ghost use Rattle.std.specs.Prelude.{◌≡◌};
+    ghost use Rattle.hx_best.specs.Places.{Placing, rows_at};
 
     ghost Value = { Placing × PartId };
 
     ghost view = { λ x. (x.places.now, x.part) };
 
-    ghost invariant = { λ x. IsShownAt x.places.now x.part x.rows.now x.resets.now };
+    ghost invariant = { λ x. x.rows.now ≡ rows_at x.places.now x.part };
 }
 
 impl<'a> Shown<'a> {
@@ -66,12 +67,10 @@ impl<'a> Shown<'a> {
     pub fn of(places: &'a Places<'a>, part: PartId) -> Shown<'a>
         ensures { result ≡ (places.now, part) }
     {
-        let index = places.index();
         Shown {
             places,
             part,
-            rows: index.rows_at(part),
-            resets: index.resets_at(part),
+            rows: places.index().rows_at(part),
         }
     }
 
@@ -87,6 +86,13 @@ impl<'a> Shown<'a> {
         ensures { result ≡ self.now.1 }
     {
         self.part
+    }
+
+    /// The rows of the part.
+    pub fn rows(&self) -> &'a [Row]
+        ensures { result.now ≡ rows_at self.now.0 self.now.1 }
+    {
+        self.rows
     }
 
     /// The state of a session's replica, if it has one.
@@ -108,7 +114,7 @@ impl<'a> Shown<'a> {
     pub fn is_asked(&self, session: SessionId) -> bool
         ensures { result ≡ is_asked self.now.0.view session self.now.1 }
     {
-        has_flag(self.resets, session, self.part)
+        has_flag(self.places.index().resets_at(self.part), session, self.part)
     }
 
     /// Whether an instance can take a state of the part.
@@ -135,7 +141,8 @@ impl Shown<'_> {
         match resource.ideal.mode() {
             Mode::Full => {
                 let instances = self.places.index().open_instances();
-                let list = in_turn(alloc, instances, resource.ideal.replicas(), part)?;
+                let mut list = Vec::new(alloc);
+                fill_turn(&mut list, instances, resource.ideal.replicas(), part)?;
                 self.mark_list(cells, list.as_slice())
             }
             Mode::Semi(lists) => self.mark_list(cells, items_in(lists, part)),
@@ -189,14 +196,14 @@ impl Shown<'_> {
 }
 
 /// A number of 32 bits. A larger one is want of memory.
-fn number(n: usize) -> Result<u32, AllocError>
+pub fn number(n: usize) -> Result<u32, AllocError>
     ensures { IfOk result (λ m. m ≡ n) }
 {
     u32::try_from(n).map_err(|_| AllocError)
 }
 
 /// The list or map of a part.
-fn items_in<T: Drop>(lists: &Seq<Seq<T>>, part: u32) -> &[T]
+pub fn items_in<T: Drop>(lists: &Seq<Seq<T>>, part: u32) -> &[T]
     ensures { result.now ≡ slice_index_or lists.now part [] }
 {
     match lists.get(part as usize) {
@@ -205,20 +212,20 @@ fn items_in<T: Drop>(lists: &Seq<Seq<T>>, part: u32) -> &[T]
     }
 }
 
-/// The instances whose turn a part is.
-fn in_turn(
-    alloc: Global,
+/// Fills a list with the instances whose turn a part is, in place of what it had.
+pub fn fill_turn(
+    list: &mut Vec<InstanceId>,
     instances: &[InstanceId],
     replicas: u32,
     part: u32,
-) -> Result<Vec<InstanceId>, AllocError>
-    ensures { IfOk result (λ list. list.items ≡ in_turn_of instances.now replicas part) }
+) -> Result<(), AllocError>
+    ensures { OnOk result (list.new.items ≡ in_turn_of instances.now replicas part) }
 {
     let taken = (replicas as usize).min(instances.len());
     let start = part as usize * taken;
-    let mut list = Vec::with_capacity(alloc, taken)?;
+    list.clear();
     for turn in 0..taken {
         list.push(instances[(start + turn) % instances.len()])?;
     }
-    Ok(list)
+    Ok(())
 }

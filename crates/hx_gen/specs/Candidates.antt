@@ -1,19 +1,16 @@
 -- The next transitions of the replicas that aren't at their goals.
 use Rattle.std.specs.Prelude.{ℕ, Bool, ◌==◌, ◌&&◌, ◌||◌, nat_lt, List, Option, None, option_map, unwrap_or, if◌then◌else◌}
 use Rattle.std.specs.List.{filter_map}
-use Rattle.std.specs.Option.{is_some, option_map_or}
+use Rattle.std.specs.Option.{is_some}
 use Rattle.hx_lists.specs.Lists.{sort_by}
 use Rattle.hx_model.specs.declared.ModelParts.{ModelParts}
-use Rattle.hx_model.specs.Model.{dropped, rank_of}
+use Rattle.hx_model.specs.Model.{rank_of}
 use Rattle.hx_hops.specs.Hops.{hop}
 use Rattle.hx_cluster.specs.declared.planning.View.{View}
 use Rattle.hx_cluster.specs.declared.planning.Target.{Target}
 use Rattle.hx_cluster.specs.declared.planning.Candidate.{Candidate}
 use Rattle.hx_cluster.specs.Ends.{message_of, model_of}
-
--- whether a replica is where it is to go. One that isn't there may as well be in the initial state, or be dropped
-abbrev pub is_at_goal : ModelParts → Target → Bool
-is_at_goal m t = option_map_or (λ s. s.0 == t.goal.0) t.state ((t.goal.0 == m.initial.0) || (t.goal.0 == dropped.0))
+pub use Rattle.hx_best.specs.Still.{is_at_goal}
 
 -- the transition towards the goal, of a replica that has no message and isn't at its goal
 abbrev pub hop_of : ModelParts → Target → Option Candidate

@@ -4,3 +4,4 @@ mod BoundReached
 mod ThrottledParts
 mod FirstPass
 pub mod Made
+pub mod Posting

@@ -4,7 +4,6 @@ use Rattle.hx_model.specs.declared.ModelParts.{ModelParts}
 use Rattle.hx_cluster.specs.declared.description.Rule.{Rule}
 use Rattle.hx_cluster.specs.declared.happenings.Proposal.{Proposal}
 use Rattle.hx_cluster.specs.declared.planning.View.{View}
-use Rattle.hx_cluster.specs.declared.planning.Target.{Target}
 use Rattle.hx_cluster.specs.declared.planning.Selection.{Selection}
 use Rattle.hx_cluster.specs.declared.planning.Throttled.{Throttled}
 use Rattle.hx_cluster.specs.declared.planning.Report.{Report}
@@ -13,15 +12,15 @@ use Rattle.hx_best.specs.Targets.{all_targets}
 use Rattle.hx_report.specs.Findings.{report}
 use Rattle.hx_pass.specs.Plans.{selection_of, throttled_of, proposal}
 
--- its targets, and what is selected and throttled of them
+-- the models, and what is selected and throttled of the targets
 pub record Draft : Type 0 where
-  pub targets : List Target
+  pub models : List ModelParts
   pub selection : Selection
   pub throttled : Throttled
 
 abbrev pub draft : List ModelParts → List Rule → View → Draft
 draft models rules view = record {
-  targets = all_targets models view;
+  models = models;
   selection = selection_of models view;
   throttled = throttled_of models rules view;
 }
@@ -31,7 +30,7 @@ abbrev pub proposed : Draft → List Proposal
 proposed d = map proposal d.throttled.sent
 
 abbrev pub reported : View → Draft → Report
-reported view d = report d.targets view d.selection d.throttled
+reported view d = report (all_targets d.models view) view d.selection d.throttled
 
 -- the plan with its report
 abbrev pub finished : View → Draft → Plan

@@ -3,28 +3,31 @@ ghost use Rattle.std.specs.Prelude.{◌≡◌, IfOk, map};
 ghost use Rattle.hx_pass.specs.Plans.{proposal};
 ghost use Rattle.hx_pass.specs.Drafts.{proposed, reported};
 
-use hx_cluster::{Candidate, Proposal, Report, Selection, Target, Throttled, View};
+use crate::targets::all_targets;
+use hx_best::Index;
+use hx_cluster::{Candidate, Proposal, Report, Selection, Throttled, View};
 use hx_lists::Seq;
+use hx_model::Model;
 use hx_report::{Fates, report_on};
-use hx_views::ViewIndex;
 use std::alloc::{AllocError, Global};
-use std::marker::Model;
+use std::marker;
 
-/// What a plan finds: its targets, and what it selects and throttles of them.
+/// What a plan finds: what it selects and throttles of the targets. These aren't kept: a report
+/// makes them again, with a copy of the description's models.
 #[derive(Drop)]
 pub struct Draft {
-    pub(crate) targets: Vec<Target>,
+    pub(crate) models: Seq<Model>,
     pub(crate) selection: Selection,
     pub(crate) throttled: Throttled,
 }
 
-impl Model for Draft {
+impl marker::Model for Draft {
     ghost use Rattle.hx_pass.specs.Drafts.{Draft as Seen};
 
     ghost Value = { Seen };
 
     ghost view = { λ d. record {
-      targets = d.targets.items;
+      models = d.models;
       selection = d.selection;
       throttled = d.throttled;
     } };
@@ -42,15 +45,16 @@ impl Draft {
     pub fn report(&self, alloc: Global, view: &View) -> Result<Report, AllocError>
         ensures { IfOk result (λ report. report ≡ reported view.now self.now) }
     {
-        self.report_on(alloc, &ViewIndex::new(alloc, view)?)
+        self.report_on(alloc, &Index::of(alloc, view)?)
     }
 
     /// The same by the index of a view.
-    pub fn report_on(&self, alloc: Global, shown: &ViewIndex) -> Result<Report, AllocError>
-        ensures { IfOk result (λ report. report ≡ reported shown.now self.now) }
+    pub(crate) fn report_on(&self, alloc: Global, index: &Index) -> Result<Report, AllocError>
+        ensures { IfOk result (λ report. report ≡ reported index.now self.now) }
     {
+        let targets = all_targets(alloc, self.models.as_slice(), index)?;
         let fates = Fates::new(alloc, &self.selection, &self.throttled)?;
-        report_on(alloc, self.targets.as_slice(), shown, &fates)
+        report_on(alloc, targets.as_slice(), index.shown(), &fates)
     }
 }
 

@@ -2,22 +2,22 @@
 #![tactic(auto)]
 
 mod drafts;
+mod posts;
+mod targets;
 
 ghost use Rattle.std.specs.Prelude.{◌≡◌, true, IfOk};
-ghost use Rattle.hx_best.specs.Targets.{all_targets as all_targets_of};
 ghost use Rattle.hx_gen.specs.Modelled.{has_models};
 ghost use Rattle.hx_pass.specs.Plans.{plan};
 ghost use Rattle.hx_pass.specs.Drafts.{draft as draft_of};
 
 pub use drafts::Draft;
-use hx_best::{Index, targets_on};
-use hx_cluster::{Plan, Spec, Target, View};
+use hx_best::{Index, moving_targets};
+use hx_cluster::{Plan, Spec, View};
 use hx_gen::candidates;
 use hx_hops::Hops;
-use hx_ids::ResourceId;
-use hx_model::Model;
 use hx_select::select_on;
 use hx_throttle::throttle;
+pub use posts::{instance_or_first, posted};
 use std::alloc::{AllocError, Global};
 
 /// The plan of what a view shows: each stage once over all resources, in order of number, throttled
@@ -31,66 +31,44 @@ pub fn plan(alloc: Global, spec: &Spec, hops: &[Hops], view: &View) -> Result<Pl
     ensures { IfOk result (λ made. made ≡ plan spec.now.models spec.now.rules view.now) }
 {
     let index = Index::of(alloc, view)?;
-    let draft = draft_on(alloc, spec, spec.models.as_slice(), hops, &index)?;
+    let draft = draft_on(alloc, spec, hops, &index)?;
     Ok(Plan {
         proposals: draft.proposals(alloc)?,
-        report: draft.report_on(alloc, index.shown())?,
+        report: draft.report_on(alloc, &index)?,
     })
 }
 
-/// What a plan finds, and no report of it, which can be made later.
+/// What a plan finds, and no report of it, which can be made later. It costs no walk over the shown
+/// sessions for a part that stands still.
 pub fn draft(alloc: Global, spec: &Spec, hops: &[Hops], view: &View) -> Result<Draft, AllocError>
     requires hops { hops.now ≡ spec.now.models }
     requires models { has_models spec.now.models view.now ≡ true }
     ensures { IfOk result (λ draft. draft ≡ draft_of spec.now.models spec.now.rules view.now) }
 {
     let index = Index::of(alloc, view)?;
-    draft_on(alloc, spec, spec.models.as_slice(), hops, &index)
+    draft_on(alloc, spec, hops, &index)
 }
 
-/// The same by an index of the view and the models of the description.
+/// The same by an index of the view.
 fn draft_on(
     alloc: Global,
     spec: &Spec,
-    models: &[Model],
     hops: &[Hops],
     index: &Index<'_>,
 ) -> Result<Draft, AllocError>
-    requires hops { hops.now ≡ models.now }
-    requires models { has_models models.now index.now ≡ true }
-    ensures { IfOk result (λ draft. draft ≡ draft_of models.now spec.now.rules index.now) }
+    requires hops { hops.now ≡ spec.now.models }
+    requires models { has_models spec.now.models index.now ≡ true }
+    ensures { IfOk result (λ draft. draft ≡ draft_of spec.now.models spec.now.rules index.now) }
 {
-    let targets = all_targets(alloc, models, index)?;
-    let candidates = candidates(alloc, models, hops, index.view(), targets.as_slice())?;
+    let models = spec.models.as_slice();
+    let view = index.view();
+    let targets = moving_targets(alloc, models, index)?;
+    let candidates = candidates(alloc, models, hops, view, targets.as_slice())?;
     let selection = select_on(alloc, models, index.shown(), candidates.as_slice())?;
-    let throttled = throttle(alloc, spec, index.view(), selection.accepted.as_slice())?;
+    let throttled = throttle(alloc, spec, view, selection.accepted.as_slice())?;
     Ok(Draft {
-        targets,
+        models: spec.models.clone()?,
         selection,
         throttled,
     })
-}
-
-/// The targets of all resources, in order of number.
-fn all_targets(
-    alloc: Global,
-    models: &[Model],
-    index: &Index<'_>,
-) -> Result<Vec<Target>, AllocError>
-    ensures { IfOk result (λ found. found.items ≡ all_targets_of models.now index.now) }
-{
-    let count = number(index.view().ideals.resources.len())?;
-    let mut found = Vec::new(alloc);
-    for number in 0..count {
-        let more = targets_on(alloc, models, index, ResourceId(number))?;
-        found.extend_from_slice(more.as_slice())?;
-    }
-    Ok(found)
-}
-
-/// A number of 32 bits. A larger one is want of memory.
-fn number(n: usize) -> Result<u32, AllocError>
-    ensures { IfOk result (λ m. m ≡ n) }
-{
-    u32::try_from(n).map_err(|_| AllocError)
 }

@@ -10,6 +10,6 @@ pub loop-index-preserved : goal.loop-index-preserved
 loop-index-preserved c =
     let x = c.args.places.now in
     let at : ℕ → List Target = λ k. targets_at x.models x.view x.resource (record { resource = c.args.resource; index = k }) in
-    let pushed : c.push_targets.new.found.items ≡ c.loop-index.found.items ++ at c.loop-index.index =
-    subst (λ (s : Placing × PartId). c.push_targets.new.found.items ≡ c.loop-index.found.items ++ targets_at s.0.models s.0.view s.0.resource s.1) c.of-shown.ensures c.in_ok-push_targets.ensures in
+    let pushed : c.add_targets.new.found.items ≡ c.loop-index.found.items ++ at c.loop-index.index =
+    subst (λ (s : Placing × PartId). c.add_targets.new.found.items ≡ c.loop-index.found.items ++ targets_at s.0.models s.0.view s.0.resource s.1) c.of-shown.ensures c.in_ok-add_targets.ensures in
     pushed ∙ ap (λ (ts : List Target). ts ++ at c.loop-index.index) c.loop-index.invariant ∙ sym (flat_map-numbers_below_more at c.loop-index.index)

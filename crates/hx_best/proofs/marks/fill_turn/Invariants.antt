@@ -2,7 +2,7 @@ use Rattle.std.proofs.Common.{◌≡◌, ◌+◌, ◌*◌, ◌%◌, length, map}
 use Rattle.std.specs.Prelude.{slice_get}
 use Rattle.std.specs.List.{filter_map}
 use Rattle.hx_lists.specs.Lists.{numbers_below}
-use Rattle.hx_best.proofs.marks.in_turn.Given as goal
+use Rattle.hx_best.proofs.marks.fill_turn.Given as goal
 
 -- the instances so far
 abbrev pub invariant-loop-turn : goal.invariant-loop-turn

@@ -1,6 +1,6 @@
 use Rattle.std.proofs.Common.{◌∙◌, ◌+◌, ◌*◌, ◌%◌, ◌<◌, length, arith}
 use Rattle.hx_best.proofs.Marking.{turn_more}
-use Rattle.hx_best.proofs.marks.in_turn.Goals as goal
+use Rattle.hx_best.proofs.marks.fill_turn.Goals as goal
 
 pub loop-turn-preserved : goal.loop-turn-preserved
 loop-turn-preserved c =

@@ -2,7 +2,7 @@ use Rattle.std.proofs.Common.{ℕ, List, ◌++◌, ◌∙◌, ap, sym}
 use Rattle.hx_cluster.specs.declared.planning.Target.{Target}
 use Rattle.hx_best.specs.Targets.{targets}
 use Rattle.hx_best.proofs.Found.{flat_map-numbers_below_more}
-use Rattle.hx_pass.proofs.all_targets.Goals as goal
+use Rattle.hx_pass.proofs.targets.all_targets.Goals as goal
 
 pub loop-number-preserved : goal.loop-number-preserved
 loop-number-preserved c =

@@ -1,0 +1,105 @@
+//! The targets of the parts that don't stand still.
+ghost use Rattle.std.specs.Prelude.{◌≡◌, ◌++◌, Some, List, IfOk, OnOk};
+ghost use Rattle.hx_cluster.specs.declared.planning.Target.{Target};
+ghost use Rattle.hx_cluster.specs.Ends.{resource_at};
+ghost use Rattle.hx_best.specs.Targets.{targets_at, targets_in, all_targets};
+ghost use Rattle.hx_best.specs.Targets.{targets as targets_of};
+ghost use Rattle.hx_best.specs.Still.{HasMoving};
+
+use crate::lookups::Index;
+use crate::marks::{Mark, Shown, number};
+use crate::places::Places;
+use hx_cluster::Target;
+use hx_ids::{InstanceId, PartId, ResourceId};
+use hx_model::Model;
+use std::alloc::{AllocError, Global};
+
+/// What the parts of a resource share: a list of instances, and a table of marks.
+#[derive(Drop)]
+struct Room {
+    list: Vec<InstanceId>,
+    cells: Vec<Option<Mark>>,
+}
+
+impl Shown<'_> {
+    /// Adds the targets of the part, unless it stands still.
+    fn add_moving(
+        &self,
+        alloc: Global,
+        room: &mut Room,
+        found: &mut Vec<Target>,
+    ) -> Result<(), AllocError>
+        requires { resource_at self.now.0.view.ideals.resources self.now.1.resource
+            ≡ Some self.now.0.resource }
+        ensures { (all : List Target) → HasMoving self.now.0.models self.now.0.view all found.old.items
+            → OnOk result
+            (HasMoving self.now.0.models self.now.0.view
+            (all
+            ++ targets_at self.now.0.models self.now.0.view self.now.0.resource self.now.1)
+            found.new.items) }
+    {
+        if self.is_still(&mut room.list)? {
+            return Ok(());
+        }
+        self.add_targets(alloc, &mut room.cells, found)
+    }
+}
+
+/// Those of a resource's targets.
+fn moving_of(
+    alloc: Global,
+    places: &Places<'_>,
+    resource: ResourceId,
+) -> Result<Vec<Target>, AllocError>
+    requires { resource_at places.now.view.ideals.resources resource ≡ Some places.now.resource }
+    ensures { IfOk result (λ found.
+        HasMoving places.now.models places.now.view
+        (targets_in places.now.models places.now.view resource places.now.resource)
+        found.items) }
+{
+    let mut found = Vec::new(alloc);
+    let mut room = Room {
+        list: Vec::new(alloc),
+        cells: Vec::new(alloc),
+    };
+    for index in 0..places.resource().ideal.parts() {
+        let shown = Shown::of(&*places, PartId { resource, index });
+        shown.add_moving(alloc, &mut room, &mut found)?;
+    }
+    Ok(found)
+}
+
+fn moving_on(
+    alloc: Global,
+    models: &[Model],
+    index: &Index<'_>,
+    resource: ResourceId,
+) -> Result<Vec<Target>, AllocError>
+    ensures { IfOk result (λ found.
+        HasMoving models.now index.now (targets_of models.now index.now resource) found.items) }
+{
+    match index.view().ideals.resources.get(resource.0 as usize) {
+        Some(shown) => moving_of(alloc, &Places::of(alloc, &*index, models, shown)?, resource),
+        None => Ok(Vec::new(alloc)),
+    }
+}
+
+/// The targets of all resources, in order of number, but for parts of which each target is at its
+/// goal. A part that stands still costs no walk over the shown sessions. More than 4,294,967,295
+/// resources are want of memory.
+pub fn moving_targets(
+    alloc: Global,
+    models: &[Model],
+    index: &Index<'_>,
+) -> Result<Vec<Target>, AllocError>
+    ensures { IfOk result (λ found.
+        HasMoving models.now index.now (all_targets models.now index.now) found.items) }
+{
+    let count = number(index.view().ideals.resources.len())?;
+    let mut found = Vec::new(alloc);
+    for number in 0..count {
+        let more = moving_on(alloc, models, index, ResourceId(number))?;
+        found.extend_from_slice(more.as_slice())?;
+    }
+    Ok(found)
+}
