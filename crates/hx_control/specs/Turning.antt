@@ -3,6 +3,7 @@ use Rattle.std.specs.Prelude.{ℕ, ◌-◌, ◌<◌, ◌^◌, List, [], ◌∷�
 use Rattle.hx_ids.specs.declared.SessionId.{SessionId}
 use Rattle.hx_ids.specs.declared.InstanceId.{InstanceId}
 use Rattle.hx_cluster.specs.declared.planning.Plan.{Plan}
+use Rattle.hx_formed.specs.Formed.{IsFound}
 use Rattle.hx_pass.specs.Drafts.{finished}
 use Rattle.hx_pass.specs.Turns.{Call, Live, Mail, States, Ideals, Send, Post}
 use Rattle.hx_control.specs.declared.controller.Next.{Next}
@@ -62,3 +63,4 @@ IsLeft _ sessions = Unit {0}
 pub record IsTurn (a : Inside) : Type 0 where
   pub left : IsLeft a.next (length a.view.live)
   pub few : length a.view.live < 2 ^ 32
+  pub formed : IsFound a.formed a.view

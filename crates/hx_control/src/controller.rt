@@ -9,6 +9,7 @@ ghost use Rattle.hx_pass.specs.Turns.{idle_turn};
 
 use crate::Stage;
 use hx_cluster::{Begun, Ideals, View};
+use hx_formed::Formed;
 use hx_ids::{ControllerId, Epoch, PassNo};
 use hx_lists::Seq;
 use hx_pass::Draft;
@@ -69,6 +70,17 @@ fn shows_nothing(view: &View) -> bool
         && view.ideals.resets.is_empty()
 }
 
+/// The numbers of no turn.
+fn not_begun() -> Begun
+    ensures { result ≡ idle_turn.begun }
+{
+    Begun {
+        epoch: Epoch(0),
+        pass: PassNo(0),
+        change: 0,
+    }
+}
+
 /// Whether no turn has begun.
 fn is_unbegun(begun: Begun) -> bool
     ensures { IsTrue result ↔ (begun ≡ idle_turn.begun) }
@@ -84,13 +96,15 @@ fn is_first(next: Next) -> bool
 }
 
 /// A controller with its turn. Contracts see its number, the turn, and the plan where it was made:
-/// what is kept of it is a draft, of which the report is made only where it is told.
+/// what is kept of it is a draft, of which the report is made only where it is told. That what it
+/// was shown is well formed is found with the plan, and kept to the end of the turn.
 #[derive(Drop)]
 pub struct Controller {
     pub(crate) id: ControllerId,
     pub(crate) next: Next,
     pub(crate) begun: Begun,
     pub(crate) view: View,
+    pub(crate) formed: Formed,
     pub(crate) draft: Option<Draft>,
 }
 
@@ -113,12 +127,9 @@ impl Controller {
         Controller {
             id: c,
             next: Next::Begin,
-            begun: Begun {
-                epoch: Epoch(0),
-                pass: PassNo(0),
-                change: 0,
-            },
+            begun: not_begun(),
             view: nothing_shown(alloc),
+            formed: Formed::new(alloc),
             draft: None,
         }
     }
@@ -199,6 +210,10 @@ impl Controller {
     pub fn restart(&mut self)
         ensures { self.new ≡ idle_controller self.old.id }
     {
-        *self = Controller::new(self.view.live.allocator(), self.id);
+        self.next = Next::Begin;
+        self.begun = not_begun();
+        self.view = nothing_shown(self.view.live.allocator());
+        self.formed.forget();
+        self.draft = None;
     }
 }

@@ -52,6 +52,7 @@ impl Controller {
         self.next = Next::Live;
         self.begun = begun;
         self.view = nothing_shown(self.view.live.allocator());
+        self.formed.forget();
         self.draft = None;
         Ok(None)
     }
@@ -71,6 +72,7 @@ impl Controller {
         let live = board.read_live(self.id, self.begun.pass)?;
         self.next = mail_at(0, live.len());
         self.view.live = Seq::from_vec(live);
+        self.formed.forget();
         self.draft = None;
         Ok(None)
     }
@@ -90,6 +92,7 @@ impl Controller {
         let session = self.view.live.as_slice()[place as usize].0;
         board.read_mail_into(self.id, self.begun.pass, session, &mut self.view.mail)?;
         self.next = mail_at(place + 1, self.view.live.len());
+        self.formed.forget();
         self.draft = None;
         Ok(None)
     }
@@ -109,6 +112,7 @@ impl Controller {
         let session = self.view.live.as_slice()[place as usize].0;
         board.read_states_into(self.id, self.begun.pass, session, &mut self.view.rows)?;
         self.next = states_at(place + 1, self.view.live.len());
+        self.formed.forget();
         self.draft = None;
         Ok(None)
     }
@@ -126,6 +130,7 @@ impl Controller {
         let ideals = board.read_ideals(self.id, self.begun.pass)?;
         self.next = Next::Send;
         self.view.ideals = ideals;
+        self.formed.forget();
         self.draft = None;
         Ok(None)
     }

@@ -14,13 +14,13 @@ ghost use Rattle.hx_control.specs.Drafted.{IsToSend, IsDispatched};
 ghost use Rattle.hx_control.specs.Made.{Tries, step_fault};
 
 use crate::controller::Next;
-use crate::views::{is_of_board, posted};
+use crate::views::is_of_board;
 use crate::{ControlFault, Controller, PassOutcome};
 use hx_board::Board;
 use hx_cluster::{Dispatched, Placed, Plan, Report, Spec};
 use hx_hops::Hops;
 use hx_lists::Seq;
-use hx_pass::{Draft, draft};
+use hx_pass::{Draft, draft, posted};
 use std::alloc::AllocError;
 
 fn is_sent(placed: &Placed) -> bool
@@ -79,9 +79,12 @@ impl Controller {
             self.new result }
     {
         let alloc = self.view.live.allocator();
-        if !is_of_board(alloc, spec, board, &self.view)? {
+        if !is_of_board(alloc, spec, board, &self.view, &self.formed)? {
             return Err(ControlFault::OtherBoard);
         }
+        let instances = spec.instances.len() as usize;
+        self.formed
+            .keep(spec.models.as_slice(), instances, &self.view)?;
         self.draft = Some(draft(alloc, spec, hops, &self.view)?);
         Ok(None)
     }
@@ -134,7 +137,8 @@ impl Controller {
         if plan.proposals.len() > most || self.view.mail.len() > most {
             return Err(ControlFault::OutOfMemory);
         }
-        if !is_of_board(self.view.live.allocator(), spec, board, &self.view)? {
+        let alloc = self.view.live.allocator();
+        if !is_of_board(alloc, spec, board, &self.view, &self.formed)? {
             return Err(ControlFault::OtherBoard);
         }
         let proposals = plan.proposals.as_slice();
@@ -211,7 +215,7 @@ impl Controller {
             self.new result }
     {
         let alloc = self.view.live.allocator();
-        if !is_of_board(alloc, spec, board, &self.view)? {
+        if !is_of_board(alloc, spec, board, &self.view, &self.formed)? {
             return Err(ControlFault::OtherBoard);
         }
         let rows = posted(alloc, &self.view)?;

@@ -1,2 +1,5 @@
+pub mod Alike
 pub mod Counted
+pub mod Live
+pub mod Placed
 pub mod Read

@@ -1,2 +1,4 @@
-pub mod Kept
+pub mod Formed
+pub mod Places
 pub mod Reads
+pub mod Sessions

@@ -1,6 +1,7 @@
 use Rattle.std.proofs.Common.{◌≡◌, ℕ, length, sym, ap, ◌∙◌, subst, arith}
 use Rattle.std.proofs.lemmas.Grind.{common_steps}
 use Rattle.hx_cluster.specs.Reads.{live_shown}
+use Rattle.hx_formed.proofs.Alike.{forgotten}
 use Rattle.hx_control.specs.Turning.{IsLeft}
 use Rattle.hx_control.proofs.Few.{few_live}
 use Rattle.hx_control.proofs.Going.{live_done, all_left}
@@ -13,6 +14,7 @@ invariant_of-self c =
     record {
       left = subst (λ (n : ℕ). IsLeft c.mail_at-self-inside.result n) (sym long) c.mail_at-self-inside.ensures.left;
       few = omega (arith, shown, few_live c.args.board.now c.history.ensures.history);
+      formed = forgotten c.forget.new.self _ c.forget.ensures;
     }
 
 pub returns : goal.returns

@@ -1,0 +1,125 @@
+//! Whether rows are good ones.
+ghost use Rattle.std.specs.Prelude.{◌≡◌, ◌&&◌, ◌==◌, ◌||◌, not, true, false, None, Some, nat_lt};
+ghost use Rattle.std.specs.Prelude.{MatchOption, IfOk};
+ghost use Rattle.std.specs.List.{list_all};
+ghost use Rattle.hx_lists.specs.Lists.{count};
+ghost use Rattle.hx_cluster.specs.Ends.{is_row};
+ghost use Rattle.hx_cluster.specs.Views.{is_good_row};
+ghost use Rattle.hx_parts.specs.Parts.{HasSameAt};
+ghost use Rattle.hx_formed.specs.Reads.{first_part, is_row_there, behind, are_read};
+ghost use Rattle.hx_formed.specs.Sessions.{are_distinct};
+
+use crate::places::Place;
+use crate::{is_good_part, is_good_state};
+use hx_cluster::{Resource, Row, View};
+use hx_ids::{InstanceId, PartId, SessionId};
+use hx_model::Model;
+use hx_parts::ByPart;
+use std::alloc::{AllocError, Global};
+
+/// What stands behind the rows of a session at the front, where those rise in part and are in
+/// place.
+fn behind<'a>(
+    models: &[Model],
+    resources: &[Resource],
+    session: SessionId,
+    rows: &'a [Row],
+) -> Option<&'a [Row]>
+    ensures { let after = behind (λ (r : Row). r.session) (λ (r : Row). r.part)
+        (is_row_there models.now resources.now) session first_part rows.now in
+        MatchOption result (after ≡ None) (λ rest. after ≡ Some rest.now) }
+{
+    let mut at = Place::first(models, resources);
+    for (place, row) in rows.iter().enumerate() {
+        if row.session != session {
+            return Some(&rows[place..]);
+        }
+        at = at.next(models, resources, row.part, row.state)?;
+    }
+    Some(&rows[rows.len()..])
+}
+
+/// Whether rows are those of these sessions one after another, which rise in part and are in
+/// place.
+#[tactic(auto, using(crate::proofs::Read::nothing_read, crate::proofs::Read::all_read))]
+fn are_of(
+    models: &[Model],
+    resources: &[Resource],
+    live: &[(SessionId, InstanceId)],
+    rows: &[Row],
+) -> bool
+    ensures { result
+        ≡ are_read (λ (r : Row). r.session) (λ (r : Row). r.part)
+        (is_row_there models.now resources.now) live.now (Some rows.now) }
+{
+    let mut rest = rows;
+    for shown in live {
+        match behind(models, resources, shown.0, rest) {
+            Some(behind) => rest = behind,
+            None => return false,
+        }
+    }
+    rest.is_empty()
+}
+
+/// Whether the rows are those of the live sessions one after another, which rise in part and are
+/// in place.
+fn are_read(models: &[Model], view: &View) -> bool
+    ensures { result
+        ≡ are_read (λ (r : Row). r.session) (λ (r : Row). r.part)
+        (is_row_there models.now view.now.ideals.resources) view.now.live
+        (Some view.now.rows) }
+{
+    let resources = view.ideals.resources.as_slice();
+    are_of(
+        models,
+        resources,
+        view.live.as_slice(),
+        view.rows.as_slice(),
+    )
+}
+
+fn rows_on(rows: &[Row], session: SessionId, part: PartId) -> usize
+    ensures { result ≡ count (is_row session part) rows.now }
+{
+    rows.iter().filter(|r| r.is_of(session, part)).count()
+}
+
+/// How many rows a session has of a part.
+#[tactic(auto, using(crate::proofs::Counted::rows_counted))]
+fn rows_of(rows: &[Row], kept: &ByPart<Row>, session: SessionId, part: PartId) -> usize
+    requires { HasSameAt (λ (r : Row). r.part) rows.now kept.now }
+    ensures { result ≡ count (is_row session part) rows.now }
+{
+    rows_on(kept.at(part), session, part)
+}
+
+fn is_good_row(models: &[Model], view: &View, kept: &ByPart<Row>, row: &Row) -> bool
+    requires { HasSameAt (λ (r : Row). r.part) view.now.rows kept.now }
+    ensures { result ≡ is_good_row models.now view.now row.now }
+{
+    is_good_part(view, row.session, row.part)
+        && is_good_state(models, view, row.part, row.state)
+        && rows_of(view.rows.as_slice(), kept, row.session, row.part) == 1
+}
+
+fn are_good_rows(models: &[Model], view: &View, kept: &ByPart<Row>) -> bool
+    requires { HasSameAt (λ (r : Row). r.part) view.now.rows kept.now }
+    ensures { result ≡ list_all (is_good_row models.now view.now) view.now.rows }
+{
+    let mut rows = view.rows.iter();
+    rows.all(|r| is_good_row(models, view, kept, r))
+}
+
+/// Whether each row is a good one. For good rows that stand as they are read it takes no memory.
+#[tactic(auto, using(crate::proofs::Read::rows_good))]
+pub fn has_good_rows(alloc: Global, models: &[Model], view: &View) -> Result<bool, AllocError>
+    requires { are_distinct view.now.live ≡ true }
+    ensures { IfOk result (λ is. is ≡ list_all (is_good_row models.now view.now) view.now.rows) }
+{
+    if are_read(models, view) {
+        return Ok(true);
+    }
+    let kept = ByPart::new(alloc, view.rows.as_slice())?;
+    Ok(are_good_rows(models, view, &kept))
+}
