@@ -2,7 +2,7 @@
 ghost use Rattle.std.specs.Prelude.{◌≡◌, find};
 ghost use Rattle.hx_script.specs.Logs.{log_verb_name, is_log_verb, log_verb_of};
 
-use hx_script::{LogVerb, ScriptKind};
+use hx_script::{LogVerb, ScriptKind, same_word};
 
 const VERBS: [LogVerb; 26] = [
     LogVerb::Line,
@@ -71,7 +71,7 @@ fn verb_name(verb: LogVerb) -> &'static str
 fn is_written(verb: LogVerb, word: &str) -> bool
     ensures { result ≡ is_log_verb word.now verb }
 {
-    verb_name(verb) == word
+    same_word(verb_name(verb), word)
 }
 
 /// The first of some verbs that a log writes so.

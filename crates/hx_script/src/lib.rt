@@ -21,7 +21,7 @@ pub use log::{LogEntry, LogLine, LogMove, LogPart, LogVerb, Sort};
 pub use modes::{mode_number, mode_numbered};
 pub use parsing::parse;
 pub use printing::{print_line, printed_lines_are_read_again};
-pub use verbs::Verb;
+pub use verbs::{Verb, same_word};
 pub use words::{
     controller_word, instance_word, mode_word, model_word, number_word, numbered_by, place_after,
     small_number_word, state_word,

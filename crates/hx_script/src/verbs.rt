@@ -1,5 +1,6 @@
 //! The words that begin a script line.
 ghost use Rattle.std.specs.Prelude.{◌≡◌, find};
+ghost use Rattle.std.specs.Str.{bytes_eq};
 ghost use Rattle.hx_script.specs.Grammar.{verb_name, is_verb, verb_of};
 
 use crate::faults::ScriptKind;
@@ -115,7 +116,7 @@ impl Verb {
     fn is(self, word: &str) -> bool
         ensures { result ≡ is_verb word.now self }
     {
-        self.name() == word
+        same_word(self.name(), word)
     }
 
     /// The verb that a script writes so.
@@ -123,6 +124,16 @@ impl Verb {
         ensures { result ≡ verb_of word.now }
     {
         verb_among(&VERBS, word).ok_or(ScriptKind::UnknownWord)
+    }
+}
+
+/// Whether words are the same. Most that aren't differ in their first bytes.
+pub fn same_word(a: &str, b: &str) -> bool
+    ensures { result ≡ bytes_eq a.now b.now }
+{
+    match (a.as_bytes(), b.as_bytes()) {
+        ([x, ..], [y, ..]) if x != y => false,
+        _ => a == b,
     }
 }
 
