@@ -10,11 +10,11 @@ ghost use Rattle.hx_check.specs.Answers;
 ghost use Rattle.hx_check.specs.Judge.{same_proposal};
 ghost use Rattle.hx_check.specs.Judging.{is_told, IsBareIdeal};
 
-use crate::turns::instance_or_first;
 use hx_cluster::{Did, Placed, Proposal, Seen};
 use hx_ideal::{Ideal, MOST_PARTS, MOST_REPLICAS, Mode, ModeKind};
 use hx_ids::{Epoch, InstanceId, PartId, ResourceId, SessionId};
 use hx_lists::Seq;
+use hx_pass::instance_or_first;
 use hx_records::Records;
 use hx_script::{LogMove, LogPart, mode_numbered};
 use std::alloc::{AllocError, Global};

@@ -20,9 +20,7 @@ use crate::answers::{
 };
 use crate::marks::{is_marked, mark};
 use crate::replayed::Replayed;
-use crate::turns::{
-    Call, Read, Turn, begin_turn, end_turn, go_on_turn, idle_turns, posted, read_turn,
-};
+use crate::turns::{Call, Read, Turn, begin_turn, end_turn, go_on_turn, idle_turns, read_turn};
 use hx_cluster::{Admin, Begun, Outcome, Seen, Spec};
 use hx_gen::hops_of;
 use hx_hops::Hops;
@@ -31,7 +29,7 @@ use hx_ids::{
     ControllerId, Epoch, InstanceId, ModelId, MsgId, PassNo, ResourceId, SessionId, StateId,
 };
 use hx_lists::Seq;
-use hx_pass::plan;
+use hx_pass::{draft, posted};
 use hx_records::Records;
 use hx_script::{LogEntry, LogMove, LogPart};
 use std::alloc::{AllocError, Global};
@@ -487,8 +485,9 @@ impl Judge {
         if !turn.is_sending(pass, epoch) {
             return Ok(Some(Cause::Order));
         }
-        let planned = plan(self.alloc, spec, self.hops.as_slice(), turn.view())?;
-        if !are_planned(moves, planned.proposals.as_slice()) {
+        let draft = draft(self.alloc, spec, self.hops.as_slice(), turn.view())?;
+        let planned = draft.proposals(self.alloc)?;
+        if !are_planned(moves, planned.as_slice()) {
             return Ok(Some(Cause::Plan));
         }
         go_on_turn(&mut self.turns, c);

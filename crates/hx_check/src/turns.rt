@@ -1,13 +1,12 @@
 //! A controller's turn, as a log tells it: the calls that are left, and what its reads showed.
-ghost use Rattle.std.specs.Prelude.{◌≡◌, ◌<◌, map, length, replicate, unwrap_or, slice_set};
+ghost use Rattle.std.specs.Prelude.{◌≡◌, ◌<◌, map, length, replicate, slice_set};
 ghost use Rattle.std.specs.Prelude.{slice_index_or, IfOk, OnOk, OnErr, ◌&&◌};
-ghost use Rattle.hx_cluster.specs.Ends.{instance_in};
 ghost use Rattle.hx_cluster.specs.Reads.{nothing_shown as nothing_shown_of};
 ghost use Rattle.hx_pass.specs.Turns;
 ghost use Rattle.hx_records.specs.Reached.{IsReached};
 ghost use Rattle.hx_check.specs.Judging.{call_told, read_on, sent_on};
 
-use hx_cluster::{Begun, Ideals, Row, Seen, View};
+use hx_cluster::{Begun, Ideals, View};
 use hx_ids::{ControllerId, Epoch, InstanceId, PassNo, SessionId};
 use hx_lists::Seq;
 use hx_records::Records;
@@ -81,46 +80,6 @@ fn calls_after_live(
     calls.push(Call::Send)?;
     calls.push(Call::Post)?;
     Ok(calls)
-}
-
-/// The instance of a session among some.
-fn instance_of(live: &[(SessionId, InstanceId)], session: SessionId) -> Option<InstanceId>
-    ensures { result ≡ instance_in live.now session }
-{
-    live.iter().find(|e| e.0 == session).map(|e| e.1)
-}
-
-/// The instance of a session among some, or the first instance.
-pub(crate) fn instance_or_first(live: &[(SessionId, InstanceId)], session: SessionId) -> InstanceId
-    ensures { result ≡ unwrap_or (instance_in live.now session) (record { 0 = 0 }) }
-{
-    instance_of(live, session).unwrap_or(InstanceId(0))
-}
-
-/// A row with its instance.
-fn seen(view: &View, row: &Row) -> Seen
-    ensures { result ≡ Turns.seen_of view.now row.now }
-{
-    Seen {
-        instance: instance_or_first(view.live.as_slice(), row.session),
-        part: row.part,
-        state: row.state,
-    }
-}
-
-fn rows_seen(alloc: Global, view: &View) -> Result<Vec<Seen>, AllocError>
-    ensures { IfOk result (λ rows. rows.items ≡ map (Turns.seen_of view.now) view.now.rows) }
-{
-    view.rows.iter().map(|row| seen(view, row)).collect(alloc)
-}
-
-/// The rows that were shown, with their instances, by part, then instance.
-pub(crate) fn posted(alloc: Global, view: &View) -> Result<Vec<Seen>, AllocError>
-    ensures { IfOk result (λ rows. rows.items ≡ Turns.posted_of view.now) }
-{
-    let mut rows = rows_seen(alloc, view)?;
-    rows.sort_by_key(|row| (row.part, row.instance))?;
-    Ok(rows)
 }
 
 /// A turn. The calls before `done` were made.
@@ -251,8 +210,7 @@ impl Turn {
         ensures ok { OnOk result (self.new ≡ read_on records.now self.old (Read.Mail session)) }
         ensures err { OnErr result (self.new ≡ self.old) }
     {
-        let mail = records.read_mail(session)?;
-        self.view.mail.extend_from_slice(mail.as_slice())?;
+        records.read_mail_into(session, &mut self.view.mail)?;
         self.go_on();
         Ok(())
     }
@@ -262,8 +220,7 @@ impl Turn {
         ensures ok { OnOk result (self.new ≡ read_on records.now self.old (Read.States session)) }
         ensures err { OnErr result (self.new ≡ self.old) }
     {
-        let rows = records.read_states(session)?;
-        self.view.rows.extend_from_slice(rows.as_slice())?;
+        records.read_states_into(session, &mut self.view.rows)?;
         self.go_on();
         Ok(())
     }
