@@ -3,6 +3,7 @@ use std::alloc::Global;
 use std::test::Fail;
 
 mod histories;
+mod logs;
 mod printing;
 mod scripts;
 

@@ -16,6 +16,9 @@ fn answer_to(alloc: Global, log: &[&str]) -> Result<Answered, AllocError> {
     for part in log {
         input.push_str(part)?;
     }
+    if input.len() > 10_000 {
+        return Err(AllocError);
+    }
     let reply = judged(alloc, input.as_bytes())?;
     let text = Vec::from_slice(alloc, reply.text.as_bytes())?;
     Ok(Answered {

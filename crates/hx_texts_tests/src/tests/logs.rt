@@ -1,0 +1,63 @@
+use super::small_spec;
+use hx_cluster::Spec;
+use hx_logs::read_log;
+use hx_script::LogLine;
+use hx_text::split_lines;
+use std::alloc::{AllocError, Global};
+use std::test::Fail;
+
+/// What the lines of a short log are read as.
+fn read(alloc: Global, spec: &mut Spec, text: &str) -> Result<Vec<LogLine>, AllocError> {
+    let bytes = text.as_bytes();
+    let is_small = bytes.len() < 10_000
+        && spec.model_names.len() <= 256
+        && spec.states.len() <= 256
+        && spec.resource_names.len() < 10_000;
+    if !is_small {
+        return Err(AllocError);
+    }
+    match split_lines(alloc, bytes, 16_384) {
+        Ok(lines) if lines.len() < 10_000 => read_log(alloc, &lines, spec),
+        _ => Err(AllocError),
+    }
+}
+
+const LOG: &str = "! 1 refused
+line 1
+join n1 s1
+
+tick 31
+  end n1 s1
+join n9 s2
+add log#2 MasterSlave 1 1 FULL_AUTO
+drop log#2
+? c1 settled
+leads c1 e1
+";
+
+/// The lines of a log, each with whether it has an entry.
+fn told(alloc: Global, log: &[LogLine]) -> Result<Vec<(u32, bool)>, AllocError> {
+    log.iter()
+        .map(|told| (told.line, told.entry.is_some()))
+        .collect(alloc)
+}
+
+#[test]
+fn lines_are_entries_or_none(rt: HostRuntime) -> Result<(), Fail> {
+    let mut spec = small_spec(rt.alloc())?;
+    let log = read(rt.alloc(), &mut spec, LOG)?;
+    let want = [
+        (2, true),
+        (3, true),
+        (5, true),
+        (7, false),
+        (8, true),
+        (9, true),
+        (11, false),
+    ];
+    assert_eq!(rt;
+        told(rt.alloc(), log.as_slice())?.as_slice(),
+        want.as_slice()
+    );
+    Ok(())
+}
