@@ -15,7 +15,7 @@ use Rattle.hx_safe.proofs.Weighing.{reached_weighed}
 use Rattle.hx_board.specs.Board.{Held, HasHistory, weight_at}
 use Rattle.hx_control.proofs.Given.{instances_given}
 use Rattle.hx_worlds.specs.Summaries.{joined_in, sent_in}
-use Rattle.hx_agree.proofs.Counted.{Rises, counted}
+use Rattle.hx_worlds.proofs.Counted.{Rises, counted}
 
 fixed : (c : Cluster) (h : List Event) → IsFixed c (replay c h)
 fixed c [] = fixed_self c

@@ -3,7 +3,6 @@ pub mod Lists
 pub mod Places
 pub mod Live
 pub mod Settling
-pub mod Counted
 pub mod Boards
 pub mod Whole
 mod Examples

@@ -3,7 +3,6 @@ pub mod Slots
 pub mod Lent
 pub mod Placed
 pub mod Agreeing
-pub mod Counted
 pub mod Worlds
 pub mod Frames
 pub mod Quiet

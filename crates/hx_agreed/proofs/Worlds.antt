@@ -22,7 +22,7 @@ use Rattle.hx_safe.proofs.Whole.{reached_safe}
 use Rattle.hx_scripted.specs.OfHistory.{IsTurnOf, IsOfItsHistory}
 use Rattle.hx_agreed.specs.InStep.{AreInStep, IsInStep}
 use Rattle.hx_agreed.proofs.Agreeing.{agreed}
-use Rattle.hx_agreed.proofs.Counted.{counted}
+use Rattle.hx_worlds.proofs.Counted.{counted}
 
 -- controllers and participants at their places
 ids_listed : (a n : ℕ) (ks : List Controller) → length ks ≡ n

@@ -1,3 +1,4 @@
 pub mod Brought
 pub mod BroughtByTurns
 pub mod BroughtByLines
+pub mod Counted
