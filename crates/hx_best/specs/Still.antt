@@ -27,7 +27,7 @@ is_at_goal m t = is_there m t.state t.goal
 abbrev pub is_done : List ModelParts → View → Target → Bool
 is_done models view t = is_at_goal (model_of models view.ideals.resources t.part.resource) t
 
--- some of the targets in their order: each that isn't at its goal, and no others than these targets
+-- each target that isn't at its goal, in their order, and beside these only targets of the list
 pub record HasMoving (models : List ModelParts) (view : View) (all found : List Target) : Type 0 where
   pub moving : filter (λ t. not (is_done models view t)) found ≡ filter (λ t. not (is_done models view t)) all
   pub among : (q : Target → Bool) → list_all q all ≡ true → list_all q found ≡ true

@@ -84,9 +84,8 @@ fn moving_on(
     }
 }
 
-/// The targets of all resources, in order of number, but for parts of which each target is at its
-/// goal. A part that stands still costs no walk over the shown sessions. More than 4,294,967,295
-/// resources are want of memory.
+/// The targets of all resources, in order of number, but for parts that are found to stand still.
+/// These cost no walk over the shown sessions. More than 4,294,967,295 resources are want of memory.
 pub fn moving_targets(
     alloc: Global,
     models: &[Model],

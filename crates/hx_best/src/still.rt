@@ -136,8 +136,9 @@ impl Shown<'_> {
         self.has_all_rows(met)
     }
 
-    /// Whether each target of the part is at its goal. For what is unusual it may say no where it
-    /// is so. The list is for instances in turn; what it has doesn't matter.
+    /// Whether each target of the part is at its goal. It may say no where it is so: for 64 rows or
+    /// more, where a session or an instance is shown twice, and for an ERROR where none is wanted.
+    /// The list is for instances in turn; what it has doesn't matter.
     pub fn is_still(&self, list: &mut Vec<InstanceId>) -> Result<bool, AllocError>
         ensures { IfOk result (λ still.
             still ≡ true

@@ -13,7 +13,7 @@ use std::alloc::{AllocError, Global};
 use std::marker;
 
 /// With which states of models, and with how many instances, a view was found well formed; or that
-/// it wasn't. Contracts see those, or none. The states are kept when a finding is forgotten, since
+/// nothing was found. Contracts see those, or none. The states are kept when a finding is forgotten, since
 /// the next view is mostly of the same ones.
 #[derive(Debug, Drop)]
 pub struct Formed {
@@ -115,7 +115,7 @@ impl Formed {
         is_well_formed(alloc, models, instances, view)
     }
 
-    /// Keeps what was found of a view.
+    /// Keeps that a view is well formed.
     #[tactic(auto, using(crate::proofs::Alike::found))]
     pub fn keep(
         &mut self,

@@ -39,7 +39,7 @@ pub fn plan(alloc: Global, spec: &Spec, hops: &[Hops], view: &View) -> Result<Pl
 }
 
 /// What a plan finds, and no report of it, which can be made later. It costs no walk over the shown
-/// sessions for a part that stands still.
+/// sessions for a part that is found to stand still.
 pub fn draft(alloc: Global, spec: &Spec, hops: &[Hops], view: &View) -> Result<Draft, AllocError>
     requires hops { hops.now ≡ spec.now.models }
     requires models { has_models spec.now.models view.now ≡ true }
