@@ -124,6 +124,7 @@ impl Formed {
         view: &View,
     ) -> Result<(), AllocError>
         requires { is_well_formed models.now instances view.now ≡ true }
+        ensures kept { OnOk result (self.new ≡ Some (setting_of models.now instances)) }
         ensures found { OnOk result (IsFound self.new view.now) }
         ensures err { OnErr result (self.new ≡ self.old) }
     {
