@@ -35,6 +35,7 @@ use Rattle.hx_cluster.specs.Room.{half, HasRoom}
 use Rattle.hx_safe.specs.Weighed.{IsWeighed}
 use Rattle.hx_cluster.specs.Ranged.{IsRanged}
 use Rattle.hx_cluster.specs.Valid.{is_within, IsValid}
+use Rattle.hx_same.proofs.Front.{take-get}
 use Rattle.hx_safe.specs.Ordered.{rises}
 use Rattle.hx_safe.proofs.Counting.{all-le}
 use Rattle.hx_safe.proofs.Whole.{reached_ranged}
@@ -400,11 +401,6 @@ drop-get : {X : Type 0} (xs : List X) (k : ℕ) (x : X) → slice_get xs k ≡ S
 drop-get [] k x e = cc
 drop-get (y ∷ xs) zero x e = grind (arith, e)
 drop-get (y ∷ xs) (suc k) x e = grind (arith, drop-get xs k x e)
-
-pub take-get : {X : Type 0} (xs : List X) (k : ℕ) (x : X) → slice_get xs k ≡ Some x → take (k + 1) xs ≡ take k xs ++ x ∷ []
-take-get [] k x e = cc
-take-get (y ∷ xs) zero x e = grind (arith, e)
-take-get (y ∷ xs) (suc k) x e = grind (arith, take-get xs k x e)
 
 tail-same : {X : Type 0} {x y : X} {xs ys : List X} → x ∷ xs ≡ y ∷ ys → xs ≡ ys
 tail-same {X} {x} {y} {xs} {ys} e = ap rest e

@@ -9,6 +9,7 @@ ghost use Rattle.hx_board.specs.Refusals.{begin_refusal, read_refusal};
 
 use crate::board::{Board, make_room, record};
 use crate::faults::{BeginFault, ReadRefusal};
+use hx_calls::no_ideals;
 use hx_cluster::{Begun, Event, Ideals, Message, Row};
 use hx_ids::{ControllerId, InstanceId, PassNo, SessionId};
 use hx_lists::Seq;
@@ -171,11 +172,29 @@ impl Board {
         ensures ok { OnOk result (self.new ≡ happened self.old (Event.Ideals c pass)) }
         ensures err { OnErr result (self.new ≡ self.old) }
     {
+        let kept = no_ideals(*self.lines.allocator());
+        self.read_ideals_over(c, pass, kept)
+    }
+
+    /// The resources, the drained instances and the reset flags. What `kept` has in the same place
+    /// is kept, and takes no memory; the rest is copied.
+    pub fn read_ideals_over(
+        &mut self,
+        c: ControllerId,
+        pass: PassNo,
+        kept: Ideals,
+    ) -> Result<Ideals, ReadRefusal>
+        requires { has_controller self.old.cluster c ≡ true }
+        ensures refused { RefusedBy ReadRefusal.OutOfMemory (read_refusal self.old c pass) result }
+        ensures shown { IfOk result (λ ideals. ideals ≡ ideals_shown self.old.cluster) }
+        ensures ok { OnOk result (self.new ≡ happened self.old (Event.Ideals c pass)) }
+        ensures err { OnErr result (self.new ≡ self.old) }
+    {
         if let Some(fault) = self.read_fault(c, pass) {
             return Err(fault);
         }
         make_room(&mut self.history, self.owed, 1)?;
-        let ideals = self.records.read_ideals()?;
+        let ideals = self.records.read_ideals_over(kept)?;
         record(&mut self.history, Event::Ideals(c, pass));
         self.weight += 1;
         Ok(ideals)

@@ -1,12 +1,14 @@
 //! What a controller is shown, and what a participant fetches.
-ghost use Rattle.std.specs.Prelude.{◌≡◌, ℕ, nat_lt, length, IfOk, OnOk};
+ghost use Rattle.std.specs.Prelude.{◌≡◌, ℕ, ◌+◌, ◌<◌, ◌≤◌, nat_lt, [], ◌∷◌, ◌++◌, length, take};
+ghost use Rattle.std.specs.Prelude.{IfOk, OnOk};
 ghost use Rattle.hx_lists.specs.Lists.{insert_by};
 ghost use Rattle.hx_cluster.specs.Reads.{instance_before, live_shown, mail_shown, states_shown};
 ghost use Rattle.hx_cluster.specs.Reads.{ideals_shown, fetched};
 
-use hx_cluster::{Cluster, Ideals, Mail, Message, Row};
+use hx_cluster::{Cluster, Ideals, Mail, Message, Resource, Row};
 use hx_ids::{InstanceId, SessionId};
 use hx_lists::{Seq, insert_reserved};
+use hx_same::{Same, all_same};
 use std::alloc::AllocError;
 
 /// The live sessions with their instances, by instance.
@@ -57,6 +59,58 @@ pub fn read_ideals(cluster: &Cluster) -> Result<Ideals, AllocError>
         drained: cluster.instances.clone()?,
         resets: cluster.resets.clone()?,
     })
+}
+
+/// The resources, the drained instances and the reset flags. What `kept` has in the same place is
+/// kept, and takes no memory; the rest is copied.
+pub fn read_ideals_over(cluster: &Cluster, kept: Ideals) -> Result<Ideals, AllocError>
+    ensures { IfOk result (λ ideals. ideals ≡ ideals_shown cluster.now) }
+{
+    Ok(Ideals {
+        resources: resources_over(cluster.resources.as_slice(), kept.resources)?,
+        drained: copied_over(cluster.instances.as_slice(), kept.drained)?,
+        resets: copied_over(cluster.resets.as_slice(), kept.resets)?,
+    })
+}
+
+/// A list of these items: the kept one where it is the same, else a copy.
+fn copied_over<T: Same + Copy>(items: &[T], kept: Seq<T>) -> Result<Seq<T>, AllocError>
+    ensures { IfOk result (λ list. list ≡ items.now) }
+{
+    if all_same(items, kept.as_slice()) {
+        return Ok(kept);
+    }
+    Seq::from_slice(kept.allocator(), items)
+}
+
+/// A list of these resources: each is the kept one in its place where that is the same, else a copy.
+fn resources_over(
+    resources: &[Resource],
+    mut kept: Seq<Resource>,
+) -> Result<Seq<Resource>, AllocError>
+    ensures { IfOk result (λ list. list ≡ resources.now) }
+{
+    kept.reserve(resources.len().saturating_sub(kept.len()))?;
+    for (place, resource) in resources.iter().enumerate() {
+        put_over(&mut kept, place, resource)?;
+    }
+    kept.truncate(resources.len());
+    Ok(kept)
+}
+
+/// Puts a copy of a resource in a place, or behind all, unless the same stands there.
+fn put_over(kept: &mut Seq<Resource>, place: usize, resource: &Resource) -> Result<(), AllocError>
+    requires { place ≤ length kept.old }
+    ensures front { OnOk result
+        (take (place + 1) kept.new ≡ take place kept.old ++ resource.now ∷ []) }
+    ensures long { OnOk result (place < length kept.new) }
+{
+    match kept.get(place) {
+        None => kept.push(resource.clone()?)?,
+        Some(there) if there.same(resource) => {}
+        Some(_) => kept.set(place, resource.clone()?),
+    }
+    Ok(())
 }
 
 /// An instance's live session, and its pending messages by number.

@@ -16,7 +16,7 @@ mod readers;
 mod refusals;
 mod steps;
 
-use hx_calls::{begin, publish, read_ideals};
+use hx_calls::{begin, publish, read_ideals_over};
 use hx_cluster::{Begun, Cluster, Event, Ideals, Mail, Message, Row, Seen, Spec};
 use hx_counts::Counts;
 use hx_ids::{ControllerId, InstanceId, SessionId};
@@ -142,11 +142,12 @@ impl Records {
         self.slots.push_rows_of(session, shown)
     }
 
-    /// The resources, the drained instances and the reset flags.
-    pub fn read_ideals(&self) -> Result<Ideals, AllocError>
+    /// The resources, the drained instances and the reset flags. What `kept` has in the same place
+    /// is kept, and takes no memory; the rest is copied.
+    pub fn read_ideals_over(&self, kept: Ideals) -> Result<Ideals, AllocError>
         ensures { IfOk result (λ ideals. ideals ≡ ideals_shown self.now) }
     {
-        read_ideals(&self.rest)
+        read_ideals_over(&self.rest, kept)
     }
 
     /// Posts rows in place of those that stand.

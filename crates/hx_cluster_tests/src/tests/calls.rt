@@ -1,9 +1,15 @@
 //! Each other call comes where there is memory.
 use crate::tests::fixtures::{
-    C1, N1, N2, OFFLINE, ONLINE, S1, S2, SECOND, add_live, add_message, add_row, opening, part,
+    C1, N1, N2, OFFLINE, ONLINE, S1, S2, SECOND, add_live, add_message, add_resource, add_row,
+    ideal, opening, part,
 };
-use hx_calls::{begin, dispatch, fetch, publish, read_ideals, read_live, read_mail, read_states};
+use hx_calls::{
+    begin, dispatch, fetch, forget_shown, no_ideals, nothing_shown, publish, read_ideals,
+    read_ideals_over, read_live, read_mail, read_states,
+};
 use hx_cluster::{Cluster, Dispatched, Proposal, Seen};
+use hx_ideal::Mode;
+use hx_same::{Same, all_same};
 use std::alloc::AllocError;
 use std::test::Fail;
 
@@ -27,6 +33,22 @@ fn controllers_and_participants_read(rt: HostRuntime) -> Result<(), Fail> {
     assert_eq!(rt; read(&cluster)?, [1, 1, 2, 0]);
     let shown = read_live(&cluster)?;
     assert_eq!(rt; shown.as_slice(), [(S2, N1), (S1, N2)].as_slice());
+    Ok(())
+}
+
+#[test]
+fn ideals_are_read_over_earlier_ones(rt: HostRuntime) -> Result<(), Fail> {
+    let mut cluster = opening(rt.alloc())?;
+    let mut view = nothing_shown(rt.alloc());
+    view.ideals = read_ideals(&cluster)?;
+    let mut spare = no_ideals(rt.alloc());
+    forget_shown(&mut view, &mut spare);
+    assert!(rt; view.ideals.drained.is_empty());
+    assert_eq!(rt; spare.drained.len(), 3);
+    add_resource(&mut cluster, 2, ideal(Mode::Full, 1)?)?;
+    let shown = read_ideals_over(&cluster, spare)?;
+    assert!(rt; shown.drained.same(&cluster.instances));
+    assert!(rt; all_same(shown.resources.as_slice(), cluster.resources.as_slice()));
     Ok(())
 }
 

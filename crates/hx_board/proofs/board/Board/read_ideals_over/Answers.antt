@@ -7,7 +7,7 @@ use Rattle.hx_board.specs.Board.{Held, held}
 use Rattle.hx_board.specs.Refusals.{read_refusal}
 use Rattle.hx_board.proofs.Free.{read_free}
 use Rattle.hx_board.proofs.Growing.{grown}
-use Rattle.hx_board.proofs.board.Board.read_ideals.Goals as goal
+use Rattle.hx_board.proofs.board.Board.read_ideals_over.Goals as goal
 
 pub invariant_of-self-2 : goal.invariant_of-self-2
 invariant_of-self-2 c =

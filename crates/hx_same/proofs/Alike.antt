@@ -12,7 +12,7 @@ use Rattle.hx_model.specs.declared.ModelFault.TheVariants.{TwiceState}
 use Rattle.hx_model.specs.declared.ModelParts.{ModelParts}
 use Rattle.hx_model.specs.Model.{states_of, bound_of}
 use Rattle.hx_model.specs.Faults.{fault_of, fault_at, twice_at, twice_place, twice_state, too_many_states, reserved_state, reserved_transition}
-use Rattle.hx_board.specs.Bounds.{is_same_bound}
+use Rattle.hx_same.specs.Bounds.{is_same_bound}
 
 pub bound-same : (a b : Bound) → is_same_bound a b ≡ true → a ≡ b
 bound-same (Count m) (Count n) e = let same : m ≡ n = grind (arith, nat_tests, e) in ap Count same

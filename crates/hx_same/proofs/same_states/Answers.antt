@@ -1,7 +1,7 @@
 use Rattle.std.proofs.Common.{◌≡◌, sym, ◌∙◌}
 use Rattle.hx_model.specs.Model.{states_of}
-use Rattle.hx_board.proofs.Alike.{same_listed, listed_same}
-use Rattle.hx_board.proofs.equality.same_states.Goals as goal
+use Rattle.hx_same.proofs.Alike.{same_listed, listed_same}
+use Rattle.hx_same.proofs.same_states.Goals as goal
 
 pub returns : goal.returns
 returns c =

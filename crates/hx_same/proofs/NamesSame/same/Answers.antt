@@ -1,8 +1,8 @@
 use Rattle.std.proofs.Common.{◌≡◌, Bool, true, false, not, ◌∷◌, [], ◌++◌, refl, sym, ◌∙◌}
 use Rattle.std.specs.Str.{bytes_eq}
 use Rattle.std.proofs.lemmas.Slice.Eq.{bytes_eq-Decides}
-use Rattle.hx_board.proofs.Growing.{take-get}
-use Rattle.hx_board.proofs.equality.NamesSame.same.Goals as goal
+use Rattle.hx_same.proofs.Front.{take-get}
+use Rattle.hx_same.proofs.NamesSame.same.Goals as goal
 
 held : (b : Bool) → false ≡ not b → b ≡ true
 held true e = refl

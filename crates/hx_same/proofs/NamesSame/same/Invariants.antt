@@ -1,6 +1,6 @@
 use Rattle.std.proofs.Common.{◌≡◌}
 use Rattle.std.specs.Prelude.{take}
-use Rattle.hx_board.proofs.equality.NamesSame.same.Given as goal
+use Rattle.hx_same.proofs.NamesSame.same.Given as goal
 
 -- the names so far are the same
 abbrev pub invariant-loop-place : goal.invariant-loop-place
