@@ -46,7 +46,7 @@ eq_turned a b = grind (arith, nat_tests)
 pub same_session : (s t : SessionId) → s.0 ≡ t.0 → s ≡ t
 same_session s t h = ap (λ (n : ℕ). record { 0 = n }) h
 
-same_part : (p q : PartId) → p.resource.0 ≡ q.resource.0 → p.index ≡ q.index → p ≡ q
+pub same_part : (p q : PartId) → p.resource.0 ≡ q.resource.0 → p.index ≡ q.index → p ≡ q
 same_part p q h i = λ j. record { resource = record { 0 = h j }; index = i j }
 
 pub of_part : (s t : SessionId) (p q : PartId) → ((t.0 == s.0) && part_eq q p) ≡ true → (t ≡ s) × (q ≡ p)

@@ -8,9 +8,11 @@ ghost use Rattle.std.specs.List.{list_any, list_all};
 ghost use Rattle.hx_cluster.specs.Ends.{state_of, message_of, is_row};
 ghost use Rattle.hx_cluster.specs.Messages.{has_id, as_taken, as_written, row_put};
 
+mod cells;
 mod owned;
 mod slot;
 
+use cells::{Cells, push_cells};
 use hx_cluster::{Message, Row};
 use hx_ids::{MsgId, PartId, ResourceId, SessionId, StateId};
 use hx_lists::Seq;
@@ -26,6 +28,8 @@ use std::marker::Model;
 pub struct Slots {
     alloc: Global,
     slots: Store<Slot>,
+    /// What reads of rows need of the slots. Those of a session whose cells aren't kept are walked.
+    cells: Cells,
     mail: Store<Message>,
     /// How many changes slots have had.
     changes: u64,
@@ -41,7 +45,10 @@ impl Model for Slots {
 
     ghost view = { λ a. record { rows = rows_of a.slots; mail = messages_of a.mail } };
 
-    ghost invariant = { λ a. AreSlots a.slots a.mail a.changes a.paid };
+    ghost use Rattle.hx_slots.specs.Mirror.{AreMirrored};
+
+    ghost invariant = { λ a. AreSlots a.slots a.mail a.changes a.paid
+        × AreMirrored a.slots a.cells };
 }
 
 /// The most changes that are paid.
@@ -56,6 +63,7 @@ impl Slots {
         Slots {
             alloc,
             slots: Store::new(alloc),
+            cells: Cells::new(alloc),
             mail: Store::new(alloc),
             changes: 0,
             paid: 0,
@@ -96,6 +104,18 @@ impl Slots {
 
     /// Adds a session's rows, by part, to some.
     pub fn push_rows_of(&self, session: SessionId, rows: &mut Seq<Row>) -> Result<(), AllocError>
+        ensures ok { OnOk result
+            (rows.new ≡ rows.old ++ filter (λ r. r.session.0 == session.0) self.now.rows) }
+        ensures err { OnErr result (rows.new ≡ rows.old) }
+    {
+        match self.cells.of(session) {
+            Some(cells) => push_cells(rows, session, cells),
+            None => self.push_slots_of(session, rows),
+        }
+    }
+
+    // The same, slot by slot.
+    fn push_slots_of(&self, session: SessionId, rows: &mut Seq<Row>) -> Result<(), AllocError>
         ensures ok { OnOk result
             (rows.new ≡ rows.old ++ filter (λ r. r.session.0 == session.0) self.now.rows) }
         ensures err { OnErr result (rows.new ≡ rows.old) }
@@ -181,7 +201,7 @@ impl Slots {
         if self.paid > MOST - 2 {
             return Err(AllocError);
         }
-        note_sent(&mut self.slots, session, part, id)?;
+        note_sent(&mut self.slots, &mut self.cells, session, part, id)?;
         self.changes += 1;
         self.paid += 2;
         add_message(&mut self.mail, message)?;
@@ -215,7 +235,13 @@ impl Slots {
         ensures mail { self.new.mail
             ≡ map (as_written message.now.session message.now.id) self.old.mail }
     {
-        put_at(&mut self.slots, message.session, message.part, state);
+        put_at(
+            &mut self.slots,
+            &mut self.cells,
+            message.session,
+            message.part,
+            state,
+        );
         self.changes += 1;
         let written = Message {
             written: true,
@@ -256,6 +282,7 @@ impl Slots {
         ensures rows { MatchOption result (self.new.rows ≡ self.old.rows) (λ r.
             self.new.rows ≡ filter (λ x. not (is_row session r.part x)) self.old.rows) }
     {
+        self.cells.forget(session);
         while let Some(slot) = pop_owned(&mut self.slots, session) {
             if let Some(row) = slot.row() {
                 return Some(row);

@@ -8,7 +8,9 @@ ghost use Rattle.hx_store.specs.Records.{record_at, created, set_to};
 ghost use Rattle.hx_store.specs.Refusals.{CanChange};
 ghost use Rattle.hx_slots.specs.Slots.{IsPlaced, slot_key, row_of as row_of_slot};
 ghost use Rattle.hx_slots.specs.Slots.{IsSlotOf, sent_at, put_at as put_at_of};
+ghost use Rattle.hx_slots.specs.Mirror.{AreMirrored, AreAllSlots, IsNoted};
 
+use crate::cells::Cells;
 use crate::owned::set;
 use hx_cluster::{Message, Row};
 use hx_ids::{MsgId, PartId, ResourceId, SessionId, StateId};
@@ -71,20 +73,67 @@ pub(crate) fn slot_of(slots: &Store<Slot>, session: SessionId, part: PartId) -> 
     Some(slot)
 }
 
+/// Notes the cell of a slot that is to be made: where the cells of its session are kept it gets
+/// its place, and where it is the session's first they are kept from now on.
+fn note_cell(
+    cells: &mut Cells,
+    slots: &Store<Slot>,
+    session: SessionId,
+    part: PartId,
+) -> Result<(), AllocError>
+    requires slots { AreAllSlots slots.now }
+    requires ordered { IsStrictlySortedBy nat_cmp (keys_of slots.now) }
+    requires mirrored { AreMirrored slots.now cells.old }
+    ensures ok { OnOk result (IsNoted session part slots.now cells.new) }
+    ensures err { OnErr result (AreMirrored slots.now cells.new) }
+{
+    if cells.add(session, part)? || slots.next_owned(session, 0).is_some() {
+        return Ok(());
+    }
+    cells.open(session, part)
+}
+
+/// Makes the slot of a key that has none, and its cell. Where there is memory for the cell and
+/// none for the slot, the cells of the session are kept no more.
+fn make(slots: &mut Store<Slot>, cells: &mut Cells, key: u64, slot: Slot) -> Result<(), AllocError>
+    requires slots { AreAllSlots slots.old }
+    requires ordered { IsStrictlySortedBy nat_cmp (keys_of slots.old) }
+    requires mirrored { AreMirrored slots.old cells.old }
+    requires placed { IsPlaced slot.session slot.part }
+    requires key { key ≡ slot_key slot.session slot.part }
+    requires bare { slot.state ≡ None }
+    ensures ok { OnOk result (slots.new ≡ created slots.old key (Some slot.session) slot) }
+    ensures err { OnErr result (slots.new ≡ slots.old) }
+    ensures mirrored { AreMirrored slots.new cells.new }
+{
+    note_cell(cells, slots, slot.session, slot.part)?;
+    match slots.create(key, Some(slot.session), slot) {
+        Ok(()) => Ok(()),
+        Err(_) => {
+            cells.forget(slot.session);
+            Err(AllocError)
+        }
+    }
+}
+
 /// Notes in the slot of a session's part what was sent to it last. A slot that isn't there is
 /// made.
 pub(crate) fn note_sent(
     slots: &mut Store<Slot>,
+    cells: &mut Cells,
     session: SessionId,
     part: PartId,
     id: MsgId,
 ) -> Result<(), AllocError>
-    requires { CanChange (record_at slots.old (slot_key session part)) }
+    requires room { CanChange (record_at slots.old (slot_key session part)) }
+    requires slots { AreAllSlots slots.old }
+    requires mirrored { AreMirrored slots.old cells.old }
     ensures ordered { OnOk result (IsStrictlySortedBy nat_cmp (keys_of slots.old)) }
     ensures placed { OnOk result (IsPlaced session part) }
     ensures ok { OnOk result
         (slots.new ≡ sent_at slots.old (slot_key session part) session part id) }
     ensures err { OnErr result (slots.new ≡ slots.old) }
+    ensures mirrored { AreMirrored slots.new cells.new }
 {
     let Some(key) = key_of(session, part) else {
         return Err(AllocError);
@@ -96,10 +145,7 @@ pub(crate) fn note_sent(
         sent: Some(id),
     };
     let Some((version, slot)) = slots.get(key) else {
-        return match slots.create(key, Some(session), noted) {
-            Ok(()) => Ok(()),
-            Err(_) => Err(AllocError),
-        };
+        return make(slots, cells, key, noted);
     };
     noted.state = slot.state;
     set(slots, key, version, noted);
@@ -107,12 +153,21 @@ pub(crate) fn note_sent(
 }
 
 /// Puts a replica whose slot is there at a state, or nowhere for DROPPED. It takes no memory.
-pub(crate) fn put_at(slots: &mut Store<Slot>, session: SessionId, part: PartId, state: StateId)
+pub(crate) fn put_at(
+    slots: &mut Store<Slot>,
+    cells: &mut Cells,
+    session: SessionId,
+    part: PartId,
+    state: StateId,
+)
+    requires slots { AreAllSlots slots.old }
+    requires mirrored { AreMirrored slots.old cells.old }
     requires placed { IsPlaced session part }
     requires there { IsSome (record_at slots.old (slot_key session part)) }
     requires room { CanChange (record_at slots.old (slot_key session part)) }
     ensures ordered { IsStrictlySortedBy nat_cmp (keys_of slots.old) }
     ensures slots { slots.new ≡ put_at_of slots.old (slot_key session part) session part state }
+    ensures mirrored { AreMirrored slots.new cells.new }
 {
     let Some(key) = key_of(session, part) else {
         unreachable!()
@@ -126,6 +181,7 @@ pub(crate) fn put_at(slots: &mut Store<Slot>, session: SessionId, part: PartId, 
         state: if state == DROPPED { None } else { Some(state) },
         sent: slot.sent,
     };
+    cells.put(session, part, put.state);
     set(slots, key, version, put);
 }
 

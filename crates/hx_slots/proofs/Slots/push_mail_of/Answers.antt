@@ -7,7 +7,7 @@ use Rattle.hx_slots.proofs.Slots.push_mail_of.Goals as goal
 pub loop-message-init : goal.loop-message-init
 loop-message-init c =
     grows c.len-before.result c.args.mail.now _ _ c.len-before.ensures
-    (c.into_iter-message-iterator.ensures.into_iter_gives ∙ c.owned-message-items.ensures ∙ mail-owned c.self.inside.slots c.args.session c.self.inside.mail c.self.invariant.each_message
+    (c.into_iter-message-iterator.ensures.into_iter_gives ∙ c.owned-message-items.ensures ∙ mail-owned c.self.inside.slots c.args.session c.self.inside.mail c.self.invariant.0.each_message
     ∙ ap (λ (x : Kept). filter (λ m. m.session.0 == c.args.session.0) x.mail) c.self.view_is)
 
 pub loop-message-preserved : goal.loop-message-preserved

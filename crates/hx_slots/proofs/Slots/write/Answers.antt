@@ -6,45 +6,50 @@ use Rattle.hx_slots.proofs.Mail.{pending_there}
 use Rattle.hx_slots.proofs.Calls.{slot_room, mail_room, message_placed, message_slot, written_kept, written_rows, written_mail}
 use Rattle.hx_slots.proofs.Slots.write.Goals as goal
 
+pub put_at-requires-clause-slots : goal.put_at-requires-clause-slots
+put_at-requires-clause-slots c = (c.self.inside.changes, c.self.invariant.0.each_slot)
+
 pub put_at-requires-clause-placed : goal.put_at-requires-clause-placed
 put_at-requires-clause-placed c =
     let m = c.args.message.now in
-    message_placed c.self.inside.slots m (has_id m.session m.id) c.self.inside.mail c.self.invariant.each_message (ap (λ (x : Kept). find (has_id m.session m.id) x.mail) c.self.view_is ∙ c.requires.pending)
+    message_placed c.self.inside.slots m (has_id m.session m.id) c.self.inside.mail c.self.invariant.0.each_message (ap (λ (x : Kept). find (has_id m.session m.id) x.mail) c.self.view_is ∙ c.requires.pending)
 
 pub put_at-requires-clause-there : goal.put_at-requires-clause-there
 put_at-requires-clause-there c =
     let m = c.args.message.now in
-    message_slot c.self.inside.slots m (has_id m.session m.id) c.self.inside.mail c.self.invariant.each_message (ap (λ (x : Kept). find (has_id m.session m.id) x.mail) c.self.view_is ∙ c.requires.pending)
+    message_slot c.self.inside.slots m (has_id m.session m.id) c.self.inside.mail c.self.invariant.0.each_message (ap (λ (x : Kept). find (has_id m.session m.id) x.mail) c.self.view_is ∙ c.requires.pending)
 
 pub put_at-requires-clause-room : goal.put_at-requires-clause-room
 put_at-requires-clause-room c =
     let m = c.args.message.now in
-    slot_room c.self.inside.slots c.self.inside.mail c.self.inside.changes c.self.inside.paid (slot_key m.session m.part) c.self.invariant
+    slot_room c.self.inside.slots c.self.inside.mail c.self.inside.changes c.self.inside.paid (slot_key m.session m.part) c.self.invariant.0
 
 pub mark-requires-clause-there : goal.mark-requires-clause-there
 mark-requires-clause-there c =
     let m = c.args.message.now in
-    pending_there c.self.inside.slots m.session m.id m c.self.inside.mail c.self.invariant.each_message (ap (λ (x : Kept). find (has_id m.session m.id) x.mail) c.self.view_is ∙ c.requires.pending)
+    pending_there c.self.inside.slots m.session m.id m c.self.inside.mail c.self.invariant.0.each_message (ap (λ (x : Kept). find (has_id m.session m.id) x.mail) c.self.view_is ∙ c.requires.pending)
 
 pub mark-requires-clause-room : goal.mark-requires-clause-room
-mark-requires-clause-room c = mail_room c.self.inside.slots c.self.inside.mail c.args.message.now.id.0 c.self.invariant.each_message
+mark-requires-clause-room c = mail_room c.self.inside.slots c.self.inside.mail c.args.message.now.id.0 c.self.invariant.0.each_message
 
 pub invariant_of-self : goal.invariant_of-self
 invariant_of-self c =
-    let m = c.args.message.now in
-    written_kept c.self.inside.slots c.put_at.new.slots c.self.inside.mail c.mark.new.mail c.self.inside.changes c.self.inside.paid m c.args.state c.put_at.ensures.ordered c.mark.ensures.ordered c.self.invariant
-    (ap (λ (x : Kept). find (has_id m.session m.id) x.mail) c.self.view_is ∙ c.requires.pending) c.requires.free c.put_at.ensures.slots c.mark.ensures.mail
+    let m = c.args.message.now in (
+      written_kept c.self.inside.slots c.put_at.new.slots c.self.inside.mail c.mark.new.mail c.self.inside.changes c.self.inside.paid m c.args.state c.put_at.ensures.ordered c.mark.ensures.ordered c.self.invariant.0
+          (ap (λ (x : Kept). find (has_id m.session m.id) x.mail) c.self.view_is ∙ c.requires.pending) c.requires.free c.put_at.ensures.slots c.mark.ensures.mail,
+      c.put_at.ensures.mirrored,
+    )
 
 pub returns-clause-rows : goal.returns-clause-rows
 returns-clause-rows c =
     let m = c.args.message.now in
-    (written_rows c.self.inside.slots c.put_at.new.slots c.self.inside.mail c.self.inside.changes m c.args.state c.put_at.ensures.ordered c.self.invariant.each_slot c.self.invariant.each_message
+    (written_rows c.self.inside.slots c.put_at.new.slots c.self.inside.mail c.self.inside.changes m c.args.state c.put_at.ensures.ordered c.self.invariant.0.each_slot c.self.invariant.0.each_message
     (ap (λ (x : Kept). find (has_id m.session m.id) x.mail) c.self.view_is ∙ c.requires.pending) c.put_at.ensures.slots).1
     ∙ ap (λ (x : Kept). row_put x.rows m.session m.part c.args.state) c.self.view_is
 
 pub returns-clause-mail : goal.returns-clause-mail
 returns-clause-mail c =
     let m = c.args.message.now in
-    written_mail c.self.inside.slots c.self.inside.mail c.mark.new.mail m c.mark.ensures.ordered c.self.invariant.each_message
+    written_mail c.self.inside.slots c.self.inside.mail c.mark.new.mail m c.mark.ensures.ordered c.self.invariant.0.each_message
     (ap (λ (x : Kept). find (has_id m.session m.id) x.mail) c.self.view_is ∙ c.requires.pending) c.mark.ensures.mail
     ∙ ap (λ (x : Kept). map (as_written m.session m.id) x.mail) c.self.view_is
