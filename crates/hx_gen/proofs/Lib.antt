@@ -2,3 +2,4 @@ pub mod Ways
 pub mod Ranks
 pub mod Modelled
 pub mod Moving
+pub mod ByPart

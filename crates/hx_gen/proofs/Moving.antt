@@ -1,5 +1,5 @@
 -- Targets that are at their goals have no candidates, so that those of the others are all.
-use Rattle.std.proofs.Common.{◌≡◌, ◌||◌, not, Bool, true, false, List, [], ◌∷◌, Option, Some, None, refl, sym, ap, ◌∙◌, arith}
+use Rattle.std.proofs.Common.{◌≡◌, ◌||◌, not, Bool, true, false, List, [], ◌∷◌, Option, None, refl, sym, ap, ◌∙◌}
 use Rattle.std.specs.Prelude.{filter, if◌then◌else◌}
 use Rattle.std.specs.List.{filter_map, cons_option}
 use Rattle.std.specs.Option.{is_some}
@@ -9,7 +9,7 @@ use Rattle.hx_cluster.specs.declared.planning.View.{View}
 use Rattle.hx_cluster.specs.declared.planning.Target.{Target}
 use Rattle.hx_cluster.specs.declared.planning.Candidate.{Candidate}
 use Rattle.hx_cluster.specs.Ends.{message_of, model_of}
-use Rattle.hx_best.specs.Still.{is_at_goal, is_done, HasMoving}
+use Rattle.hx_best.specs.Still.{is_done, HasMoving}
 use Rattle.hx_gen.specs.Candidates.{hop_of, candidate_of, comes_before, candidates}
 
 or_true : (a : Bool) → (a || true) ≡ true

@@ -8,6 +8,7 @@ mod steps;
 
 ghost use Rattle.std.specs.Prelude.{◌≡◌, true, IfOk};
 ghost use Rattle.std.specs.List.{list_all};
+ghost use Rattle.hx_parts.specs.Parts.{IsByPart};
 ghost use Rattle.hx_gen.specs.Stage.{has_model};
 ghost use Rattle.hx_gen.specs.Candidates.{candidates as candidates_of};
 
@@ -70,8 +71,9 @@ pub fn candidates(
     requires models { list_all
         (λ t. has_model models.now view.now.ideals.resources t.part.resource) targets.now
         ≡ true }
-    ensures { IfOk result (λ found.
+    ensures found { IfOk result (λ found.
         found.items ≡ candidates_of models.now view.now targets.now) }
+    ensures by_part { IfOk result (λ found. IsByPart (λ c. c.part) found.items) }
 {
     let stage = Stage::of(alloc, models, hops, view)?;
     let ranked = stage.ranked(alloc, targets)?;

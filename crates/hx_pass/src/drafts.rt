@@ -1,24 +1,24 @@
 //! A plan whose report isn't made yet.
-ghost use Rattle.std.specs.Prelude.{◌≡◌, IfOk, map};
-ghost use Rattle.hx_pass.specs.Plans.{proposal};
+ghost use Rattle.std.specs.Prelude.{◌≡◌, true, IfOk};
+ghost use Rattle.hx_gen.specs.Modelled.{has_models};
 ghost use Rattle.hx_pass.specs.Drafts.{proposed, reported};
 
-use crate::targets::all_targets;
+use crate::plans::{plan_on, proposals_of};
 use hx_best::Index;
-use hx_cluster::{Candidate, Proposal, Report, Selection, Throttled, View};
+use hx_cluster::{Candidate, Proposal, Report, Rule, View};
+use hx_gen::hops_of;
 use hx_lists::Seq;
 use hx_model::Model;
-use hx_report::{Fates, report_on};
 use std::alloc::{AllocError, Global};
 use std::marker;
 
-/// What a plan finds: what it selects and throttles of the targets. These aren't kept: a report
-/// makes them again, with a copy of the description's models.
+/// What a plan sends, with a copy of the description's models and rules, by which its report can
+/// be made. What it holds back, and what finds no room, isn't kept: a report finds it again.
 #[derive(Drop)]
 pub struct Draft {
     pub(crate) models: Seq<Model>,
-    pub(crate) selection: Selection,
-    pub(crate) throttled: Throttled,
+    pub(crate) rules: Seq<Rule>,
+    pub(crate) sent: Seq<Candidate>,
 }
 
 impl marker::Model for Draft {
@@ -26,11 +26,7 @@ impl marker::Model for Draft {
 
     ghost Value = { Seen };
 
-    ghost view = { λ d. record {
-      models = d.models;
-      selection = d.selection;
-      throttled = d.throttled;
-    } };
+    ghost view = { λ d. record { models = d.models; rules = d.rules; sent = d.sent } };
 }
 
 impl Draft {
@@ -38,38 +34,24 @@ impl Draft {
     pub fn proposals(&self, alloc: Global) -> Result<Seq<Proposal>, AllocError>
         ensures { IfOk result (λ proposals. proposals ≡ proposed self.now) }
     {
-        proposals_of(alloc, self.throttled.sent.as_slice())
+        proposals_of(alloc, self.sent.as_slice())
     }
 
-    /// What is found of each target, by what the view shows.
+    /// What is found of each target, by what the view shows. It costs a whole plan.
     pub fn report(&self, alloc: Global, view: &View) -> Result<Report, AllocError>
+        requires { has_models self.now.models view.now ≡ true }
         ensures { IfOk result (λ report. report ≡ reported view.now self.now) }
     {
-        self.report_on(alloc, &Index::of(alloc, view)?)
+        let models = self.models.as_slice();
+        let hops = hops_of(alloc, models)?;
+        let index = Index::of(alloc, view)?;
+        let plan = plan_on(
+            alloc,
+            models,
+            self.rules.as_slice(),
+            hops.as_slice(),
+            &index,
+        )?;
+        Ok(plan.report)
     }
-
-    /// The same by the index of a view.
-    pub(crate) fn report_on(&self, alloc: Global, index: &Index) -> Result<Report, AllocError>
-        ensures { IfOk result (λ report. report ≡ reported index.now self.now) }
-    {
-        let targets = all_targets(alloc, self.models.as_slice(), index)?;
-        let fates = Fates::new(alloc, &self.selection, &self.throttled)?;
-        report_on(alloc, targets.as_slice(), index.shown(), &fates)
-    }
-}
-
-/// What a plan proposes of the sent candidates.
-fn proposals_of(alloc: Global, sent: &[Candidate]) -> Result<Seq<Proposal>, AllocError>
-    ensures { IfOk result (λ proposals. proposals ≡ map proposal sent.now) }
-{
-    let mut proposals = Seq::new(alloc);
-    for candidate in sent {
-        proposals.push(Proposal {
-            session: candidate.session,
-            part: candidate.part,
-            from: candidate.from,
-            to: candidate.to,
-        })?;
-    }
-    Ok(proposals)
 }

@@ -2,21 +2,25 @@
 #![tactic(auto)]
 
 mod drafts;
+mod plans;
 mod posts;
 mod targets;
 
 ghost use Rattle.std.specs.Prelude.{◌≡◌, true, IfOk};
 ghost use Rattle.hx_gen.specs.Modelled.{has_models};
-ghost use Rattle.hx_pass.specs.Plans.{plan};
+ghost use Rattle.hx_pass.specs.Plans.{plan, selection_of};
 ghost use Rattle.hx_pass.specs.Drafts.{draft as draft_of};
 
 pub use drafts::Draft;
 use hx_best::{Index, moving_targets};
-use hx_cluster::{Plan, Spec, View};
+use hx_cluster::{Candidate, Plan, Spec, View};
 use hx_gen::candidates;
 use hx_hops::Hops;
-use hx_select::select_on;
+use hx_lists::Seq;
+use hx_model::Model;
+use hx_select::accepted_on;
 use hx_throttle::throttle;
+use plans::plan_on;
 pub use posts::{instance_or_first, posted};
 use std::alloc::{AllocError, Global};
 
@@ -31,44 +35,58 @@ pub fn plan(alloc: Global, spec: &Spec, hops: &[Hops], view: &View) -> Result<Pl
     ensures { IfOk result (λ made. made ≡ plan spec.now.models spec.now.rules view.now) }
 {
     let index = Index::of(alloc, view)?;
-    let draft = draft_on(alloc, spec, hops, &index)?;
-    Ok(Plan {
-        proposals: draft.proposals(alloc)?,
-        report: draft.report_on(alloc, &index)?,
-    })
+    plan_on(
+        alloc,
+        spec.models.as_slice(),
+        spec.rules.as_slice(),
+        hops,
+        &index,
+    )
 }
 
-/// What a plan finds, and no report of it, which can be made later. It costs no walk over the shown
-/// sessions for a part that is found to stand still.
+/// The candidates of a view for which the bounds leave room, in order. It costs no walk over the
+/// shown sessions for a part that is found to stand still, and none for a candidate without room.
+pub fn accepted(
+    alloc: Global,
+    models: &[Model],
+    hops: &[Hops],
+    view: &View,
+) -> Result<Seq<Candidate>, AllocError>
+    requires hops { hops.now ≡ models.now }
+    requires models { has_models models.now view.now ≡ true }
+    ensures { IfOk result (λ accepted.
+        accepted ≡ (selection_of models.now view.now).accepted) }
+{
+    let index = Index::of(alloc, view)?;
+    let targets = moving_targets(alloc, models, &index)?;
+    let candidates = candidates(alloc, models, hops, view, targets.as_slice())?;
+    accepted_on(alloc, models, index.shown(), candidates.as_slice())
+}
+
+/// What a plan sends, and no report of it, which can be made later.
 pub fn draft(alloc: Global, spec: &Spec, hops: &[Hops], view: &View) -> Result<Draft, AllocError>
     requires hops { hops.now ≡ spec.now.models }
     requires models { has_models spec.now.models view.now ≡ true }
     ensures { IfOk result (λ draft. draft ≡ draft_of spec.now.models spec.now.rules view.now) }
 {
-    let index = Index::of(alloc, view)?;
-    draft_on(alloc, spec, hops, &index)
+    let accepted = accepted(alloc, spec.models.as_slice(), hops, view)?;
+    draft_of_accepted(alloc, spec, view, accepted.as_slice())
 }
 
-/// The same by an index of the view.
-fn draft_on(
+/// The draft of a view of which it is known which candidates are accepted.
+pub fn draft_of_accepted(
     alloc: Global,
     spec: &Spec,
-    hops: &[Hops],
-    index: &Index<'_>,
+    view: &View,
+    accepted: &[Candidate],
 ) -> Result<Draft, AllocError>
-    requires hops { hops.now ≡ spec.now.models }
-    requires models { has_models spec.now.models index.now ≡ true }
-    ensures { IfOk result (λ draft. draft ≡ draft_of spec.now.models spec.now.rules index.now) }
+    requires { accepted.now ≡ (selection_of spec.now.models view.now).accepted }
+    ensures { IfOk result (λ draft. draft ≡ draft_of spec.now.models spec.now.rules view.now) }
 {
-    let models = spec.models.as_slice();
-    let view = index.view();
-    let targets = moving_targets(alloc, models, index)?;
-    let candidates = candidates(alloc, models, hops, view, targets.as_slice())?;
-    let selection = select_on(alloc, models, index.shown(), candidates.as_slice())?;
-    let throttled = throttle(alloc, spec, view, selection.accepted.as_slice())?;
+    let throttled = throttle(alloc, spec, view, accepted)?;
     Ok(Draft {
         models: spec.models.clone()?,
-        selection,
-        throttled,
+        rules: spec.rules.clone()?,
+        sent: throttled.sent,
     })
 }

@@ -43,7 +43,7 @@ counted_anew base old new part state n none is put p t = one (is_eq (end_cmp (pa
         grind (arith, put p t, e, absent, there)
     one false e = grind (arith, put p t, e)
 
-count-push : {X : Type 0} (p : X → Bool) (xs : List X) (x : X) → count p (xs ++ x ∷ []) ≡ count p xs + (if p x then 1 else 0)
+pub count-push : {X : Type 0} (p : X → Bool) (xs : List X) (x : X) → count p (xs ++ x ∷ []) ≡ count p xs + (if p x then 1 else 0)
 count-push p [] x = grind arith
 count-push p (y ∷ xs) x = grind (arith, count-push p xs x)
 

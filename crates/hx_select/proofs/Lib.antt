@@ -1,3 +1,4 @@
 pub mod OneSelection
 pub mod Filling
 pub mod Walk
+pub mod PartFilling

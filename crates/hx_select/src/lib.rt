@@ -2,15 +2,18 @@
 #![tactic(auto)]
 
 mod fillings;
+mod part_fillings;
 
 ghost use Rattle.std.specs.Prelude.{◌≡◌, List, Bool, IfOk};
 ghost use Rattle.std.specs.List.{items_where_true};
 ghost use Rattle.hx_model.specs.declared.ModelParts.{ModelParts};
 ghost use Rattle.hx_cluster.specs.declared.planning.View.{View};
 ghost use Rattle.hx_cluster.specs.declared.planning.Candidate.{Candidate};
+ghost use Rattle.hx_parts.specs.Parts.{IsByPart};
 ghost use Rattle.hx_select.specs.Selection.{accepted_of, selection, IsSelection};
 
 use crate::fillings::Fillings;
+use crate::part_fillings::PartFillings;
 use hx_cluster::{Candidate, Selection, Spec, View};
 use hx_lists::Seq;
 use hx_model::Model;
@@ -51,6 +54,28 @@ pub fn select_on(
         }
     }
     Ok(Selection { accepted, full })
+}
+
+/// The candidates for which the bounds of their states leave room, in their order. Nothing is said
+/// of the others, so that it keeps no more than the states of one part.
+pub fn accepted_on(
+    alloc: Global,
+    models: &[Model],
+    index: &ViewIndex,
+    candidates: &[Candidate],
+) -> Result<Seq<Candidate>, AllocError>
+    requires by_part { IsByPart (λ c. c.part) candidates.now }
+    ensures { IfOk result (λ accepted.
+        accepted ≡ accepted_of models.now index.now candidates.now) }
+{
+    let mut fillings = PartFillings::new(alloc);
+    let mut accepted = Seq::new(alloc);
+    for candidate in candidates {
+        if fillings.accepts(models, index, candidate)? {
+            accepted.push(*candidate)?;
+        }
+    }
+    Ok(accepted)
 }
 
 /// The bounds name exactly one list of candidates, the accepted ones.

@@ -14,7 +14,7 @@ ghost use Rattle.hx_throttle.specs.Throttle.{sent_of, throttled, IsSending};
 
 use crate::loads::{count, held_by, shown_loads};
 use crate::shown::Shown;
-use hx_cluster::{Candidate, Proposal, Spec, Throttled, View};
+use hx_cluster::{Candidate, Proposal, Rule, Spec, Throttled, View};
 use hx_lists::Seq;
 use std::alloc::{AllocError, Global};
 
@@ -28,7 +28,18 @@ pub fn throttle(
 ) -> Result<Throttled, AllocError>
     ensures { IfOk result (λ all. all ≡ throttled spec.now.rules view.now accepted.now) }
 {
-    let rules = spec.rules.as_slice();
+    throttle_on(alloc, spec.rules.as_slice(), view, accepted)
+}
+
+/// The same by the rules of a description.
+pub fn throttle_on(
+    alloc: Global,
+    rules: &[Rule],
+    view: &View,
+    accepted: &[Candidate],
+) -> Result<Throttled, AllocError>
+    ensures { IfOk result (λ all. all ≡ throttled rules.now view.now accepted.now) }
+{
     let shown = Shown::new(alloc, view.live.as_slice())?;
     let mut loads = shown_loads(alloc, rules, &shown, view.mail.as_slice())?;
     let mut sent = Seq::new(alloc);

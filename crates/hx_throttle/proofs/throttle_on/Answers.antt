@@ -1,11 +1,11 @@
 use Rattle.std.proofs.Common.{◌+◌, ◌∙◌, sym}
 use Rattle.hx_throttle.proofs.Walk.{walked_sent, walked_held, walked_same, no_candidate}
-use Rattle.hx_throttle.proofs.throttle.Goals as goal
-use Rattle.hx_throttle.proofs.throttle.Goals.{in-Some+in_ok-push-in-Some, in-None+in_ok-count-in-None+in_ok-push-in-None}
+use Rattle.hx_throttle.proofs.throttle_on.Goals as goal
+use Rattle.hx_throttle.proofs.throttle_on.Goals.{in-Some+in_ok-push-in-Some, in-None+in_ok-count-in-None+in_ok-push-in-None}
 
 pub loop-candidate-preserved : goal.loop-candidate-preserved
 loop-candidate-preserved c =
-    let rules = c.as_slice-rules.result.now in
+    let rules = c.args.rules.now in
     let view = c.args.view.now in
     let accepted = c.args.accepted.now in
     let at = c.loop-candidate in

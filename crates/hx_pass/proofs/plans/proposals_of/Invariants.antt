@@ -1,7 +1,7 @@
 use Rattle.std.proofs.Common.{◌≡◌, take}
 use Rattle.std.specs.Prelude.{map}
 use Rattle.hx_pass.specs.Plans.{proposal}
-use Rattle.hx_pass.proofs.drafts.proposals_of.Given as goal
+use Rattle.hx_pass.proofs.plans.proposals_of.Given as goal
 
 -- the proposals so far
 abbrev pub invariant-loop-candidate : goal.invariant-loop-candidate
