@@ -1,17 +1,20 @@
 -- Targets with each that isn't at its goal, some more of them.
-use Rattle.std.proofs.Common.{◌≡◌, ◌&&◌, ◌++◌, not, Bool, true, false, List, [], ◌∷◌, map, Option, Some, refl, sym, ap, ◌∙◌, arith, append-nil}
+use Rattle.std.proofs.Common.{◌≡◌, ◌&&◌, ◌++◌, not, Bool, true, false, List, [], ◌∷◌, map, Option, Some, None, refl, sym, ap, ◌∙◌, arith, append-nil}
 use Rattle.std.specs.Prelude.{filter, if◌then◌else◌}
 use Rattle.std.specs.List.{list_all, flat_map}
 use Rattle.std.specs.Option.{option_map_or}
 use Rattle.std.proofs.lemmas.List.Elements.{filter-append}
 use Rattle.hx_ids.specs.declared.PartId.{PartId}
+use Rattle.hx_ids.specs.declared.SessionId.{SessionId}
+use Rattle.hx_ids.specs.declared.InstanceId.{InstanceId}
 use Rattle.hx_model.specs.declared.ModelParts.{ModelParts}
 use Rattle.hx_cluster.specs.declared.description.Resource.{Resource}
 use Rattle.hx_cluster.specs.declared.planning.View.{View}
 use Rattle.hx_cluster.specs.declared.planning.Target.{Target}
 use Rattle.hx_cluster.specs.Ends.{resource_at, model_at, no_model}
-use Rattle.hx_best.specs.Targets.{target, targets_at}
-use Rattle.hx_best.specs.Still.{is_at_goal, is_done, HasMoving}
+use Rattle.hx_best.specs.Targets.{target, targets_at, is_target}
+use Rattle.hx_best.specs.Wants.{by_instance}
+use Rattle.hx_best.specs.Still.{is_at_goal, is_done, HasMoving, is_among, those_among}
 
 both : (a b : Bool) → (a && b) ≡ true → (a ≡ true) × (b ≡ true)
 both true b e = (refl, e)
@@ -67,3 +70,18 @@ module _ (models : List ModelParts) (view : View) where
   done_at r p there done =
       all-agree (is_done models view) (is_at_goal (model_at models r.model)) (target models view r p)
       (λ e. ap (λ (o : Option Resource). is_at_goal (option_map_or (λ x. model_at models x.model) o no_model) (target models view r p e)) there) _ ∙ done
+
+  -- of the targets of a part, all are gone over or none
+  pub part_among : (marks : Option (List (List Bool))) (r : Resource) (p : PartId) (b : Bool) → is_among marks p ≡ b → those_among marks (targets_at models view r p) ≡ (if b then targets_at models view r p else [])
+  part_among marks r p b is = mapped b is (filter (is_target view r p) (by_instance view.live))
+    where
+      mapped : (b : Bool) → is_among marks p ≡ b → (es : List (SessionId × InstanceId)) → those_among marks (map (target models view r p) es) ≡ (if b then map (target models view r p) es else [])
+      mapped true is [] = refl
+      mapped false is [] = refl
+      mapped true is (e ∷ es) = grind (arith, is, mapped true is es)
+      mapped false is (e ∷ es) = grind (arith, is, mapped false is es)
+
+  -- all are gone over where none are marked
+  pub all_among : (ts : List Target) → those_among None ts ≡ ts
+  all_among [] = refl
+  all_among (t ∷ ts) = ap (λ (rest : List Target). t ∷ rest) (all_among ts)

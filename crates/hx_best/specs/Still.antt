@@ -13,6 +13,7 @@ use Rattle.hx_cluster.specs.declared.planning.View.{View}
 use Rattle.hx_cluster.specs.declared.planning.Target.{Target}
 use Rattle.hx_cluster.specs.Ends.{state_of, session_in, model_of}
 use Rattle.hx_cluster.specs.Steps.{is_drained}
+use Rattle.hx_marks.specs.Marks.{is_marked}
 use Rattle.hx_best.specs.Goals.{is_in_error, is_asked, is_eligible, best_below}
 use Rattle.hx_best.specs.Places.{Placing, model_in, rows_at}
 
@@ -31,6 +32,13 @@ is_done models view t = is_at_goal (model_of models view.ideals.resources t.part
 pub record HasMoving (models : List ModelParts) (view : View) (all found : List Target) : Type 0 where
   pub moving : filter (λ t. not (is_done models view t)) found ≡ filter (λ t. not (is_done models view t)) all
   pub among : (q : Target → Bool) → list_all q all ≡ true → list_all q found ≡ true
+
+-- whether a part is gone over: all are where none are marked; and those of some targets that are of such parts
+abbrev pub is_among : Option (List (List Bool)) → PartId → Bool
+is_among marks p = option_map_or (λ cells. is_marked cells p) marks true
+
+abbrev pub those_among : Option (List (List Bool)) → List Target → List Target
+those_among marks ts = filter (λ t. is_among marks t.part) ts
 
 -- the goal of a replica on an instance where it is wanted in a state, if it can take one
 abbrev pub goal_on : Placing → PartId → SessionId → InstanceId → StateId → StateId

@@ -12,4 +12,4 @@ mod tables;
 
 pub use aims::{targets, targets_on};
 pub use lookups::Index;
-pub use moving::moving_targets;
+pub use moving::{moving_targets, moving_targets_of};

@@ -1,16 +1,18 @@
 //! The targets of the parts that don't stand still.
-ghost use Rattle.std.specs.Prelude.{◌≡◌, ◌++◌, Some, List, IfOk, OnOk};
+ghost use Rattle.std.specs.Prelude.{◌≡◌, ◌++◌, Some, List, filter, option_copied, IfOk, OnOk};
 ghost use Rattle.hx_cluster.specs.declared.planning.Target.{Target};
 ghost use Rattle.hx_cluster.specs.Ends.{resource_at};
 ghost use Rattle.hx_best.specs.Targets.{targets_at, targets_in, all_targets};
 ghost use Rattle.hx_best.specs.Targets.{targets as targets_of};
-ghost use Rattle.hx_best.specs.Still.{HasMoving};
+ghost use Rattle.hx_marks.specs.Marks.{is_marked};
+ghost use Rattle.hx_best.specs.Still.{HasMoving, is_among, those_among};
 
 use crate::lookups::Index;
 use crate::marks::{Mark, Shown, number};
 use crate::places::Places;
 use hx_cluster::Target;
 use hx_ids::{InstanceId, PartId, ResourceId};
+use hx_marks::Marks;
 use hx_model::Model;
 use std::alloc::{AllocError, Global};
 
@@ -45,16 +47,28 @@ impl Shown<'_> {
     }
 }
 
+/// Whether a part is gone over: all are where none are marked.
+fn is_among(marks: Option<&Marks>, part: PartId) -> bool
+    ensures { result ≡ is_among (option_copied marks.entry) part }
+{
+    match marks {
+        Some(marks) => marks.has(part),
+        None => true,
+    }
+}
+
 /// Those of a resource's targets.
 fn moving_of(
     alloc: Global,
     places: &Places<'_>,
     resource: ResourceId,
+    marks: Option<&Marks>,
 ) -> Result<Vec<Target>, AllocError>
     requires { resource_at places.now.view.ideals.resources resource ≡ Some places.now.resource }
     ensures { IfOk result (λ found.
         HasMoving places.now.models places.now.view
-        (targets_in places.now.models places.now.view resource places.now.resource)
+        (those_among (option_copied marks.entry)
+        (targets_in places.now.models places.now.view resource places.now.resource))
         found.items) }
 {
     let mut found = Vec::new(alloc);
@@ -63,7 +77,11 @@ fn moving_of(
         cells: Vec::new(alloc),
     };
     for index in 0..places.resource().ideal.parts() {
-        let shown = Shown::of(&*places, PartId { resource, index });
+        let part = PartId { resource, index };
+        if !is_among(marks, part) {
+            continue;
+        }
+        let shown = Shown::of(&*places, part);
         shown.add_moving(alloc, &mut room, &mut found)?;
     }
     Ok(found)
@@ -74,18 +92,46 @@ fn moving_on(
     models: &[Model],
     index: &Index<'_>,
     resource: ResourceId,
+    marks: Option<&Marks>,
 ) -> Result<Vec<Target>, AllocError>
     ensures { IfOk result (λ found.
-        HasMoving models.now index.now (targets_of models.now index.now resource) found.items) }
+        HasMoving models.now index.now
+        (those_among (option_copied marks.entry) (targets_of models.now index.now resource))
+        found.items) }
 {
     match index.view().ideals.resources.get(resource.0 as usize) {
-        Some(shown) => moving_of(alloc, &Places::of(alloc, &*index, models, shown)?, resource),
+        Some(shown) => moving_of(
+            alloc,
+            &Places::of(alloc, &*index, models, shown)?,
+            resource,
+            marks,
+        ),
         None => Ok(Vec::new(alloc)),
     }
 }
 
+fn moving_among(
+    alloc: Global,
+    models: &[Model],
+    index: &Index<'_>,
+    marks: Option<&Marks>,
+) -> Result<Vec<Target>, AllocError>
+    ensures { IfOk result (λ found.
+        HasMoving models.now index.now
+        (those_among (option_copied marks.entry) (all_targets models.now index.now)) found.items) }
+{
+    let count = number(index.view().ideals.resources.len())?;
+    let mut found = Vec::new(alloc);
+    for number in 0..count {
+        let more = moving_on(alloc, models, index, ResourceId(number), marks)?;
+        found.extend_from_slice(more.as_slice())?;
+    }
+    Ok(found)
+}
+
 /// The targets of all resources, in order of number, but for parts that are found to stand still.
 /// These cost no walk over the shown sessions. More than 4,294,967,295 resources are want of memory.
+#[tactic(auto, using(crate::proofs::Moves::all_among))]
 pub fn moving_targets(
     alloc: Global,
     models: &[Model],
@@ -94,11 +140,20 @@ pub fn moving_targets(
     ensures { IfOk result (λ found.
         HasMoving models.now index.now (all_targets models.now index.now) found.items) }
 {
-    let count = number(index.view().ideals.resources.len())?;
-    let mut found = Vec::new(alloc);
-    for number in 0..count {
-        let more = moving_on(alloc, models, index, ResourceId(number))?;
-        found.extend_from_slice(more.as_slice())?;
-    }
-    Ok(found)
+    moving_among(alloc, models, index, None)
+}
+
+/// The same of the marked parts alone.
+pub fn moving_targets_of(
+    alloc: Global,
+    models: &[Model],
+    index: &Index<'_>,
+    marks: &Marks,
+) -> Result<Vec<Target>, AllocError>
+    ensures { IfOk result (λ found.
+        HasMoving models.now index.now
+        (filter (λ t. is_marked marks.now t.part) (all_targets models.now index.now))
+        found.items) }
+{
+    moving_among(alloc, models, index, Some(marks))
 }

@@ -3,3 +3,4 @@ pub mod Counted
 pub mod Live
 pub mod Placed
 pub mod Read
+pub mod Wanted

@@ -1,12 +1,13 @@
 //! Whether a view is well formed, so that a plan can be made of it.
 #![tactic(auto)]
 
-ghost use Rattle.std.specs.Prelude.{◌≡◌, ℕ, ◌==◌, ◌&&◌, None, length, nat_lt, nat_le, IfOk};
+ghost use Rattle.std.specs.Prelude.{◌≡◌, ℕ, ◌&&◌, true, None, nat_lt, IfOk};
 ghost use Rattle.std.specs.List.{list_all};
 ghost use Rattle.hx_model.specs.Model.{has_state};
 ghost use Rattle.hx_cluster.specs.Ends.{model_at, parts_of};
 ghost use Rattle.hx_cluster.specs.Views.{is_good_part, is_good_state, is_good_mode};
 ghost use Rattle.hx_cluster.specs.Views.{is_good_resource, is_well_formed};
+ghost use Rattle.hx_formed.specs.Wanted.{are_good_ideals};
 
 mod formed;
 mod mail;
@@ -15,7 +16,7 @@ mod rows;
 mod sessions;
 
 pub use formed::Formed;
-use hx_cluster::{Resource, View};
+use hx_cluster::{Ideals, Resource, View};
 use hx_ideal::Mode;
 use hx_ids::{InstanceId, ModelId, PartId, ResourceId, SessionId, StateId};
 use hx_lists::Seq;
@@ -140,17 +141,32 @@ fn are_good_resources(models: &[Model], instances: usize, resources: &[Resource]
     resources.all(|r| is_good_resource(models, instances, r))
 }
 
-/// Whether what a view shows to be wanted is good.
-fn are_good_ideals(models: &[Model], instances: usize, view: &View) -> bool
-    ensures { result
-        ≡ (nat_le (length view.now.ideals.resources) 256
-        && (length view.now.ideals.drained == instances)
-        && list_all (is_good_resource models.now instances) view.now.ideals.resources) }
+fn are_good_ideals(models: &[Model], instances: usize, ideals: &Ideals) -> bool
+    ensures { result ≡ are_good_ideals models.now instances ideals.now }
 {
-    let resources = view.ideals.resources.as_slice();
+    let resources = ideals.resources.as_slice();
     resources.len() <= 256
-        && view.ideals.drained.len() == instances
+        && ideals.drained.len() == instances
         && are_good_resources(models, instances, resources)
+}
+
+/// Whether a view is well formed, where what it shows to be wanted is good: it isn't gone over.
+pub fn is_well_formed_beside(
+    alloc: Global,
+    models: &[Model],
+    instances: usize,
+    view: &View,
+) -> Result<bool, AllocError>
+    requires ideals { are_good_ideals models.now instances view.now.ideals ≡ true }
+    ensures { IfOk result (λ is. is ≡ is_well_formed models.now instances view.now) }
+{
+    if !are_good_sessions(instances, view.live.as_slice()) {
+        return Ok(false);
+    }
+    if !has_good_mail(alloc, models, view)? {
+        return Ok(false);
+    }
+    has_good_rows(alloc, models, view)
 }
 
 /// Whether a view is well formed, with the models and the number of instances of a description.
@@ -162,14 +178,11 @@ pub fn is_well_formed(
 ) -> Result<bool, AllocError>
     ensures { IfOk result (λ is. is ≡ is_well_formed models.now instances view.now) }
 {
-    if !are_good_sessions(instances, view.live.as_slice()) {
+    if !are_good_ideals(models, instances, &view.ideals) {
         return Ok(false);
     }
-    if !has_good_mail(alloc, models, view)? {
-        return Ok(false);
-    }
-    if !has_good_rows(alloc, models, view)? {
-        return Ok(false);
-    }
-    Ok(are_good_ideals(models, instances, view))
+    is_well_formed_beside(alloc, models, instances, view)
 }
+
+#[cfg(test)]
+mod tests;

@@ -1,20 +1,40 @@
-use Rattle.std.proofs.Common.{ℕ, List, ◌++◌, sym, subst}
+use Rattle.std.proofs.Common.{◌≡◌, arith, not, ℕ, ◌+◌, Bool, true, false, List, [], ◌++◌, ◌∙◌, ap, sym, subst, append-nil}
+use Rattle.std.specs.Prelude.{option_copied}
 use Rattle.std.specs.List.{flat_map}
+use Rattle.std.proofs.lemmas.List.Elements.{filter-append}
 use Rattle.hx_lists.specs.Lists.{numbers_below}
 use Rattle.hx_ids.specs.declared.PartId.{PartId}
 use Rattle.hx_cluster.specs.declared.planning.Target.{Target}
 use Rattle.hx_best.specs.Targets.{targets_at}
 use Rattle.hx_best.specs.Places.{Placing}
-use Rattle.hx_best.specs.Still.{HasMoving}
+use Rattle.hx_best.specs.Still.{HasMoving, is_among, those_among}
 use Rattle.hx_best.proofs.Found.{flat_map-numbers_below_more}
+use Rattle.hx_best.proofs.Moves.{part_among}
 use Rattle.hx_best.proofs.moving.moving_of.Goals as goal
+
+pub loop-index-preserved-then-not-is_among : goal.loop-index-preserved-then-not-is_among
+loop-index-preserved-then-not-is_among c =
+    let x = c.args.places.now in
+    let marks = option_copied c.args.marks in
+    let at : ℕ → List Target = λ k. targets_at x.models x.view x.resource (record { resource = c.args.resource; index = k }) in
+    let k = c.loop-index.index in
+    let none : is_among marks (record { resource = c.args.resource; index = k }) ≡ false = grind (arith, c.is_among.ensures, c.if-not-is_among.true) in
+    let all = ap (those_among marks) (flat_map-numbers_below_more at k) ∙ filter-append (λ t. is_among marks t.part) (flat_map at (numbers_below k)) (at k)
+    ∙ ap (λ (ts : List Target). those_among marks (flat_map at (numbers_below k)) ++ ts) (part_among x.models x.view marks x.resource (record { resource = c.args.resource; index = k }) false none)
+    ∙ append-nil (those_among marks (flat_map at (numbers_below k))) in
+    subst (λ (ts : List Target). HasMoving x.models x.view ts c.loop-index.found.items) (sym all) c.loop-index.invariant
 
 pub loop-index-preserved : goal.loop-index-preserved
 loop-index-preserved c =
     let x = c.args.places.now in
+    let marks = option_copied c.args.marks in
     let at : ℕ → List Target = λ k. targets_at x.models x.view x.resource (record { resource = c.args.resource; index = k }) in
+    let k = c.loop-index.index in
     let old = c.loop-index.found.items in
     let new = c.add_moving.new.found.items in
+    let some : is_among marks (record { resource = c.args.resource; index = k }) ≡ true = grind (arith, c.is_among.ensures, c.if-not-is_among.false) in
+    let all = ap (those_among marks) (flat_map-numbers_below_more at k) ∙ filter-append (λ t. is_among marks t.part) (flat_map at (numbers_below k)) (at k)
+    ∙ ap (λ (ts : List Target). those_among marks (flat_map at (numbers_below k)) ++ ts) (part_among x.models x.view marks x.resource (record { resource = c.args.resource; index = k }) true some) in
     let added = subst (λ (s : Placing × PartId). (all : List Target) → HasMoving s.0.models s.0.view all old → HasMoving s.0.models s.0.view (all ++ targets_at s.0.models s.0.view s.0.resource s.1) new)
     c.of-shown.ensures c.in_ok-add_moving.ensures in
-    subst (λ (all : List Target). HasMoving x.models x.view all new) (sym (flat_map-numbers_below_more at c.loop-index.index)) (added (flat_map at (numbers_below c.loop-index.index)) c.loop-index.invariant)
+    subst (λ (ts : List Target). HasMoving x.models x.view ts new) (sym all) (added (those_among marks (flat_map at (numbers_below k))) c.loop-index.invariant)

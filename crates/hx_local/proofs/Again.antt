@@ -1,0 +1,59 @@
+-- Accepted candidates are those of an earlier view, but for the parts that changed.
+use Rattle.std.proofs.Common.{◌≡◌, ◌∙◌, Bool, true, false, List, [], refl, sym, ap}
+use Rattle.std.specs.Prelude.{if◌then◌else◌}
+use Rattle.hx_ids.specs.declared.PartId.{PartId}
+use Rattle.hx_model.specs.declared.ModelParts.{ModelParts}
+use Rattle.hx_cluster.specs.declared.planning.View.{View}
+use Rattle.hx_cluster.specs.declared.planning.Target.{Target}
+use Rattle.hx_cluster.specs.declared.planning.Candidate.{Candidate}
+use Rattle.hx_parts.specs.Parts.{items_at}
+use Rattle.hx_best.specs.Targets.{all_targets}
+use Rattle.hx_gen.specs.Candidates.{candidates}
+use Rattle.hx_select.specs.Selection.{accepted_of}
+use Rattle.hx_marks.specs.Marks.{IsSpliced}
+use Rattle.hx_local.specs.Local.{IsAlike, ShowSame, DifferWithin, narrowed, marked_targets, accepted_in, accepted_within}
+use Rattle.hx_local.proofs.Marked.{marked_kept, others_out}
+use Rattle.hx_local.proofs.OneByPart.{one_by_part}
+use Rattle.hx_local.proofs.Alone.{alone, alone_same}
+use Rattle.hx_local.proofs.Accepted.{accepted_of_part, accepted_alone, accepted_by_part}
+
+-- a narrowed view shows the same of the marked parts
+pub narrowed_alike : (marked : PartId → Bool) (v : View) → IsAlike (narrowed marked v) v
+narrowed_alike marked v = record { live = refl; ideals = refl }
+
+pub narrowed_shows : (marked : PartId → Bool) (v : View) (p : PartId) → marked p ≡ true → ShowSame (narrowed marked v) v p
+narrowed_shows marked v p m = record { rows = marked_kept (λ r. r.part) marked p m v.rows; mail = marked_kept (λ m. m.part) marked p m v.mail }
+
+module _ (models : List ModelParts) where
+  -- views that are alike and show the same of a part have the same accepted candidates of it
+  pub same_accepted : (v w : View) (p : PartId) → IsAlike v w → ShowSame v w p → items_at (λ c. c.part) p (accepted_in models v) ≡ items_at (λ c. c.part) p (accepted_in models w)
+  same_accepted v w p alike same =
+      accepted_alone models v p
+      ∙ ap (λ (u : View). accepted_of models u (candidates models u (items_at (λ t. t.part) p (all_targets models u)))) (alone_same p v w alike same)
+      ∙ sym (accepted_alone models w p)
+
+  -- those among the targets of the marked parts are all those of a marked part, and none of another
+  pub within_marked : (marked : PartId → Bool) (v : View) (p : PartId) → marked p ≡ true
+      → items_at (λ c. c.part) p (accepted_within models marked v) ≡ items_at (λ c. c.part) p (accepted_in models v)
+  within_marked marked v p m =
+      accepted_of_part models v p (marked_targets models marked v)
+      ∙ ap (λ (ts : List Target). accepted_of models (alone p v) (candidates models (alone p v) ts)) (marked_kept (λ t. t.part) marked p m (all_targets models v))
+      ∙ sym (accepted_of_part models v p (all_targets models v))
+
+  pub within_others : (marked : PartId → Bool) (v : View) (p : PartId) → marked p ≡ false → items_at (λ c. c.part) p (accepted_within models marked v) ≡ []
+  within_others marked v p m =
+      accepted_of_part models v p (marked_targets models marked v)
+      ∙ ap (λ (ts : List Target). accepted_of models (alone p v) (candidates models (alone p v) ts)) (others_out (λ t. t.part) marked p m (all_targets models v))
+
+  -- so a list with the old ones of the parts that stayed and the new ones of the others is all
+  pub accepted_again : (marked : PartId → Bool) (v w : View) → DifferWithin marked v w → (out : List Candidate)
+      → IsSpliced (λ c. c.part) marked (accepted_in models v) (accepted_within models marked (narrowed marked w)) out → out ≡ accepted_in models w
+  accepted_again marked v w differ out spliced = one_by_part (λ c. c.part) (accepted_in models w) out (accepted_by_part models w (all_targets models w)) spliced.by_part (λ p. spliced.at p ∙ one p (marked p) refl)
+    where
+      new : List Candidate
+      new = accepted_within models marked (narrowed marked w)
+
+      one : (p : PartId) (b : Bool) → marked p ≡ b
+          → (if b then items_at (λ c. c.part) p new else items_at (λ c. c.part) p (accepted_in models v)) ≡ items_at (λ c. c.part) p (accepted_in models w)
+      one p true m = within_marked marked (narrowed marked w) p m ∙ same_accepted (narrowed marked w) w p (narrowed_alike marked w) (narrowed_shows marked w p m)
+      one p false m = same_accepted v w p differ.alike (differ.same p m)

@@ -1,0 +1,7 @@
+use Rattle.std.proofs.Common.{◌≡◌, ◌++◌, drop}
+use Rattle.hx_marks.specs.Marks.{marked_in}
+use Rattle.hx_marks.proofs.push_marked.Given as goal
+
+-- with those among the cells that are left the marked parts are all
+abbrev pub invariant-loop-place : goal.invariant-loop-place
+invariant-loop-place l = l.parts.items ++ marked_in l.resource l.place (drop l.place l.cells) ≡ l.fn.parts.items ++ marked_in l.resource 0 l.cells

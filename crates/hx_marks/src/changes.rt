@@ -1,0 +1,104 @@
+//! The parts of which two lists have other items.
+ghost use Rattle.std.specs.Prelude.{◌≡◌, [], false, IsTrue};
+ghost use Rattle.hx_ids.specs.declared.PartId.{PartId};
+ghost use Rattle.hx_parts.specs.Parts.{items_at};
+ghost use Rattle.hx_marks.specs.Marks.{is_marked};
+
+use crate::Marks;
+use hx_cluster::{Message, Row};
+use hx_ids::SessionId;
+use hx_parts::OfPart;
+
+/// What a list has of sessions one after another. Where an item stands among those of its session
+/// is what `comes_before` says; only speed depends on it.
+pub trait Listed: OfPart {
+    fn session(&self) -> SessionId;
+
+    fn same(&self, other: &Self) -> bool
+        ensures { IsTrue result → self.now ≡ other.now };
+
+    fn comes_before(&self, other: &Self) -> bool;
+}
+
+/// Whether an item is gone over before another one, where those of a session were gone over last.
+fn is_first<T: Listed>(item: &T, other: &T, last: SessionId) -> bool {
+    if item.session() == other.session() {
+        item.comes_before(other)
+    } else {
+        item.session() == last
+    }
+}
+
+/// Adds the part of each item to a set. It says no where the set has no room for one of these.
+fn mark_all<T: Listed>(marks: &mut Marks, items: &[T]) -> bool
+    ensures { IsTrue result → (p : PartId) → is_marked marks.new p ≡ false
+        → (is_marked marks.old p ≡ false) × (items_at T.part_of p items.now ≡ []) }
+{
+    for item in items {
+        if !marks.mark(item.part()) {
+            return false;
+        }
+    }
+    true
+}
+
+/// Adds to a set the parts of which two lists have other items, and perhaps others. It says no
+/// where the set has no room for one of these; what is in the set then doesn't matter. It takes no
+/// memory.
+pub fn mark_changes<T: Listed>(marks: &mut Marks, old: &[T], new: &[T]) -> bool
+    ensures { IsTrue result → (p : PartId) → is_marked marks.new p ≡ false
+        → (is_marked marks.old p ≡ false)
+        × (items_at T.part_of p old.now ≡ items_at T.part_of p new.now) }
+{
+    let mut last = SessionId(0);
+    let mut old = old;
+    let mut new = new;
+    while let ([item, olds @ ..], [other, news @ ..]) = (old, new) {
+        if item.same(other) {
+            last = item.session();
+            old = olds;
+            new = news;
+        } else if is_first(item, other, last) {
+            last = item.session();
+            if !marks.mark(item.part()) {
+                return false;
+            }
+            old = olds;
+        } else {
+            last = other.session();
+            if !marks.mark(other.part()) {
+                return false;
+            }
+            new = news;
+        }
+    }
+    mark_all(marks, old) && mark_all(marks, new)
+}
+
+impl Listed for Row {
+    fn session(&self) -> SessionId {
+        self.session
+    }
+
+    fn same(&self, other: &Row) -> bool {
+        *self == *other
+    }
+
+    fn comes_before(&self, other: &Row) -> bool {
+        self.part < other.part
+    }
+}
+
+impl Listed for Message {
+    fn session(&self) -> SessionId {
+        self.session
+    }
+
+    fn same(&self, other: &Message) -> bool {
+        *self == *other
+    }
+
+    fn comes_before(&self, other: &Message) -> bool {
+        self.id < other.id
+    }
+}

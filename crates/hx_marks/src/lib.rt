@@ -1,0 +1,116 @@
+//! Sets of parts: those of which two lists have other items, and lists that get new items of some
+//! parts and keep those of the others.
+#![tactic(auto)]
+
+mod changes;
+mod splicing;
+
+ghost use Rattle.std.specs.Prelude.{◌≡◌, ◌||◌, false, true, IsTrue, IfOk, OnOk, ◌++◌};
+ghost use Rattle.std.specs.List.{list_any};
+ghost use Rattle.hx_ids.specs.declared.PartId.{PartId};
+ghost use Rattle.hx_cluster.specs.Ends.{part_eq};
+ghost use Rattle.hx_marks.specs.Marks.{is_marked, marked_in, are_rising};
+
+pub use changes::{Listed, mark_changes};
+use hx_cluster::Resource;
+use hx_ids::{PartId, ResourceId};
+use hx_lists::Seq;
+pub use splicing::splice;
+use std::alloc::{AllocError, Global};
+use std::marker::Model;
+
+/// A set of parts of resources. Contracts see a cell for each part, which is marked where the part
+/// is in the set.
+#[derive(Drop)]
+pub struct Marks {
+    cells: Seq<Seq<bool>>,
+}
+
+impl Model for Marks {
+    ghost use Rattle.std.specs.Prelude.{List, Bool};
+
+    ghost Value = { List (List Bool) };
+
+    ghost view = { λ a. a.cells };
+}
+
+/// A number of 32 bits. A larger one is want of memory.
+fn number(n: usize) -> Result<u32, AllocError>
+    ensures { IfOk result (λ m. m ≡ n) }
+{
+    u32::try_from(n).map_err(|_| AllocError)
+}
+
+/// Adds the marked parts of a resource, in order.
+fn push_marked(
+    cells: &[bool],
+    resource: ResourceId,
+    parts: &mut Vec<PartId>,
+) -> Result<(), AllocError>
+    ensures { OnOk result (parts.new.items ≡ parts.old.items ++ marked_in resource 0 cells.now) }
+{
+    for (place, marked) in cells.iter().enumerate() {
+        let index = number(place)?;
+        if *marked {
+            parts.push(PartId { resource, index })?;
+        }
+    }
+    Ok(())
+}
+
+impl Marks {
+    /// No parts, with room for those of some resources.
+    pub fn none(alloc: Global, resources: &[Resource]) -> Result<Marks, AllocError>
+        ensures { IfOk result (λ marks. (p : PartId) → is_marked marks p ≡ false) }
+    {
+        let mut cells = Seq::new(alloc);
+        for resource in resources {
+            let row = vec![in alloc; false; resource.ideal.parts() as usize]?;
+            cells.push(Seq::from_vec(row))?;
+        }
+        Ok(Marks { cells })
+    }
+
+    /// Whether a part is in the set. It takes no memory.
+    pub fn has(&self, part: PartId) -> bool
+        ensures { result ≡ is_marked self.now part }
+    {
+        match self.cells.get(part.resource.0 as usize) {
+            Some(cells) => match cells.get(part.index as usize) {
+                Some(marked) => *marked,
+                None => false,
+            },
+            None => false,
+        }
+    }
+
+    /// Puts a part into the set, if there is room for it. It takes no memory.
+    pub fn mark(&mut self, part: PartId) -> bool
+        ensures { IsTrue result
+            → (p : PartId) → is_marked self.new p ≡ (part_eq p part || is_marked self.old p) }
+    {
+        let Some(cells) = self.cells.get_mut(part.resource.0 as usize) else {
+            return false;
+        };
+        let Some(cell) = cells.get_mut(part.index as usize) else {
+            return false;
+        };
+        *cell = true;
+        true
+    }
+
+    /// The parts, in order.
+    pub fn parts(&self, alloc: Global) -> Result<Vec<PartId>, AllocError>
+        ensures rising { IfOk result (λ parts. are_rising parts.items ≡ true) }
+        ensures same { IfOk result (λ parts. (p : PartId)
+            → list_any (part_eq p) parts.items ≡ is_marked self.now p) }
+    {
+        let mut parts = Vec::new(alloc);
+        let cells = self.cells.as_slice();
+        for place in 0..cells.len() {
+            let resource = ResourceId(number(place)?);
+            push_marked(cells[place].as_slice(), resource, &mut parts)?;
+        }
+        Ok(parts)
+    }
+}
