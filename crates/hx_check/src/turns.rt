@@ -1,17 +1,18 @@
 //! A controller's turn, as a log tells it: the calls that are left, and what its reads showed.
 ghost use Rattle.std.specs.Prelude.{◌≡◌, ◌<◌, map, length, replicate, slice_set};
 ghost use Rattle.std.specs.Prelude.{slice_index_or, IfOk, OnOk, OnErr, ◌&&◌};
-ghost use Rattle.hx_cluster.specs.Reads.{nothing_shown as nothing_shown_of};
 ghost use Rattle.hx_pass.specs.Turns;
 ghost use Rattle.hx_records.specs.Reached.{IsReached};
 ghost use Rattle.hx_check.specs.Judging.{call_told, read_on, sent_on};
 
+use hx_calls::{forget_shown, no_ideals, nothing_shown};
 use hx_cluster::{Begun, Ideals, View};
 use hx_ids::{ControllerId, Epoch, InstanceId, PassNo, SessionId};
 use hx_lists::Seq;
 use hx_records::Records;
 use std::alloc::{AllocError, Global};
 use std::marker::Model;
+use std::mem;
 
 /// A read of a turn.
 #[derive(Clone, Copy, Debug, PartialEq, Eq)]
@@ -45,22 +46,6 @@ fn same_call(a: Call, b: Call) -> bool
     }
 }
 
-/// What a turn was shown before its first read.
-fn nothing_shown(alloc: Global) -> View
-    ensures { result ≡ nothing_shown_of }
-{
-    View {
-        live: Seq::new(alloc),
-        mail: Seq::new(alloc),
-        rows: Seq::new(alloc),
-        ideals: Ideals {
-            resources: Seq::new(alloc),
-            drained: Seq::new(alloc),
-            resets: Seq::new(alloc),
-        },
-    }
-}
-
 /// The calls that follow once live showed some sessions.
 fn calls_after_live(
     alloc: Global,
@@ -82,6 +67,17 @@ fn calls_after_live(
     Ok(calls)
 }
 
+/// The numbers of no turn.
+fn not_begun() -> Begun
+    ensures { result ≡ Turns.idle_turn.begun }
+{
+    Begun {
+        epoch: Epoch(0),
+        pass: PassNo(0),
+        change: 0,
+    }
+}
+
 /// A turn. The calls before `done` were made.
 #[derive(Drop)]
 pub(crate) struct Turn {
@@ -89,6 +85,8 @@ pub(crate) struct Turn {
     done: usize,
     begun: Begun,
     view: View,
+    /// The ideals of an earlier turn, over which the next are read.
+    spare: Ideals,
 }
 
 impl Model for Turn {
@@ -115,12 +113,9 @@ impl Turn {
         Turn {
             calls: Vec::new(alloc),
             done: 0,
-            begun: Begun {
-                epoch: Epoch(0),
-                pass: PassNo(0),
-                change: 0,
-            },
+            begun: not_begun(),
             view: nothing_shown(alloc),
+            spare: no_ideals(alloc),
         }
     }
 
@@ -179,8 +174,18 @@ impl Turn {
         self.calls = calls;
         self.done = 0;
         self.begun = begun;
-        self.view = nothing_shown(alloc);
+        forget_shown(&mut self.view, &mut self.spare);
         Ok(())
+    }
+
+    /// Ends, and leaves no turn.
+    pub fn end(&mut self, alloc: Global)
+        ensures { self.new ≡ Turns.idle_turn }
+    {
+        self.calls = Vec::new(alloc);
+        self.done = 0;
+        self.begun = not_begun();
+        forget_shown(&mut self.view, &mut self.spare);
     }
 
     /// Goes on with the next call.
@@ -230,7 +235,9 @@ impl Turn {
         ensures ok { OnOk result (self.new ≡ read_on records.now self.old Read.Ideals) }
         ensures err { OnErr result (self.new ≡ self.old) }
     {
-        self.view.ideals = records.read_ideals()?;
+        let alloc = self.view.live.allocator();
+        let spare = mem::replace(&mut self.spare, no_ideals(alloc));
+        self.view.ideals = records.read_ideals_over(spare)?;
         self.go_on();
         Ok(())
     }
@@ -309,5 +316,5 @@ pub(crate) fn end_turn(alloc: Global, turns: &mut Vec<Turn>, controller: Control
     requires { controller.0 < length turns.old.items }
     ensures { turns.new.items ≡ slice_set turns.old.items controller.0 Turns.idle_turn }
 {
-    turns[controller.0 as usize] = Turn::idle(alloc);
+    turns[controller.0 as usize].end(alloc);
 }

@@ -60,6 +60,15 @@ plan_done spec b a x d seen left none of is =
     subst (λ (v : Controller). v.turn.left ≡ Send ∷ Post ∷ [] → v.plan ≡ None → Tries (step_of spec b.cluster v) b b v (controller (record a { draft = Some d })) (Ok None)) seen
     (λ left none. plan_made spec b (controller a) (controller (record a { draft = Some d })) (finished a.view d) left none of (ap (finished a.view) is) refl) left none
 
+-- a plan that isn't made, of a view that isn't of the board
+pub plan_refused : (spec : Spec) (b : Held) (a : Inside) (x : Controller) → controller a ≡ x → x.turn.left ≡ Send ∷ Post ∷ [] → is_of_cluster spec b.cluster a.view ≡ false
+    → Tries (step_of spec b.cluster x) b b x (controller a) (Err faults.OtherBoard)
+plan_refused spec b a x seen left of =
+    let is : is_of_cluster spec b.cluster x.turn.view ≡ false = ap (λ (v : Controller). is_of_cluster spec b.cluster v.turn.view) (sym seen) ∙ of in
+    let step : step_of spec b.cluster x ≡ Refuses faults.OtherBoard =
+    next_step spec b.cluster x (Send ∷ Post ∷ []) left ∙ ap (λ (t : Bool). of_cluster t (planned_step spec b.cluster x x.plan)) is in
+    record { refused = inr (ap (step_fault b) step); made = tt; kept = (refl, seen) }
+
 -- how a dispatch ends is the same by a plan without the report that it can't tell
 both_first : {A : Type 0} (t : Bool) (x y z : A) → t ≡ true → (if t then x else y) ≡ (if t then x else z)
 both_first t x y z is = if_true t x y is ∙ sym (if_true t x z is)

@@ -1,8 +1,11 @@
 -- What a turn of the board sends and posts is what the board has.
-use Rattle.std.proofs.Common.{◌≡◌, ℕ, true, List, length, sym, ap, ◌∙◌, subst}
+use Rattle.std.proofs.Common.{◌≡◌, ◌&&◌, ℕ, Bool, true, false, List, length, Option, Some, sym, ap, ◌∙◌, subst}
 use Rattle.std.specs.List.{list_all}
 use Rattle.hx_cluster.specs.declared.description.Spec.{Spec}
 use Rattle.hx_cluster.specs.declared.planning.Plan.{Plan}
+use Rattle.hx_cluster.specs.declared.planning.Report.{Report}
+use Rattle.std.specs.Prelude.{Result, Ok, Err, IfOk}
+use Rattle.std.specs.declared.alloc.AllocError.{AllocError}
 use Rattle.hx_cluster.specs.declared.planning.View.{View}
 use Rattle.hx_cluster.specs.declared.happenings.Proposal.{Proposal}
 use Rattle.hx_cluster.specs.declared.happenings.Seen.{Seen}
@@ -12,10 +15,13 @@ use Rattle.hx_lists.specs.Lists.{numbers_below}
 use Rattle.hx_gen.specs.Modelled.{has_models}
 use Rattle.hx_gen.proofs.Modelled.{well_formed-modelled}
 use Rattle.hx_pass.specs.Plans.{plan}
+use Rattle.hx_pass.specs.Drafts.{Draft, draft}
 use Rattle.hx_pass.specs.Turns.{posted_of}
 use Rattle.hx_safe.proofs.Counting.{and-first}
 use Rattle.hx_board.specs.Board.{Held, HasHistory}
+use Rattle.hx_control.specs.declared.controller.Controller.TheInside.{Inside}
 use Rattle.hx_control.specs.Steps.{has_parts_of, is_of_cluster}
+use Rattle.hx_control.specs.Turning.{IsModelled}
 use Rattle.hx_control.proofs.Proposed.{HasGiven, proposed, posted}
 use Rattle.hx_control.proofs.Given.{given, instances_given}
 pub use Rattle.hx_calls.proofs.Placing.{placed_each}
@@ -40,6 +46,25 @@ view_formed spec b view told same of =
     subst (λ (n : ℕ). is_well_formed spec.models n view ≡ true) many
     (and-first (is_well_formed spec.models (length b.cluster.instances) view) (list_all (has_parts_of b.cluster view) (numbers_below (length view.ideals.resources))) of)
 
+pub view_unformed : (spec : Spec) (b : Held) (view : View) → HasHistory b → b.spec ≡ spec → is_well_formed spec.models (length spec.instances) view ≡ false
+    → is_of_cluster spec b.cluster view ≡ false
+view_unformed spec b view told same bad =
+    let many : length b.cluster.instances ≡ length spec.instances = instances_given b told ∙ ap (λ (s : Spec). length s.instances) same in
+    ap (λ (formed : Bool). formed && list_all (has_parts_of b.cluster view) (numbers_below (length view.ideals.resources)))
+    (subst (λ (n : ℕ). is_well_formed spec.models n view ≡ false) (sym many) bad)
+
 pub view_modelled : (spec : Spec) (b : Held) (view : View) → HasHistory b → b.spec ≡ spec → is_of_cluster spec b.cluster view ≡ true
     → has_models spec.models view ≡ true
 view_modelled spec b view told same of = well_formed-modelled spec.models (length spec.instances) view (view_formed spec b view told same of)
+
+-- the shown resources have the models of a draft when it is made, where it is kept, and where it is sent
+pub drafted_modelled : (spec : Spec) (view : View) (d : Draft) → d ≡ draft spec.models spec.rules view → has_models spec.models view ≡ true → has_models d.models view ≡ true
+drafted_modelled spec view d is have = ap (λ (e : Draft). has_models e.models view) is ∙ have
+
+pub kept_modelled : (a : Inside) (d : Draft) → Some d ≡ a.draft → IsModelled a.view a.draft → has_models d.models a.view ≡ true
+kept_modelled a d is modelled = subst (λ (o : Option Draft). IsModelled a.view o) (sym is) modelled
+
+-- a report is the one that is told where it is told at all
+pub report_if : (r : Result Report AllocError) (of : Report) (A B : Type 0) → IfOk r (λ report. report ≡ of) → IfOk r (λ report. A → B → report ≡ of)
+report_if (Ok report) of A B is = λ a b. is
+report_if (Err e) of A B is = tt

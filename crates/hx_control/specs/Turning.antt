@@ -1,10 +1,12 @@
 -- How a controller's turn is kept: by the call that comes next, and what was shown.
-use Rattle.std.specs.Prelude.{ℕ, ◌-◌, ◌<◌, ◌^◌, List, [], ◌∷◌, ◌++◌, length, drop, map, Some, option_map}
+use Rattle.std.specs.Prelude.{◌≡◌, ℕ, ◌-◌, ◌<◌, ◌^◌, true, List, [], ◌∷◌, ◌++◌, length, drop, map, Option, Some, option_map, IfSome}
 use Rattle.hx_ids.specs.declared.SessionId.{SessionId}
 use Rattle.hx_ids.specs.declared.InstanceId.{InstanceId}
 use Rattle.hx_cluster.specs.declared.planning.Plan.{Plan}
+use Rattle.hx_cluster.specs.declared.planning.View.{View}
 use Rattle.hx_formed.specs.Formed.{IsFound}
-use Rattle.hx_pass.specs.Drafts.{finished}
+use Rattle.hx_gen.specs.Modelled.{has_models}
+use Rattle.hx_pass.specs.Drafts.{Draft, finished}
 use Rattle.hx_pass.specs.Turns.{Call, Live, Mail, States, Ideals, Send, Post}
 use Rattle.hx_control.specs.declared.controller.Next.{Next}
 use Rattle.hx_control.specs.declared.controller.Next.TheVariants as nexts
@@ -60,7 +62,12 @@ IsLeft (nexts.Mail n) sessions = n < sessions
 IsLeft (nexts.States n) sessions = n < sessions
 IsLeft _ sessions = Unit {0}
 
+-- the shown resources have models of a kept draft, so that its report can be made
+abbrev pub IsModelled : View → Option Draft → Type 0
+IsModelled view draft = IfSome draft (λ d. has_models d.models view ≡ true)
+
 pub record IsTurn (a : Inside) : Type 0 where
   pub left : IsLeft a.next (length a.view.live)
   pub few : length a.view.live < 2 ^ 32
   pub formed : IsFound a.formed a.view
+  pub modelled : IsModelled a.view a.draft

@@ -8,11 +8,12 @@ ghost use Rattle.hx_control.specs.Turning.{others_at};
 ghost use Rattle.hx_pass.specs.Turns.{idle_turn};
 
 use crate::Stage;
+use hx_calls::{forget_shown, no_ideals, nothing_shown};
 use hx_cluster::{Begun, Ideals, View};
 use hx_formed::Formed;
 use hx_ids::{ControllerId, Epoch, PassNo};
-use hx_lists::Seq;
 use hx_pass::Draft;
+use hx_planner::Planner;
 use std::alloc::Global;
 use std::marker::Model;
 
@@ -39,22 +40,6 @@ fn others(next: Next) -> usize
         Next::Live | Next::Post => 1,
         Next::Send => 2,
         Next::Mail(_) | Next::States(_) | Next::Ideals => 3,
-    }
-}
-
-/// What a turn was shown before its first read.
-pub(crate) fn nothing_shown(alloc: Global) -> View
-    ensures { result ≡ nothing_shown }
-{
-    View {
-        live: Seq::new(alloc),
-        mail: Seq::new(alloc),
-        rows: Seq::new(alloc),
-        ideals: Ideals {
-            resources: Seq::new(alloc),
-            drained: Seq::new(alloc),
-            resets: Seq::new(alloc),
-        },
     }
 }
 
@@ -97,15 +82,19 @@ fn is_first(next: Next) -> bool
 
 /// A controller with its turn. Contracts see its number, the turn, and the plan where it was made:
 /// what is kept of it is a draft, of which the report is made only where it is told. That what it
-/// was shown is well formed is found with the plan, and kept to the end of the turn.
+/// was shown is well formed is found with the plan, and kept to the end of the turn; what a plan
+/// found of the view is kept for the next turn.
 #[derive(Drop)]
 pub struct Controller {
     pub(crate) id: ControllerId,
     pub(crate) next: Next,
     pub(crate) begun: Begun,
     pub(crate) view: View,
+    /// The ideals of an earlier turn, over which the next are read.
+    pub(crate) spare: Ideals,
     pub(crate) formed: Formed,
     pub(crate) draft: Option<Draft>,
+    pub(crate) planner: Planner,
 }
 
 impl Model for Controller {
@@ -129,8 +118,10 @@ impl Controller {
             next: Next::Begin,
             begun: not_begun(),
             view: nothing_shown(alloc),
+            spare: no_ideals(alloc),
             formed: Formed::new(alloc),
             draft: None,
+            planner: Planner::new(),
         }
     }
 
@@ -212,7 +203,7 @@ impl Controller {
     {
         self.next = Next::Begin;
         self.begun = not_begun();
-        self.view = nothing_shown(self.view.live.allocator());
+        forget_shown(&mut self.view, &mut self.spare);
         self.formed.forget();
         self.draft = None;
     }

@@ -1,5 +1,11 @@
 //! How a turn begins, and what it reads.
 ghost use Rattle.std.specs.Prelude.{◌≡◌, ◌<◌, ◌++◌, true, List, drop, length, map};
+ghost use Rattle.std.specs.Prelude.{IfOk, OnOk, OnErr};
+ghost use Rattle.hx_lists.specs.Answers.{RefusedBy};
+ghost use Rattle.hx_cluster.specs.declared.happenings.Event.TheVariants as events;
+ghost use Rattle.hx_cluster.specs.Reads.{ideals_shown};
+ghost use Rattle.hx_board.specs.Board.{happened};
+ghost use Rattle.hx_board.specs.Refusals.{read_refusal};
 ghost use Rattle.hx_ids.specs.declared.SessionId.{SessionId};
 ghost use Rattle.hx_ids.specs.declared.InstanceId.{InstanceId};
 ghost use Rattle.hx_cluster.specs.declared.description.Spec.{Spec};
@@ -9,10 +15,13 @@ ghost use Rattle.hx_control.specs.Steps.{begin_step, step_of};
 ghost use Rattle.hx_control.specs.Turning.{left_of, calls_after_mail, IsLeft};
 ghost use Rattle.hx_control.specs.Made.{Tries};
 
-use crate::controller::{Next, nothing_shown};
+use crate::controller::Next;
 use crate::{ControlFault, Controller, PassOutcome};
-use hx_board::Board;
+use hx_board::{Board, ReadRefusal};
+use hx_calls::{forget_shown, no_ideals};
+use hx_cluster::Ideals;
 use hx_lists::Seq;
+use std::mem;
 
 /// The next call, where so many of the shown sessions' states were read.
 fn states_at(read: u32, sessions: usize) -> Next
@@ -51,7 +60,7 @@ impl Controller {
         let begun = board.begin(self.id)?;
         self.next = Next::Live;
         self.begun = begun;
-        self.view = nothing_shown(self.view.live.allocator());
+        forget_shown(&mut self.view, &mut self.spare);
         self.formed.forget();
         self.draft = None;
         Ok(None)
@@ -117,6 +126,21 @@ impl Controller {
         Ok(None)
     }
 
+    /// What is wanted, read over what an earlier turn read.
+    fn wanted(&mut self, board: &mut Board) -> Result<Ideals, ReadRefusal>
+        requires { has_controller board.old.cluster self.old.id ≡ true }
+        ensures refused { RefusedBy ReadRefusal.OutOfMemory
+            (read_refusal board.old self.old.id self.old.turn.begun.pass) result }
+        ensures shown { IfOk result (λ ideals. ideals ≡ ideals_shown board.old.cluster) }
+        ensures ok { OnOk result (board.new
+            ≡ happened board.old (events.Ideals self.old.id self.old.turn.begun.pass)) }
+        ensures err { OnErr result (board.new ≡ board.old) }
+        ensures same { self.new ≡ self.old }
+    {
+        let spare = mem::replace(&mut self.spare, no_ideals(self.view.live.allocator()));
+        board.read_ideals_over(self.id, self.begun.pass, spare)
+    }
+
     /// Reads what is wanted.
     pub(crate) fn read_ideals(
         &mut self,
@@ -127,7 +151,7 @@ impl Controller {
         ensures { (spec : Spec) → Tries (step_of spec board.old.cluster self.old) board.old
             board.new self.old self.new result }
     {
-        let ideals = board.read_ideals(self.id, self.begun.pass)?;
+        let ideals = self.wanted(board)?;
         self.next = Next::Send;
         self.view.ideals = ideals;
         self.formed.forget();

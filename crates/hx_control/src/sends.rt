@@ -1,12 +1,13 @@
 //! What a turn makes of what it was shown: the plan, its dispatch, and the post.
-ghost use Rattle.std.specs.Prelude.{◌≡◌, ◌+◌, ◌<◌, ◌^◌, None, Some, true, length, IfOk, OnErr};
+ghost use Rattle.std.specs.Prelude.{◌≡◌, ◌+◌, ◌<◌, ◌^◌, [], None, Some, true, length, IfOk, OnErr};
 ghost use Rattle.hx_lists.specs.Lists.{count};
 ghost use Rattle.hx_lists.specs.Answers.{RefusedBy};
 ghost use Rattle.hx_cluster.specs.Steps.{has_controller};
 ghost use Rattle.hx_cluster.specs.declared.happenings.Event.TheVariants as events;
 ghost use Rattle.hx_cluster.specs.Events.{dispatched_of};
+ghost use Rattle.hx_gen.specs.Modelled.{has_models};
 ghost use Rattle.hx_pass.specs.Plans.{plan as plan_of};
-ghost use Rattle.hx_pass.specs.Drafts.{finished};
+ghost use Rattle.hx_pass.specs.Drafts.{finished, reported};
 ghost use Rattle.hx_board.specs.Board.{happened};
 ghost use Rattle.hx_control.specs.Steps.{is_sent, outcome_of, step_of, planned_step};
 ghost use Rattle.hx_control.specs.Turning.{left_of, with_plan};
@@ -17,10 +18,10 @@ use crate::controller::Next;
 use crate::views::is_of_board;
 use crate::{ControlFault, Controller, PassOutcome};
 use hx_board::Board;
-use hx_cluster::{Dispatched, Placed, Plan, Report, Spec};
+use hx_cluster::{Dispatched, Placed, Plan, Proposal, Report, Spec};
 use hx_hops::Hops;
 use hx_lists::Seq;
-use hx_pass::{Draft, draft, posted};
+use hx_pass::Draft;
 use std::alloc::AllocError;
 
 fn is_sent(placed: &Placed) -> bool
@@ -78,30 +79,43 @@ impl Controller {
         ensures { Tries (step_of spec.now board.now.cluster self.old) board.now board.now self.old
             self.new result }
     {
+        // What holds of every board: it has the instances of its description.
+        board.history();
         let alloc = self.view.live.allocator();
-        if !is_of_board(alloc, spec, board, &self.view, &self.formed)? {
+        let Some(draft) = self.planner.draft(alloc, spec, hops, &self.view)? else {
             return Err(ControlFault::OtherBoard);
-        }
+        };
         let instances = spec.instances.len() as usize;
         self.formed
             .keep(spec.models.as_slice(), instances, &self.view)?;
-        self.draft = Some(draft(alloc, spec, hops, &self.view)?);
+        if !is_of_board(alloc, spec, board, &self.view, &self.formed)? {
+            return Err(ControlFault::OtherBoard);
+        }
+        self.draft = Some(draft);
         Ok(None)
+    }
+
+    /// The report of a draft, if its dispatch can tell it.
+    fn report_to_send(&self, draft: &Draft, proposals: &Seq<Proposal>) -> Result<Report, AllocError>
+        requires { has_models draft.now.models self.now.turn.view ≡ true }
+        ensures { IfOk result (λ report. proposals.now ≡ [] → self.now.turn.view.mail ≡ []
+            → report ≡ reported self.now.turn.view draft.now) }
+    {
+        let alloc = self.view.live.allocator();
+        if !proposals.is_empty() || !self.view.mail.is_empty() {
+            let entries = Seq::new(alloc);
+            return Ok(Report { entries });
+        }
+        draft.report(alloc, &self.view)
     }
 
     /// The plan of a draft, but for the report where its dispatch can't tell it.
     fn plan_to_send(&self, draft: &Draft) -> Result<Plan, AllocError>
+        requires { has_models draft.now.models self.now.turn.view ≡ true }
         ensures { IfOk result (IsToSend self.now.turn.view draft.now) }
     {
-        let alloc = self.view.live.allocator();
-        let proposals = draft.proposals(alloc)?;
-        let report = if proposals.is_empty() && self.view.mail.is_empty() {
-            draft.report(alloc, &self.view)?
-        } else {
-            Report {
-                entries: Seq::new(alloc),
-            }
-        };
+        let proposals = draft.proposals(self.view.live.allocator())?;
+        let report = self.report_to_send(draft, &proposals)?;
         Ok(Plan { proposals, report })
     }
 
@@ -157,6 +171,7 @@ impl Controller {
         requires board { board.old.spec ≡ spec.now }
         requires planned { finished self.now.turn.view draft.now
             ≡ plan_of spec.now.models spec.now.rules self.now.turn.view }
+        requires models { has_models draft.now.models self.now.turn.view ≡ true }
         requires next { self.now.turn.left ≡ left_of Next.Send self.now.turn.view.live }
         ensures refused { RefusedBy ControlFault.OutOfMemory
             (step_fault board.old
@@ -183,6 +198,7 @@ impl Controller {
         requires board { board.old.spec ≡ spec.now }
         requires planned { finished self.old.turn.view draft
             ≡ plan_of spec.now.models spec.now.rules self.old.turn.view }
+        requires models { has_models draft.models self.old.turn.view ≡ true }
         requires next { self.old.turn.left ≡ left_of Next.Send self.old.turn.view.live }
         ensures { let planned = with_plan self.old (finished self.old.turn.view draft) in
             Tries (step_of spec.now board.old.cluster planned) board.old board.new planned
@@ -218,7 +234,7 @@ impl Controller {
         if !is_of_board(alloc, spec, board, &self.view, &self.formed)? {
             return Err(ControlFault::OtherBoard);
         }
-        let rows = posted(alloc, &self.view)?;
+        let rows = self.planner.posted(alloc, &self.view)?;
         board.publish(self.id, self.begun.epoch, rows.as_slice())?;
         self.restart();
         Ok(None)

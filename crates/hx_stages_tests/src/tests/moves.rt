@@ -1,4 +1,6 @@
 //! The order of candidates: by partition, rank, place and instance.
+ghost use Rattle.hx_parts.specs.Parts.{IsByPart};
+
 use crate::tests::fixtures::{
     Case, EMPTY, MASTER, N1, N2, N3, OFFLINE, ONLINE, S1, S2, S3, SLAVE, described, hops,
     targets_of, view,
@@ -107,7 +109,9 @@ pub fn candidates_of(
     spec: &Spec,
     view: &View,
     targets: &[Target],
-) -> Vec<Candidate> {
+) -> Vec<Candidate>
+    ensures { IsByPart (λ c. c.part) result.items }
+{
     let models = spec.models.as_slice();
     let hops = hops(rt, alloc, models);
     if !have_models(models, view, targets) {

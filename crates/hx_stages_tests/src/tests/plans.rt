@@ -2,6 +2,7 @@
 //! same, one after the other.
 ghost use Rattle.std.specs.Prelude.{◌≡◌, length};
 ghost use Rattle.hx_cluster.specs.Views.{is_well_formed};
+ghost use Rattle.hx_parts.specs.Parts.{IsByPart};
 
 use crate::tests::fixtures::{
     Case, EMPTY, MASTER, N1, N2, N3, OFFLINE, ONLINE, S1, S2, S3, SLAVE, described, hops,
@@ -16,11 +17,14 @@ use hx_cluster::{
 };
 use hx_formed::is_well_formed;
 use hx_ids::{InstanceId, MsgId, SessionId, StateId};
+use hx_lists::Seq;
 use hx_model::{DROPPED, ERROR};
-use hx_pass::plan;
+use hx_pass::{draft, plan};
+use hx_planner::Planner;
 use hx_report::report;
-use hx_select::select;
+use hx_select::{accepted_on, select};
 use hx_throttle::throttle;
+use hx_views::ViewIndex;
 use std::alloc::Global;
 use std::process::Abort;
 
@@ -385,6 +389,25 @@ fn selected(
     selection
 }
 
+/// The candidates that are accepted, with no word of the others.
+fn accepted(
+    rt: &impl Abort,
+    alloc: Global,
+    spec: &Spec,
+    view: &View,
+    candidates: &[Candidate],
+) -> Seq<Candidate>
+    requires { IsByPart (λ c. c.part) candidates.now }
+{
+    let Ok(index) = ViewIndex::new(alloc, view) else {
+        panic!(rt; "no memory");
+    };
+    let Ok(accepted) = accepted_on(alloc, spec.models.as_slice(), &index, candidates) else {
+        panic!(rt; "no memory");
+    };
+    accepted
+}
+
 fn throttled(
     rt: &impl Abort,
     alloc: Global,
@@ -417,7 +440,9 @@ fn staged(rt: &impl Abort, alloc: Global, spec: &Spec, view: &View) -> Report {
     let targets = targets_of(rt, alloc, spec, view);
     let found = candidates_of(rt, alloc, spec, view, targets.as_slice());
     let selection = selected(rt, alloc, spec, view, found.as_slice());
-    let throttled = throttled(rt, alloc, spec, view, selection.accepted.as_slice());
+    let accepted = accepted(rt, alloc, spec, view, found.as_slice());
+    assert!(rt; accepted == selection.accepted);
+    let throttled = throttled(rt, alloc, spec, view, accepted.as_slice());
     reported(rt, alloc, targets.as_slice(), view, &selection, &throttled)
 }
 
@@ -441,6 +466,47 @@ fn planned(rt: &impl Abort, alloc: Global, spec: &Spec, view: &View) -> Plan {
         panic!(rt; "no memory");
     };
     plan
+}
+
+/// The plan of a draft, with its report.
+#[tactic(auto, using(crate::proofs::Formed::modelled))]
+fn drafted(rt: &impl Abort, alloc: Global, spec: &Spec, view: &View) -> Plan {
+    if !is_formed(rt, alloc, spec, view) {
+        panic!(rt; "no view");
+    }
+    let hops = hops(rt, alloc, spec.models.as_slice());
+    let Ok(draft) = draft(alloc, spec, hops.as_slice(), view) else {
+        panic!(rt; "no memory");
+    };
+    let Ok(proposals) = draft.proposals(alloc) else {
+        panic!(rt; "no memory");
+    };
+    let Ok(report) = draft.report(alloc, view) else {
+        panic!(rt; "no memory");
+    };
+    Plan { proposals, report }
+}
+
+/// What a planner of one view after another proposes of a view. It posts each row.
+fn planned_again(
+    rt: &impl Abort,
+    alloc: Global,
+    spec: &Spec,
+    view: &View,
+    planner: &mut Planner,
+) -> Seq<Proposal> {
+    let hops = hops(rt, alloc, spec.models.as_slice());
+    let Ok(Some(draft)) = planner.draft(alloc, spec, hops.as_slice(), view) else {
+        panic!(rt; "no plan");
+    };
+    let Ok(proposals) = draft.proposals(alloc) else {
+        panic!(rt; "no memory");
+    };
+    let Ok(rows) = planner.posted(alloc, view) else {
+        panic!(rt; "no memory");
+    };
+    assert_eq!(rt; rows.len(), view.rows.len());
+    proposals
 }
 
 fn expect_move(rt: &impl Abort, proposal: &Proposal, wanted: &Move) {
@@ -492,18 +558,21 @@ fn expect_stages(rt: &impl Abort, alloc: Global, spec: &Spec, view: &View, worke
     expect_found(rt, &found, worked.found);
 }
 
-fn expect_plan(rt: &impl Abort, alloc: Global, spec: &Spec, view: &View, worked: &Worked) {
-    let made = planned(rt, alloc, spec, view);
-    expect_found(rt, &made.report, worked.found);
-    expect_moves(rt, made.proposals.as_slice(), worked.moves);
+fn expect_plan(rt: &impl Abort, plan: &Plan, worked: &Worked) {
+    expect_found(rt, &plan.report, worked.found);
+    expect_moves(rt, plan.proposals.as_slice(), worked.moves);
 }
 
 fn expect(rt: &impl Abort, alloc: Global, table: &[Worked]) {
+    let mut planner = Planner::new();
     for worked in table {
         let spec = described(rt, alloc, worked.shown.text);
         let view = view(rt, alloc, &spec, &worked.shown);
         expect_stages(rt, alloc, &spec, &view, worked);
-        expect_plan(rt, alloc, &spec, &view, worked);
+        expect_plan(rt, &planned(rt, alloc, &spec, &view), worked);
+        expect_plan(rt, &drafted(rt, alloc, &spec, &view), worked);
+        let again = planned_again(rt, alloc, &spec, &view, &mut planner);
+        expect_moves(rt, again.as_slice(), worked.moves);
     }
 }
 

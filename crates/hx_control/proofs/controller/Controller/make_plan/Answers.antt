@@ -1,20 +1,46 @@
-use Rattle.std.proofs.Common.{◌≡◌, true, arith}
+use Rattle.std.proofs.Common.{◌≡◌, true, false, length, Option, None, Some, subst, arith}
+use Rattle.std.specs.Prelude.{MatchOption}
+use Rattle.hx_cluster.specs.Views.{is_well_formed}
+use Rattle.hx_gen.proofs.Modelled.{well_formed-modelled}
+use Rattle.hx_pass.specs.Drafts.{Draft, draft}
 use Rattle.hx_control.specs.Steps.{is_of_cluster}
-use Rattle.hx_control.proofs.Sending.{view_formed, view_modelled}
-use Rattle.hx_control.proofs.Ending.{plan_done}
+use Rattle.hx_control.proofs.Sending.{drafted_modelled, view_unformed}
+use Rattle.hx_control.proofs.Ending.{plan_done, plan_refused}
 use Rattle.hx_control.proofs.controller.Controller.make_plan.Goals as goal
+use Rattle.hx_control.proofs.controller.Controller.make_plan.Goals.{In-Some}
+
+-- the view of a draft is well formed
+found : (c : In-Some) → (is_well_formed c.args.spec.now.models (length c.args.spec.now.instances) c.self.inside.view ≡ true) × (c.in-Some.draft ≡ draft c.args.spec.now.models c.args.spec.now.rules c.self.inside.view)
+found c =
+    subst (λ (o : Option Draft). MatchOption o (is_well_formed c.args.spec.now.models (length c.args.spec.now.instances) c.self.inside.view ≡ false)
+    (λ d. (is_well_formed c.args.spec.now.models (length c.args.spec.now.instances) c.self.inside.view ≡ true) × (d ≡ draft c.args.spec.now.models c.args.spec.now.rules c.self.inside.view)))
+    c.in-Some.is c.in_ok-draft.ensures
 
 pub keep-requires : goal.keep-requires
-keep-requires c =
-    let of : is_of_cluster c.args.spec.now c.args.board.now.cluster c.self.inside.view ≡ true = grind (arith, c.in_ok-is_of_board.ensures.is, c.if-not-branch.false) in
-    rw (c.as_slice.ensures, c.len-instances.ensures.len) (view_formed c.args.spec.now c.args.board.now c.self.inside.view c.in_ok-is_of_board.ensures.history c.requires.board of)
+keep-requires c = rw (c.as_slice.ensures, c.len-instances.ensures.len) (found (goal.at.keep-requires c).In-Some).0
 
-pub draft-requires-clause-models : goal.draft-requires-clause-models
-draft-requires-clause-models c =
-    let of : is_of_cluster c.args.spec.now c.args.board.now.cluster c.self.inside.view ≡ true = grind (arith, c.in_ok-is_of_board.ensures.is, c.if-not-branch.false) in
-    view_modelled c.args.spec.now c.args.board.now c.self.inside.view c.in_ok-is_of_board.ensures.history c.requires.board of
+pub returns-in_default : goal.returns-in_default
+returns-in_default c =
+    let bad : is_well_formed c.args.spec.now.models (length c.args.spec.now.instances) c.self.inside.view ≡ false =
+    subst (λ (o : Option Draft). MatchOption o (is_well_formed c.args.spec.now.models (length c.args.spec.now.instances) c.self.inside.view ≡ false)
+    (λ d. (is_well_formed c.args.spec.now.models (length c.args.spec.now.instances) c.self.inside.view ≡ true) × (d ≡ draft c.args.spec.now.models c.args.spec.now.rules c.self.inside.view)))
+    c.in_default.is c.in_ok-draft.ensures in
+    let of : is_of_cluster c.args.spec.now c.args.board.now.cluster c.self.inside.view ≡ false =
+    view_unformed c.args.spec.now c.args.board.now c.self.inside.view c.history.ensures.history c.requires.board bad in
+    plan_refused c.args.spec.now c.args.board.now c.self.inside c.args.self.now c.self.view_is c.requires.next of
+
+pub invariant_of-self-2 : goal.invariant_of-self-2
+invariant_of-self-2 c =
+    let at = (goal.at.invariant_of-self-2 c).In-Some in
+    record {
+      left = c.self.invariant.left;
+      few = c.self.invariant.few;
+      formed = c.in_ok-keep.ensures.found;
+      modelled = drafted_modelled c.args.spec.now c.self.inside.view c.in-Some.draft (found at).1
+          (well_formed-modelled c.args.spec.now.models (length c.args.spec.now.instances) c.self.inside.view (found at).0);
+    }
 
 pub returns : goal.returns
 returns c =
     let of : is_of_cluster c.args.spec.now c.args.board.now.cluster c.self.inside.view ≡ true = grind (arith, c.in_ok-is_of_board.ensures.is, c.if-not-branch.false) in
-    plan_done c.args.spec.now c.args.board.now c.self.inside c.args.self.now c.in_ok-draft.field-0 c.self.view_is c.requires.next c.requires.none of c.in_ok-draft.ensures
+    plan_done c.args.spec.now c.args.board.now c.self.inside c.args.self.now c.in-Some.draft c.self.view_is c.requires.next c.requires.none of (found (goal.at.returns c).In-Some).1

@@ -1,0 +1,11 @@
+use Rattle.std.proofs.Common.{◌≡◌, [], subst}
+use Rattle.std.specs.Prelude.{IfOk}
+use Rattle.hx_pass.specs.Drafts.{reported}
+use Rattle.hx_control.specs.Controllers.{Controller}
+use Rattle.hx_control.proofs.Sending.{report_if}
+use Rattle.hx_control.proofs.controller.Controller.report_to_send.Goals as goal
+
+pub returns : goal.returns
+returns c =
+    report_if c.report.result (reported c.args.self.now.turn.view c.args.draft.now) (c.args.proposals.now ≡ []) (c.args.self.now.turn.view.mail ≡ [])
+    (subst (λ (x : Controller). IfOk c.report.result (λ report. report ≡ reported x.turn.view c.args.draft.now)) c.self.view_is c.report.ensures)

@@ -1,0 +1,68 @@
+-- What is known of a view again, by what was known of an earlier one.
+use Rattle.std.proofs.Common.{◌≡◌, ◌∙◌, ℕ, Bool, true, false, List, [], ◌∷◌, refl, sym, ap, subst, arith}
+use Rattle.std.specs.Prelude.{filter, if◌then◌else◌}
+use Rattle.std.specs.List.{list_all}
+use Rattle.hx_ids.specs.declared.PartId.{PartId}
+use Rattle.hx_model.specs.declared.ModelParts.{ModelParts}
+use Rattle.hx_cluster.specs.declared.planning.View.{View}
+use Rattle.hx_cluster.specs.declared.planning.Candidate.{Candidate}
+use Rattle.hx_cluster.specs.declared.happenings.Seen.{Seen}
+use Rattle.hx_cluster.specs.Views.{is_well_formed}
+use Rattle.hx_pass.specs.Turns.{posted_of}
+use Rattle.hx_parts.specs.Parts.{items_at, IsByPart}
+use Rattle.hx_marks.specs.Marks.{IsSpliced}
+use Rattle.hx_local.specs.Local.{DifferWithin, narrowed, accepted_in, accepted_within}
+use Rattle.hx_local.proofs.Again.{accepted_again}
+use Rattle.hx_local.proofs.Posted.{posted_again}
+use Rattle.hx_local.proofs.FormedAgain.{formed_again}
+use Rattle.hx_planner.specs.Known.{Knowing, IsKnown}
+
+-- a list is spliced by either of two tests that agree
+pub spliced_as : {X : Type 0} (part_of : X → PartId) (marked also : PartId → Bool) → ((p : PartId) → marked p ≡ also p) → (old new out : List X) → IsSpliced part_of marked old new out → IsSpliced part_of also old new out
+spliced_as part_of marked also same old new out is = record {
+  by_part = is.by_part;
+  at = λ p. is.at p ∙ ap (λ (b : Bool). if b then items_at part_of p new else items_at part_of p old) (same p);
+}
+
+-- what is posted is told by the shown sessions and rows
+pub posted_same : (v w : View) → v.live ≡ w.live → v.rows ≡ w.rows → posted_of v ≡ posted_of w
+posted_same v w live rows = rw (live, rows) refl
+
+pub all-filter : {X : Type 0} (t u : X → Bool) (xs : List X) → list_all t xs ≡ true → list_all t (filter u xs) ≡ true
+all-filter t u [] h = refl
+all-filter t u (x ∷ xs) h = one (u x) refl (all-filter t u xs (grind (arith, h)))
+  where
+    one : (b : Bool) → u x ≡ b → list_all t (filter u xs) ≡ true → list_all t (filter u (x ∷ xs)) ≡ true
+    one true e more = grind (arith, e, h, more)
+    one false e more = grind (arith, e, h, more)
+
+-- what is known of a view, and another one that differs from it in the marked parts alone
+module _ (k : Knowing) (accepted : List Candidate) (posted : List Seen) (known : IsKnown k.models k.instances k.view accepted posted) (marked : PartId → Bool) (w : View) (differ : DifferWithin marked k.view w) where
+  -- by a view narrowed to the marked parts
+  module _ (ms : List ModelParts) (n : ℕ) (narrow : View) (models : ms ≡ k.models) (instances : n ≡ k.instances) (narrows : narrow ≡ narrowed marked w) where
+    -- it is told whether the other one is well formed
+    pub formed_by : (b : Bool) → b ≡ is_well_formed ms n narrow → is_well_formed k.models k.instances w ≡ b
+    formed_by b is =
+        formed_again k.models marked k.view w differ k.instances known.formed
+        ∙ sym (is ∙ ap (λ (m : List ModelParts). is_well_formed m n narrow) models ∙ ap (λ (i : ℕ). is_well_formed k.models i narrow) instances ∙ ap (is_well_formed k.models k.instances) narrows)
+
+    -- and what is accepted and posted of it
+    pub known_by : is_well_formed ms n narrow ≡ true → (more : List Candidate) (rows : List Seen) (wide : View) → wide ≡ w
+        → IsSpliced (λ c. c.part) marked accepted (accepted_within ms marked narrow) more → IsSpliced (λ s. s.part) marked posted (posted_of narrow) rows → IsKnown ms n wide more rows
+    known_by formed more rows wide is accepts posts =
+        let old : IsSpliced (λ c. c.part) marked (accepted_in k.models k.view) (accepted_within k.models marked (narrowed marked w)) more =
+        subst (λ (v : View). IsSpliced (λ c. c.part) marked (accepted_in k.models k.view) (accepted_within k.models marked v) more) narrows
+        (subst (λ (m : List ModelParts). IsSpliced (λ c. c.part) marked (accepted_in k.models k.view) (accepted_within m marked narrow) more) models
+        (subst (λ (xs : List Candidate). IsSpliced (λ c. c.part) marked xs (accepted_within ms marked narrow) more) known.accepted_are accepts)) in
+        let seen : IsSpliced (λ s. s.part) marked (posted_of k.view) (posted_of (narrowed marked w)) rows =
+        subst (λ (v : View). IsSpliced (λ s. s.part) marked (posted_of k.view) (posted_of v) rows) narrows
+        (subst (λ (xs : List Seen). IsSpliced (λ s. s.part) marked xs (posted_of narrow) rows) known.posted_are posts) in
+        let good : is_well_formed k.models k.instances w ≡ true = formed_by true (sym formed) in
+        subst (λ (v : View). IsKnown ms n v more rows) (sym is)
+        (subst (λ (i : ℕ). IsKnown ms i w more rows) (sym instances)
+        (subst (λ (m : List ModelParts). IsKnown m k.instances w more rows) (sym models)
+        (record {
+          formed = good;
+          accepted_are = accepted_again k.models marked k.view w differ more old;
+          posted_are = posted_again marked k.view w differ rows seen;
+        })))

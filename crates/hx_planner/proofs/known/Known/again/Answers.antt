@@ -1,0 +1,89 @@
+use Rattle.std.proofs.Common.{rules, ◌≡◌, ◌∙◌, ℕ, not, Bool, true, false, List, sym, ap, subst, arith, refl}
+use Rattle.hx_model.specs.declared.ModelParts.{ModelParts}
+use Rattle.hx_cluster.specs.declared.planning.View.{View}
+use Rattle.hx_cluster.specs.declared.planning.Candidate.{Candidate}
+use Rattle.hx_cluster.specs.declared.happenings.Seen.{Seen}
+use Rattle.hx_cluster.specs.Views.{is_well_formed}
+use Rattle.hx_parts.specs.Parts.{IsByPart}
+use Rattle.hx_marks.specs.Marks.{is_marked, IsSpliced}
+use Rattle.hx_local.specs.Local.{DifferWithin, accepted_in, accepted_within}
+use Rattle.hx_local.proofs.Accepted.{accepted_by_part}
+use Rattle.hx_local.proofs.Posted.{posted_by_part}
+use Rattle.hx_pass.specs.Turns.{posted_of}
+use Rattle.hx_best.specs.Targets.{all_targets}
+use Rattle.hx_gen.proofs.Modelled.{well_formed-modelled}
+use Rattle.hx_planner.specs.Known.{Knowing, IsKnown}
+use Rattle.hx_planner.proofs.Again.{formed_by, known_by}
+use Rattle.hx_planner.proofs.known.Known.again.Goals as goal
+use Rattle.hx_planner.proofs.known.Known.again.Goals.{In_ok-is_well_formed_beside}
+
+-- what was known
+last : In_ok-is_well_formed_beside → Knowing
+last c = record { models = c.self.inside.models; instances = c.self.inside.instances; view = c.self.inside.view }
+
+differ : (c : In_ok-is_well_formed_beside) → DifferWithin (is_marked c.args.marks.now) (last c).view c.args.view.now
+unfolding last
+differ c = subst (λ (k : Knowing). DifferWithin (is_marked c.args.marks.now) k.view c.args.view.now) (sym c.self.view_is) c.requires.differ
+
+same_models : (c : In_ok-is_well_formed_beside) → c.as_slice.result.now ≡ (last c).models
+unfolding last
+same_models c = search rules
+
+pub returns-then-not-branch : goal.returns-then-not-branch
+unfolding last
+returns-then-not-branch c =
+    let at = (goal.at.returns-then-not-branch c).In_ok-is_well_formed_beside in
+    let bad : false ≡ is_well_formed c.as_slice.result.now c.self.inside.instances c.in_ok-narrow.narrow = grind (arith, c.in_ok-is_well_formed_beside.ensures, c.if-not-branch.true) in
+    subst (λ (k : Knowing). is_well_formed k.models k.instances c.args.view.now ≡ false) c.self.view_is
+    (formed_by (last at) c.self.inside.accepted c.self.inside.posted.items c.self.invariant (is_marked c.args.marks.now) c.args.view.now (differ at)
+    c.as_slice.result.now c.self.inside.instances c.in_ok-narrow.narrow (same_models at) refl c.in_ok-narrow.ensures false bad)
+
+pub accepted_again-requires-clause-models : goal.accepted_again-requires-clause-models
+unfolding last
+accepted_again-requires-clause-models c =
+    let at = (goal.at.accepted_again-requires-clause-models c).In_ok-is_well_formed_beside in
+    let also : c.as_slice-2.result.now ≡ c.self.inside.models = search rules in
+    let good : is_well_formed c.as_slice.result.now c.self.inside.instances c.in_ok-narrow.narrow ≡ true = grind (arith, c.in_ok-is_well_formed_beside.ensures, c.if-not-branch.false) in
+    well_formed-modelled c.as_slice-2.result.now c.self.inside.instances c.in_ok-narrow.narrow
+    (ap (λ (ms : List ModelParts). is_well_formed ms c.self.inside.instances c.in_ok-narrow.narrow) (also ∙ sym (same_models at)) ∙ good)
+
+pub accepted_again-requires-clause-old : goal.accepted_again-requires-clause-old
+accepted_again-requires-clause-old c =
+    let old : c.as_slice-old.result.now ≡ accepted_in c.self.inside.models c.self.inside.view = search rules in
+    subst (λ (cs : List Candidate). IsByPart (λ c. c.part) cs) (sym old) (accepted_by_part c.self.inside.models c.self.inside.view (all_targets c.self.inside.models c.self.inside.view))
+
+pub posted_again-requires : goal.posted_again-requires
+posted_again-requires c = record {
+  old = subst (λ (rows : List Seen). IsByPart (λ s. s.part) rows) (sym (c.as_slice-3.ensures.value ∙ c.self.invariant.posted_are)) (posted_by_part c.self.inside.view);
+}
+
+pub invariant_of-result : goal.invariant_of-result
+unfolding last
+invariant_of-result c =
+    let at = (goal.at.invariant_of-result c).In_ok-is_well_formed_beside in
+    let ms = c.as_slice.result.now in
+    let also : c.as_slice-2.result.now ≡ ms = search rules in
+    let old : c.as_slice-old.result.now ≡ c.self.inside.accepted = search rules in
+    let good : is_well_formed ms c.self.inside.instances c.in_ok-narrow.narrow ≡ true = grind (arith, c.in_ok-is_well_formed_beside.ensures, c.if-not-branch.false) in
+    let accepts : IsSpliced (λ c. c.part) (is_marked c.args.marks.now) c.self.inside.accepted (accepted_within ms (is_marked c.args.marks.now) c.in_ok-narrow.narrow) c.in_ok-accepted.accepted =
+    subst (λ (xs : List Candidate). IsSpliced (λ c. c.part) (is_marked c.args.marks.now) xs (accepted_within ms (is_marked c.args.marks.now) c.in_ok-narrow.narrow) c.in_ok-accepted.accepted) old
+    (subst (λ (m : List ModelParts). IsSpliced (λ c. c.part) (is_marked c.args.marks.now) c.as_slice-old.result.now (accepted_within m (is_marked c.args.marks.now) c.in_ok-narrow.narrow) c.in_ok-accepted.accepted) also c.in_ok-accepted.ensures) in
+    let posts : IsSpliced (λ s. s.part) (is_marked c.args.marks.now) c.self.inside.posted.items (posted_of c.in_ok-narrow.narrow) c.in_ok-posted.posted.items =
+    subst (λ (xs : List Seen). IsSpliced (λ s. s.part) (is_marked c.args.marks.now) xs (posted_of c.in_ok-narrow.narrow) c.in_ok-posted.posted.items) c.as_slice-3.ensures.value c.in_ok-posted.ensures in
+    let known = known_by (last at) c.self.inside.accepted c.self.inside.posted.items c.self.invariant (is_marked c.args.marks.now) c.args.view.now (differ at)
+    ms c.self.inside.instances c.in_ok-narrow.narrow (same_models at) refl c.in_ok-narrow.ensures good c.in_ok-accepted.accepted c.in_ok-posted.posted.items c.in_ok-widened.field-0 c.in_ok-widened.ensures accepts posts in
+    subst (λ (m : List ModelParts). IsKnown m c.self.inside.instances c.in_ok-widened.field-0 c.in_ok-accepted.accepted c.in_ok-posted.posted.items) (same_models at ∙ sym c.models.view_is) known
+
+pub returns : goal.returns
+unfolding last
+returns c =
+    let at = (goal.at.returns c).In_ok-is_well_formed_beside in
+    let good : true ≡ is_well_formed c.as_slice.result.now c.self.inside.instances c.in_ok-narrow.narrow = grind (arith, c.in_ok-is_well_formed_beside.ensures, c.if-not-branch.false) in
+    let formed = subst (λ (k : Knowing). is_well_formed k.models k.instances c.args.view.now ≡ true) c.self.view_is
+    (formed_by (last at) c.self.inside.accepted c.self.inside.posted.items c.self.invariant (is_marked c.args.marks.now) c.args.view.now (differ at)
+    c.as_slice.result.now c.self.inside.instances c.in_ok-narrow.narrow (same_models at) refl c.in_ok-narrow.ensures true good) in (
+      formed,
+      ap (λ (m : List ModelParts). record { models = m; instances = c.self.inside.instances; view = c.in_ok-widened.field-0 }) c.models.view_is
+          ∙ ap (λ (v : View). record { models = c.self.inside.models; instances = c.self.inside.instances; view = v }) c.in_ok-widened.ensures
+          ∙ ap (λ (k : Knowing). record { models = k.models; instances = k.instances; view = c.args.view.now }) c.self.view_is,
+    )

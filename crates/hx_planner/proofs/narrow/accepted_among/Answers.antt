@@ -1,0 +1,47 @@
+use Rattle.std.proofs.Common.{◌≡◌, ◌∙◌, ap, true, List, Bool, sym, subst}
+use Rattle.std.specs.Prelude.{IfOk}
+use Rattle.hx_cluster.specs.declared.planning.View.{View}
+use Rattle.hx_cluster.specs.declared.planning.Target.{Target}
+use Rattle.hx_cluster.specs.declared.planning.Candidate.{Candidate}
+use Rattle.hx_parts.specs.Parts.{IsByPart}
+use Rattle.hx_best.specs.Targets.{all_targets}
+use Rattle.hx_best.specs.Still.{HasMoving}
+use Rattle.hx_gen.specs.Stage.{has_model}
+use Rattle.hx_gen.specs.Candidates.{candidates}
+use Rattle.hx_gen.proofs.Modelled.{all_targets-modelled}
+use Rattle.hx_gen.proofs.Moving.{candidates_same}
+use Rattle.hx_select.specs.Selection.{accepted_of}
+use Rattle.hx_marks.specs.Marks.{is_marked}
+use Rattle.hx_local.specs.Local.{marked_targets}
+use Rattle.hx_planner.proofs.Again.{all-filter}
+use Rattle.hx_planner.proofs.narrow.accepted_among.Goals as goal
+use Rattle.hx_planner.proofs.narrow.accepted_among.Goals.{After-as_slice}
+
+moving : (c : After-as_slice) → HasMoving c.args.models.now c.args.view.now (marked_targets c.args.models.now (is_marked c.args.marks.now) c.args.view.now) c.as_slice.result.now
+moving c =
+    let models = c.args.models.now in
+    let view = c.args.view.now in
+    subst (λ (ts : List Target). HasMoving models view (marked_targets models (is_marked c.args.marks.now) view) ts) (sym c.as_slice.ensures.value)
+    (subst (λ (v : View). HasMoving models v (marked_targets models (is_marked c.args.marks.now) v) c.in_ok-targets.targets.items) c.in_ok-index.ensures c.in_ok-targets.ensures)
+
+pub candidates-requires-clause-models : goal.candidates-requires-clause-models
+candidates-requires-clause-models c =
+    let models = c.args.models.now in
+    let view = c.args.view.now in
+    let own : Target → Bool = λ t. has_model models view.ideals.resources t.part.resource in
+    (moving (goal.at.candidates-requires-clause-models c).After-as_slice).among own
+    (all-filter own (λ t. is_marked c.args.marks.now t.part) (all_targets models view) (all_targets-modelled models view c.requires.models))
+
+pub accepted_on-requires : goal.accepted_on-requires
+accepted_on-requires c =
+    record { by_part = subst (λ (cs : List Candidate). IsByPart (λ c. c.part) cs) (sym c.as_slice-2.ensures.value) c.in_ok-candidates.ensures.by_part }
+
+pub returns : goal.returns
+returns c =
+    let models = c.args.models.now in
+    let view = c.args.view.now in
+    let made : c.in_ok-candidates.candidates.items ≡ candidates models view (marked_targets models (is_marked c.args.marks.now) view) =
+    c.in_ok-candidates.ensures.found
+    ∙ candidates_same models view (marked_targets models (is_marked c.args.marks.now) view) c.as_slice.result.now (moving (goal.at.returns c).After-as_slice) in
+    subst (λ (cs : List Candidate). IfOk c.accepted_on.result (λ accepted. accepted ≡ accepted_of models view cs)) (c.as_slice-2.ensures.value ∙ made)
+    (subst (λ (v : View). IfOk c.accepted_on.result (λ accepted. accepted ≡ accepted_of models v c.as_slice-2.result.now)) (c.shown.ensures ∙ c.in_ok-index.ensures) c.accepted_on.ensures)

@@ -1,0 +1,222 @@
+//! What is known of a view.
+ghost use Rattle.std.specs.Prelude.{◌≡◌, ℕ, List, true, false, length, IfOk, IsTrue, MatchOption};
+ghost use Rattle.hx_ids.specs.declared.PartId.{PartId};
+ghost use Rattle.hx_model.specs.declared.ModelParts.{ModelParts};
+ghost use Rattle.hx_cluster.specs.declared.planning.View.{View};
+ghost use Rattle.hx_cluster.specs.Views.{is_well_formed};
+ghost use Rattle.hx_pass.specs.Turns.{posted_of};
+ghost use Rattle.hx_gen.specs.Modelled.{has_models};
+ghost use Rattle.hx_parts.specs.Parts.{IsByPart};
+ghost use Rattle.hx_marks.specs.Marks.{is_marked, IsSpliced};
+ghost use Rattle.hx_local.specs.Local.{IsAlike, ShowSame, DifferWithin, accepted_in, accepted_within};
+ghost use Rattle.hx_planner.specs.Known.{IsKnownOf, IsKnownAs};
+
+use crate::narrow::{accepted_among, narrowed, widened};
+use hx_cluster::{Candidate, Ideals, Seen, Spec, View};
+use hx_formed::{is_well_formed, is_well_formed_beside};
+use hx_hops::Hops;
+use hx_lists::Seq;
+use hx_marks::{Marks, mark_changes, splice};
+use hx_model::Model;
+use hx_pass::{accepted, posted};
+use hx_same::Same;
+use std::alloc::{AllocError, Global};
+use std::marker;
+
+/// A view that is well formed with the models and the number of instances of a description, and
+/// what a pass finds of it: the accepted candidates, and the rows to post. Contracts see the first
+/// three.
+#[derive(Drop)]
+pub(crate) struct Known {
+    models: Seq<Model>,
+    instances: usize,
+    view: View,
+    accepted: Seq<Candidate>,
+    posted: Vec<Seen>,
+}
+
+impl marker::Model for Known {
+    ghost use Rattle.hx_planner.specs.Known.{Knowing, IsKnown};
+
+    ghost Value = { Knowing };
+
+    ghost view = { λ a. record { models = a.models; instances = a.instances; view = a.view } };
+
+    ghost invariant = { λ a. IsKnown a.models a.instances a.view a.accepted a.posted.items };
+}
+
+/// A copy of what is wanted.
+fn copy_of(ideals: &Ideals) -> Result<Ideals, AllocError>
+    ensures { IfOk result (λ copy. copy ≡ ideals.now) }
+{
+    Ok(Ideals {
+        resources: ideals.resources.clone()?,
+        drained: ideals.drained.clone()?,
+        resets: ideals.resets.clone()?,
+    })
+}
+
+/// A copy of a view.
+fn copied(view: &View) -> Result<View, AllocError>
+    ensures { IfOk result (λ copy. copy ≡ view.now) }
+{
+    Ok(View {
+        live: view.live.clone()?,
+        mail: view.mail.clone()?,
+        rows: view.rows.clone()?,
+        ideals: copy_of(&view.ideals)?,
+    })
+}
+
+/// Whether what is wanted is the same.
+fn same_ideals(ideals: &Ideals, others: &Ideals) -> bool
+    ensures { IsTrue result → ideals.now ≡ others.now }
+{
+    ideals.resources.same(&others.resources)
+        && ideals.drained.same(&others.drained)
+        && ideals.resets.same(&others.resets)
+}
+
+/// The accepted candidates of an earlier view, where those of marked parts give way to the ones of a
+/// view of these parts alone.
+fn accepted_again(
+    alloc: Global,
+    models: &[Model],
+    hops: &[Hops],
+    narrow: &View,
+    marks: &Marks,
+    old: &[Candidate],
+) -> Result<Seq<Candidate>, AllocError>
+    requires hops { hops.now ≡ models.now }
+    requires models { has_models models.now narrow.now ≡ true }
+    requires old { IsByPart (λ c. c.part) old.now }
+    ensures { IfOk result (IsSpliced (λ c. c.part) (is_marked marks.now) old.now
+        (accepted_within models.now (is_marked marks.now) narrow.now)) }
+{
+    let new = accepted_among(alloc, models, hops, narrow, marks)?;
+    let parts = marks.parts(alloc)?;
+    let accepted = splice(alloc, old, parts.as_slice(), new.as_slice())?;
+    Ok(Seq::from_vec(accepted))
+}
+
+/// The same of the rows to post.
+fn posted_again(
+    alloc: Global,
+    narrow: &View,
+    marks: &Marks,
+    old: &[Seen],
+) -> Result<Vec<Seen>, AllocError>
+    requires old { IsByPart (λ s. s.part) old.now }
+    ensures { IfOk result (λ posted. IsSpliced (λ s. s.part) (is_marked marks.now) old.now
+        (posted_of narrow.now) posted.items) }
+{
+    let new = posted(alloc, narrow)?;
+    let parts = marks.parts(alloc)?;
+    splice(alloc, old, parts.as_slice(), new.as_slice())
+}
+
+impl Known {
+    /// The accepted candidates.
+    pub fn accepted(&self) -> &[Candidate]
+        ensures { result.now ≡ accepted_in self.now.models self.now.view }
+    {
+        self.accepted.as_slice()
+    }
+
+    /// The rows to post.
+    pub fn posted(&self) -> &[Seen]
+        ensures { result.now ≡ posted_of self.now.view }
+    {
+        self.posted.as_slice()
+    }
+
+    /// What there is to know of a view, if it is well formed with a description.
+    pub fn of(
+        alloc: Global,
+        spec: &Spec,
+        hops: &[Hops],
+        view: &View,
+    ) -> Result<Option<Known>, AllocError>
+        requires { hops.now ≡ spec.now.models }
+        ensures { IfOk result (λ known. IsKnownOf spec.now view.now known) }
+    {
+        let models = spec.models.as_slice();
+        let instances = spec.instances.len() as usize;
+        if !is_well_formed(alloc, models, instances, view)? {
+            return Ok(None);
+        }
+        Ok(Some(Known {
+            accepted: accepted(alloc, models, hops, view)?,
+            posted: posted(alloc, view)?,
+            models: spec.models.clone()?,
+            instances,
+            view: copied(view)?,
+        }))
+    }
+
+    /// Whether a description has the same models and as many instances, and a view shows the same
+    /// sessions and the same to be wanted.
+    pub fn is_for(&self, spec: &Spec, view: &View) -> bool
+        ensures models { IsTrue result → self.now.models ≡ spec.now.models }
+        ensures instances { IsTrue result → self.now.instances ≡ length spec.now.instances }
+        ensures alike { IsTrue result → IsAlike self.now.view view.now }
+    {
+        self.instances == spec.instances.len() as usize
+            && self.view.live.same(&view.live)
+            && same_ideals(&self.view.ideals, &view.ideals)
+            && self.models.same(&spec.models)
+    }
+
+    /// Whether a view shows the same sessions and rows, so that the same is to be posted.
+    pub fn shows(&self, view: &View) -> bool
+        ensures { IsTrue result → posted_of self.now.view ≡ posted_of view.now }
+    {
+        self.view.live.same(&view.live) && self.view.rows.same(&view.rows)
+    }
+
+    /// Marks the parts of which a view shows other rows or messages. It says no where there is no
+    /// room for one of these.
+    pub fn mark_changes(&self, view: &View, marks: &mut Marks) -> bool
+        ensures { IsTrue result → (p : PartId) → is_marked marks.new p ≡ false
+            → (is_marked marks.old p ≡ false) × ShowSame self.now.view view.now p }
+    {
+        mark_changes(marks, self.view.mail.as_slice(), view.mail.as_slice())
+            && mark_changes(marks, self.view.rows.as_slice(), view.rows.as_slice())
+    }
+
+    /// What there is to know of a view that differs from this one in the marked parts alone, if it
+    /// is well formed.
+    pub fn again(
+        self,
+        alloc: Global,
+        hops: &[Hops],
+        view: &View,
+        marks: &Marks,
+    ) -> Result<Option<Known>, AllocError>
+        requires hops { hops.now ≡ self.models }
+        requires differ { DifferWithin (is_marked marks.now) self.view view.now }
+        ensures { IfOk result (λ known. IsKnownAs self.models self.instances view.now known) }
+    {
+        let Known {
+            models,
+            instances,
+            view: last,
+            accepted,
+            posted,
+        } = self;
+        let narrow = narrowed(alloc, last, view, marks)?;
+        if !is_well_formed_beside(alloc, models.as_slice(), instances, &narrow)? {
+            return Ok(None);
+        }
+        let old = accepted.as_slice();
+        let accepted = accepted_again(alloc, models.as_slice(), hops, &narrow, marks, old)?;
+        let posted = posted_again(alloc, &narrow, marks, posted.as_slice())?;
+        Ok(Some(Known {
+            models,
+            instances,
+            view: widened(alloc, narrow, view)?,
+            accepted,
+            posted,
+        }))
+    }
+}

@@ -1,0 +1,94 @@
+//! What a pass finds of the marked parts of a view.
+ghost use Rattle.std.specs.Prelude.{◌≡◌, true, filter, IfOk};
+ghost use Rattle.hx_gen.specs.Modelled.{has_models};
+ghost use Rattle.hx_parts.specs.Parts.{IsByPart};
+ghost use Rattle.hx_marks.specs.Marks.{is_marked};
+ghost use Rattle.hx_local.specs.Local.{IsAlike, narrowed as narrowed_of, accepted_within};
+
+use hx_best::{Index, moving_targets_of};
+use hx_cluster::{Candidate, View};
+use hx_gen::candidates;
+use hx_hops::Hops;
+use hx_lists::Seq;
+use hx_marks::Marks;
+use hx_model::Model;
+use hx_parts::OfPart;
+use hx_select::accepted_on;
+use std::alloc::{AllocError, Global};
+
+/// The items of marked parts.
+fn marked<T: OfPart>(alloc: Global, items: &[T], marks: &Marks) -> Result<Seq<T>, AllocError>
+    ensures { IfOk result (λ kept.
+        kept ≡ filter (λ x. is_marked marks.now (T.part_of x)) items.now) }
+{
+    let mut kept = Seq::new(alloc);
+    for item in items {
+        if marks.has(item.part()) {
+            kept.push(*item)?;
+        }
+    }
+    Ok(kept)
+}
+
+/// A view with the rows and messages of the marked parts alone. The sessions, and what is wanted,
+/// are those of an earlier view.
+pub(crate) fn narrowed(
+    alloc: Global,
+    last: View,
+    view: &View,
+    marks: &Marks,
+) -> Result<View, AllocError>
+    requires { IsAlike last view.now }
+    ensures { IfOk result (λ narrow. narrow ≡ narrowed_of (is_marked marks.now) view.now) }
+{
+    let View {
+        live,
+        ideals,
+        mail: _,
+        rows: _,
+    } = last;
+    Ok(View {
+        live,
+        mail: marked(alloc, view.mail.as_slice(), marks)?,
+        rows: marked(alloc, view.rows.as_slice(), marks)?,
+        ideals,
+    })
+}
+
+/// A view, of which a narrowed one has the sessions and what is wanted.
+pub(crate) fn widened(alloc: Global, narrow: View, view: &View) -> Result<View, AllocError>
+    requires { IsAlike narrow view.now }
+    ensures { IfOk result (λ wide. wide ≡ view.now) }
+{
+    let View {
+        live,
+        ideals,
+        mail: _,
+        rows: _,
+    } = narrow;
+    Ok(View {
+        live,
+        mail: Seq::from_slice(alloc, view.mail.as_slice())?,
+        rows: Seq::from_slice(alloc, view.rows.as_slice())?,
+        ideals,
+    })
+}
+
+/// The accepted candidates among the targets of the marked parts.
+pub(crate) fn accepted_among(
+    alloc: Global,
+    models: &[Model],
+    hops: &[Hops],
+    view: &View,
+    marks: &Marks,
+) -> Result<Seq<Candidate>, AllocError>
+    requires hops { hops.now ≡ models.now }
+    requires models { has_models models.now view.now ≡ true }
+    ensures { IfOk result (λ accepted.
+        accepted ≡ accepted_within models.now (is_marked marks.now) view.now) }
+{
+    let index = Index::of(alloc, view)?;
+    let targets = moving_targets_of(alloc, models, &index, marks)?;
+    let candidates = candidates(alloc, models, hops, view, targets.as_slice())?;
+    accepted_on(alloc, models, index.shown(), candidates.as_slice())
+}
