@@ -1,7 +1,7 @@
 -- Numbers as they are printed and read.
-use Rattle.std.proofs.Common.{All, false, ◌≡◌, ℕ, ◌^◌, ◌<◌, true, not, ◌&&◌, ◌||◌, eqb, ltb, List, [], ◌∷◌, length, get_or, slice_get, Some, None, Result, Ok, Err, sym, ap, ◌∙◌, inl, inr, arith}
+use Rattle.std.proofs.Common.{All, false, ◌≡◌, ℕ, ◌+◌, ◌/◌, ◌%◌, ◌^◌, ◌<◌, ◌≤◌, true, not, ◌&&◌, ◌||◌, eqb, ltb, List, [], ◌∷◌, ◌++◌, length, get_or, slice_get, Some, None, Result, Ok, Err, sym, ap, ◌∙◌, append_assoc, length-append, inl, inr, arith}
 use Rattle.std.proofs.lemmas.Bool.{cases_eq, cases_Bool, or_cases, false_from_ne_true, not-true, eqb-true, eqb-false, and_parts, and_from, or_left, or_right, cond-true, cond-false, lt-ltb, ltb-true, eq-eqb, ne_eqb}
-use Rattle.std.proofs.lemmas.Fmt.{digits_decimal, digits_value-decimal, decimal_nonempty, decimal_digit, first_decimal, decimal-digits_value}
+use Rattle.std.proofs.lemmas.Fmt.{digits_decimal, digits_value-decimal, decimal_nonempty, decimal_digit, decimal_step, first_decimal, decimal-digits_value, length-decimal-le}
 use Rattle.std.proofs.lemmas.List.{get_or_default}
 use Rattle.std.proofs.lemmas.Str.Parse.{IsNumeralModel, numerals_by_value, tells_all_ascii_digits, parse_plain, not_in_digits}
 use Rattle.std.specs.Fmt.{decimal}
@@ -97,3 +97,23 @@ number_of-parse {E = E} bs (Err e) b at nonzero h =
 pub decimal-without : (n c : ℕ) → n < 2 ^ 64 → c < 48 → All (λ b. eqb b c ≡ false) (decimal n)
 decimal-without n c h low k d lt =
     ne_eqb _ c (λ e. not_in_digits own (decimal n) c (digits_decimal own n h) (λ digit. omega arith) k lt (sym (get_or_default (decimal n) k d 0 lt) ∙ e))
+
+-- numbers by pairs of digits
+abbrev pair : ℕ → List ℕ
+pair p = (48 + p / 10) ∷ (48 + p % 10) ∷ []
+
+pub decimal_two : (n : ℕ) → 10 ≤ n → n < 100 → decimal n ≡ pair n
+decimal_two n low high = rw (decimal_step n low (omega arith), decimal_digit (n / 10) (omega arith))
+
+pub decimal_pair : (n : ℕ) → 100 ≤ n → n < 2 ^ 64 → decimal n ≡ decimal (n / 100) ++ pair (n % 100)
+decimal_pair n low high =
+    let hundreds : n / 10 / 10 ≡ n / 100 = omega arith in
+    let tens : n / 10 % 10 ≡ n % 100 / 10 = omega arith in
+    let ones : n % 10 ≡ n % 100 % 10 = omega arith in
+    rw (decimal_step n (omega arith) high, decimal_step (n / 10) (omega arith) (omega arith), append_assoc, hundreds, tens, ← ones)
+
+pub length_pair : (n : ℕ) → 100 ≤ n → n < 2 ^ 64 → length (decimal n) ≡ length (decimal (n / 100)) + 2
+length_pair n low high = ap length (decimal_pair n low high) ∙ length-append _ _
+
+pub most_digits : (n : ℕ) → n < 2 ^ 64 → length (decimal n) ≤ 20
+most_digits n low = length-decimal-le 20 n (omega arith) (omega arith) low

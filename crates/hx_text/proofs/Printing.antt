@@ -1,10 +1,10 @@
 -- A text that is printed piece by piece: what was put of it when memory is refused.
-use Rattle.std.proofs.Common.{◌≡◌, ℕ, ◌+◌, ◌-◌, ◌<◌, ◌≤◌, suc, List, ◌∷◌, ◌++◌, length, get_or, take, drop, Result, Ok, Err, OnOk, OnErr, sym, ap, ◌∙◌, append_assoc, add-one, drop-cons, length-append, arith}
+use Rattle.std.proofs.Common.{◌≡◌, ℕ, ◌+◌, ◌-◌, ◌<◌, ◌≤◌, suc, List, ◌∷◌, ◌++◌, length, get_or, take, drop, Result, Ok, Err, OnOk, OnErr, sym, ap, ◌∙◌, subst, append_assoc, add-one, drop-cons, length-append, arith}
 use Rattle.std.specs.Prelude.{IsErrAnd}
 use Rattle.std.proofs.lemmas.Result.{err_from_is_err_and}
 use Rattle.std.proofs.lemmas.List.{append-nil, take_all, take-append-drop}
 use Rattle.std.proofs.Math.Seq.{take-append-add, take-append_seam}
-use Rattle.hx_text.specs.Texts.{PutsFront, Prints}
+use Rattle.hx_text.specs.Texts.{PutsFront, Prints, Writes}
 
 -- nothing was put
 pub puts_none : (text old new : List ℕ) → new ≡ old → PutsFront text old new
@@ -15,7 +15,7 @@ pub puts_all : (text old new : List ℕ) → new ≡ old ++ text → PutsFront t
 puts_all text old new is = (length text, is ∙ ap (λ t. old ++ t) (sym (take_all (length text) text (omega arith))))
 
 -- a part was put, which the rest completes
-puts_part : (old new done rest text : List ℕ) → new ≡ old ++ done → done ++ rest ≡ text → PutsFront text old new
+pub puts_part : (old new done rest text : List ℕ) → new ≡ old ++ done → done ++ rest ≡ text → PutsFront text old new
 puts_part old new done rest text is whole =
     (length done, is ∙ ap (λ t. old ++ t) (sym (ap (take (length done)) (sym whole) ∙ take-append_seam done rest)))
 
@@ -85,7 +85,21 @@ pub prints_then : {T E : Type 0} (old mid new text more : List ℕ) (result : Re
 prints_then old mid new text more (Ok x) is p = record { ok = p.ok ∙ ap (λ t. t ++ more) is ∙ append_assoc old text more; err = tt }
 prints_then old mid new text more (Err e) is p = record { ok = tt; err = puts_then old mid new text more is p.err }
 
+-- a text behind what was printed before it, by a call that prints all or nothing
+pub prints_next : {T E : Type 0} (old mid new first second text : List ℕ) (result : Result T E) → mid ≡ old ++ first → OnOk result (new ≡ mid ++ second) → OnErr result (new ≡ mid)
+    → first ++ second ≡ text → Prints text old result new
+prints_next old mid new first second text result is ok err whole =
+    subst (λ t. Prints t old result new) whole (prints_then old mid new first second result is (prints_or_none second mid new result ok err))
+
 -- a call that printed the whole before it answers
 pub prints_whole : {T E : Type 0} (text old new : List ℕ) (result : Result T E) → new ≡ old ++ text → Prints text old result new
 prints_whole text old new (Ok x) is = record { ok = is; err = tt }
 prints_whole text old new (Err e) is = record { ok = tt; err = puts_all text old new is }
+
+-- a text written behind another
+pub writes_then : {first second : List ℕ} {at between end : ℕ} {old mid new : List ℕ} → Writes first at old between mid → Writes second between mid end new → Writes (first ++ second) at old end new
+writes_then {first} {second} {at} {between} {end} {old} {mid} {new} p q = record {
+  text_end = omega (arith, p.text_end, q.text_end, length-append first second);
+  front = q.front ∙ ap (λ t. t ++ second) p.front ∙ append_assoc (take at old) first second;
+  same_length = q.same_length ∙ p.same_length;
+}

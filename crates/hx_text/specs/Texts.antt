@@ -1,5 +1,5 @@
 -- Texts, which are lists of bytes, and the pieces that they are printed from.
-use Rattle.std.specs.Prelude.{◌≡◌, ℕ, List, ◌++◌, take, decimal, Result, OnOk, OnErr}
+use Rattle.std.specs.Prelude.{◌≡◌, ℕ, ◌+◌, List, ◌++◌, length, take, decimal, Result, OnOk, OnErr}
 use Rattle.hx_text.specs.declared.pages.Piece.{Piece}
 use Rattle.hx_text.specs.declared.pages.Piece.TheVariants.{Text, Number}
 
@@ -16,3 +16,9 @@ PutsFront text old new = (n : ℕ) × (new ≡ old ++ take n text)
 pub record Prints {T E : Type 0} (text old : List ℕ) (result : Result T E) (new : List ℕ) : Type 0 where
   pub ok : OnOk result (new ≡ old ++ text)
   pub err : OnErr result (PutsFront text old new)
+
+-- a text is written over what stands from a place on, and ends at another place
+pub record Writes (text : List ℕ) (at : ℕ) (old : List ℕ) (end : ℕ) (new : List ℕ) : Type 0 where
+  pub text_end : end ≡ at + length text
+  pub front : take end new ≡ take at old ++ text
+  pub same_length : length new ≡ length old

@@ -6,6 +6,7 @@ mod line_ends;
 mod line_table;
 mod pages;
 mod spellings;
+mod writing;
 
 pub use line_ends::{Input, cut, split_line, split_words};
 pub use line_table::{Lines, TextFault, split_lines};

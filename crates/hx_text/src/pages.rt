@@ -1,24 +1,34 @@
 //! A page of text, and the pieces that lines on it are made of.
-ghost use Rattle.std.specs.Prelude.{◌≡◌, ◌++◌, [], decimal, length, take, IsTrue, ◌↔◌, OnOk, OnErr};
+ghost use Rattle.std.specs.Prelude.{◌≡◌, ◌+◌, ◌≤◌, ◌∷◌, ◌++◌, [], decimal, length, take, IsTrue, ◌↔◌, OnOk, OnErr};
 ghost use Rattle.std.specs.List.{flat_map};
 ghost use Rattle.hx_text.specs.Texts.{piece_text, Prints};
 
-use itoa::Buffer;
+use crate::writing::{write_str, write_u64};
 use std::alloc::{AllocError, Global};
 use std::marker::Model;
+
+/// How many digits a number of 64 bits has, at most.
+const MOST_DIGITS: usize = 20;
+
+/// How many bytes a page grows by, at least.
+const BLOCK: usize = 1024;
 
 /// A text that grows at its end. Contracts see it as its bytes.
 #[derive(Debug, Drop)]
 pub struct Page {
+    /// The text, and behind it room for more.
     bytes: Vec<u8>,
+    len: usize,
 }
 
 impl Model for Page {
-    ghost use Rattle.std.specs.Prelude.{List, ℕ};
+    ghost use Rattle.std.specs.Prelude.{List, ℕ, ◌≤◌, length, take};
 
     ghost Value = { List ℕ };
 
-    ghost view = { λ a. a.bytes.items };
+    ghost view = { λ a. take a.len a.bytes.items };
+
+    ghost invariant = { λ a. a.len ≤ length a.bytes.items };
 }
 
 /// A part of a line.
@@ -29,6 +39,31 @@ pub enum Piece<'a> {
     Number(u64),
 }
 
+/// Makes a list of bytes longer, by so many zeros.
+fn lengthen(bytes: &mut Vec<u8>, additional: usize) -> Result<(), AllocError>
+    ensures ok { OnOk result (length bytes.new.items ≡ length bytes.old.items + additional) }
+    ensures kept { take (length bytes.old.items) bytes.new.items ≡ bytes.old.items }
+{
+    bytes.reserve(additional)?;
+    bytes.resize(bytes.len() + additional, 0)
+}
+
+/// Makes room for so many bytes more behind the first ones, which stay.
+fn make_room(bytes: &mut Vec<u8>, len: usize, additional: usize) -> Result<(), AllocError>
+    requires { len ≤ length bytes.old.items }
+    ensures ok { OnOk result (len + additional ≤ length bytes.new.items) }
+    ensures kept { take len bytes.new.items ≡ take len bytes.old.items }
+    ensures grown { length bytes.old.items ≤ length bytes.new.items }
+{
+    if additional <= bytes.len() - len {
+        Ok(())
+    } else if additional <= BLOCK {
+        lengthen(bytes, BLOCK)
+    } else {
+        lengthen(bytes, additional)
+    }
+}
+
 impl Page {
     /// A page without text.
     pub fn new(alloc: Global) -> Page
@@ -36,6 +71,7 @@ impl Page {
     {
         Page {
             bytes: Vec::new(alloc),
+            len: 0,
         }
     }
 
@@ -43,21 +79,32 @@ impl Page {
     pub fn as_bytes(&self) -> &[u8]
         ensures { result.now ≡ self.now }
     {
-        self.bytes.as_slice()
+        &self.bytes[..self.len]
     }
 
     /// How many bytes it has.
     pub fn len(&self) -> usize
         ensures { result ≡ length self.now }
     {
-        self.bytes.len()
+        self.len
     }
 
     /// Whether it has none.
     pub fn is_empty(&self) -> bool
         ensures { IsTrue result ↔ (self.now ≡ []) }
     {
-        self.bytes.is_empty()
+        self.len == 0
+    }
+
+    /// Puts one byte at the end.
+    pub fn push_byte(&mut self, byte: u8) -> Result<(), AllocError>
+        ensures ok { OnOk result (self.new ≡ self.old ++ byte ∷ []) }
+        ensures err { OnErr result (self.new ≡ self.old) }
+    {
+        make_room(&mut self.bytes, self.len, 1)?;
+        self.bytes[self.len] = byte;
+        self.len += 1;
+        Ok(())
     }
 
     /// Puts a text at the end.
@@ -65,7 +112,9 @@ impl Page {
         ensures ok { OnOk result (self.new ≡ self.old ++ text.now) }
         ensures err { OnErr result (self.new ≡ self.old) }
     {
-        self.bytes.extend_from_slice(text.as_bytes())
+        make_room(&mut self.bytes, self.len, text.len())?;
+        self.len = write_str(self.bytes.as_mut_slice(), self.len, text);
+        Ok(())
     }
 
     /// Puts a number's decimal digits at the end.
@@ -73,8 +122,20 @@ impl Page {
         ensures ok { OnOk result (self.new ≡ self.old ++ decimal n) }
         ensures err { OnErr result (self.new ≡ self.old) }
     {
-        let mut buffer = Buffer::new();
-        self.bytes.extend_from_slice(buffer.format(n).as_bytes())
+        make_room(&mut self.bytes, self.len, MOST_DIGITS)?;
+        self.len = write_u64(self.bytes.as_mut_slice(), self.len, n);
+        Ok(())
+    }
+
+    /// Puts a sign at the end, and a number's decimal digits behind it.
+    pub fn push_numbered(&mut self, sign: u8, n: u64) -> Result<(), AllocError>
+        ensures ok { OnOk result (self.new ≡ self.old ++ sign ∷ decimal n) }
+        ensures err { OnErr result (self.new ≡ self.old) }
+    {
+        make_room(&mut self.bytes, self.len, 1 + MOST_DIGITS)?;
+        self.bytes[self.len] = sign;
+        self.len = write_u64(self.bytes.as_mut_slice(), self.len + 1, n);
+        Ok(())
     }
 
     /// Puts one piece at the end.
@@ -102,6 +163,6 @@ impl Page {
     pub fn cut_to(&mut self, len: usize)
         ensures { self.new ≡ take len self.old }
     {
-        self.bytes.truncate(len);
+        self.len = self.len.min(len);
     }
 }

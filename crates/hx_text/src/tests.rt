@@ -9,11 +9,13 @@ fn pages_grow_at_their_end(rt: HostRuntime) -> Result<(), Fail> {
     page.push_u64(u64::MAX)?;
     page.push(&Piece::Text(":"))?;
     page.push_all(&[Piece::Text(" join s"), Piece::Number(0), Piece::Text("\n")])?;
+    page.push_numbered(b'#', 1203)?;
+    page.push_byte(b'\n')?;
     assert_eq!(rt;
         page.as_bytes(),
-        b"line 18446744073709551615: join s0\n".as_slice()
+        b"line 18446744073709551615: join s0\n#1203\n".as_slice()
     );
-    assert_eq!(rt; page.len(), 35);
+    assert_eq!(rt; page.len(), 41);
     page.cut_to(5);
     assert_eq!(rt; page.as_bytes(), b"line ".as_slice());
     Ok(())

@@ -1,4 +1,4 @@
-use Rattle.std.proofs.Common.{◌++◌, drop}
+use Rattle.std.proofs.Common.{drop}
 use Rattle.std.specs.List.{flat_map}
 use Rattle.hx_text.specs.Texts.{piece_text}
 use Rattle.hx_text.proofs.Printing.{IsMidway}
