@@ -4,7 +4,7 @@ use hx_ideal::{Ideal, IdealFault};
 use hx_ids::{
     ControllerId, Epoch, InstanceId, ModelId, MsgId, PartId, PassNo, ResourceId, SessionId, StateId,
 };
-use hx_lists::{Log, Seq};
+use hx_lists::Seq;
 
 /// A step that an operator, a session or a controller asks for.
 #[derive(Clone, Debug, Drop)]
@@ -218,10 +218,4 @@ pub enum Event {
     Take(SessionId, MsgId),
     Write(SessionId, MsgId, Outcome),
     Ack(SessionId, MsgId),
-}
-
-/// All that happened, in order. Its room is made before what it records.
-#[derive(Debug, Drop)]
-pub struct History {
-    pub entries: Log<Event>,
 }

@@ -20,7 +20,7 @@ pub use admin::{admin_on, make_on};
 pub use description::{Failure, Resource, Rule, Scope, Spec};
 pub use ends::{count_on, has_end};
 pub use happenings::{
-    AckFault, Admin, Begun, Did, Dispatched, Event, History, Mail, Outcome, Placed, Proposal, Seen,
+    AckFault, Admin, Begun, Did, Dispatched, Event, Mail, Outcome, Placed, Proposal, Seen,
     StepFault, TakeFault, WriteRefusal,
 };
 pub use hx_ids::Live;

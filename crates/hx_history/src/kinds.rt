@@ -1,0 +1,53 @@
+//! The kinds of events that few words tell.
+ghost use Rattle.std.specs.Prelude.{◌≡◌};
+ghost use Rattle.hx_history.specs.Columns.{words_of, kept_of};
+
+/// What an event is.
+#[derive(Clone, Copy)]
+pub(crate) enum Kind {
+    Line,
+    /// A tick that ended no session.
+    Tick,
+    Begin,
+    Live,
+    Mail,
+    States,
+    Ideals,
+    /// A fetch of an instance without a session.
+    FetchNobody,
+    Fetch,
+    Take,
+    /// A write of a handler's success.
+    WriteOk,
+    WriteFailed,
+    Ack,
+    /// An event of another sort, or one of large numbers. It is kept as it is.
+    Whole,
+}
+
+impl Kind {
+    /// How many words tell an event.
+    #[inline]
+    pub(crate) fn words(self) -> usize
+        ensures { result ≡ words_of self }
+    {
+        match self {
+            Kind::Whole => 0,
+            Kind::Line | Kind::Tick => 1,
+            Kind::Mail | Kind::States | Kind::Fetch => 3,
+            Kind::Begin => 4,
+            _ => 2,
+        }
+    }
+
+    /// How many events are kept as they are.
+    #[inline]
+    pub(crate) fn events(self) -> usize
+        ensures { result ≡ kept_of self }
+    {
+        match self {
+            Kind::Whole => 1,
+            _ => 0,
+        }
+    }
+}

@@ -1,0 +1,12 @@
+//! All that happened to a cluster, in order. What few words tell of an event is kept in columns.
+#![tactic(auto)]
+
+mod briefs;
+mod entries;
+mod kinds;
+mod told;
+mod walk;
+
+pub use entries::{Entries, History};
+pub use told::Told;
+pub use walk::Walk;

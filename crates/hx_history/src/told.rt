@@ -1,0 +1,123 @@
+//! Events that a history tells: lent from it, or made again of words.
+ghost use Rattle.std.specs.Prelude.{◌≡◌, ◌≤◌, [], length, Some};
+ghost use Rattle.hx_cluster.specs.declared.happenings.Admin.TheVariants as steps;
+ghost use Rattle.hx_cluster.specs.declared.happenings.Did.TheVariants as dids;
+ghost use Rattle.hx_cluster.specs.declared.happenings.Event.TheVariants as events;
+ghost use Rattle.hx_history.specs.Columns as Spec;
+ghost use Rattle.hx_history.specs.Told.{event_in};
+
+use crate::kinds::Kind;
+use hx_cluster::{Admin, Begun, Did, Event, Outcome};
+use hx_ids::{ControllerId, Epoch, InstanceId, MsgId, PassNo, SessionId};
+use hx_lists::Seq;
+use std::alloc::Global;
+
+/// An event of a history: lent from it, or made again.
+#[derive(Drop)]
+pub enum Told<'a> {
+    Kept(&'a Event),
+    Made(Event),
+}
+
+impl<'a> Told<'a> {
+    /// The event.
+    #[inline]
+    pub fn event(&self) -> &Event
+        ensures { result.now ≡ event_in self.now }
+    {
+        match self {
+            Told::Kept(event) => event,
+            Told::Made(event) => event,
+        }
+    }
+}
+
+#[inline]
+fn controller(word: u32) -> ControllerId
+    ensures { result ≡ Spec.controller word }
+{
+    ControllerId((word % (1 << 8)) as u8)
+}
+
+#[inline]
+fn pass(word: u32) -> PassNo
+    ensures { result ≡ Spec.pass word }
+{
+    PassNo(u64::from(word))
+}
+
+#[inline]
+fn session(word: u32) -> SessionId
+    ensures { result ≡ Spec.session word }
+{
+    SessionId(u64::from(word))
+}
+
+#[inline]
+fn message(word: u32) -> MsgId
+    ensures { result ≡ Spec.message word }
+{
+    MsgId(u64::from(word))
+}
+
+#[inline]
+fn begun(words: &[u32]) -> Begun
+    requires { 4 ≤ length words.now }
+    ensures { result ≡ Spec.begun words.now }
+{
+    Begun {
+        epoch: Epoch(u64::from(words[1])),
+        pass: pass(words[2]),
+        change: u64::from(words[3]),
+    }
+}
+
+#[inline]
+fn fetched(instance: u32, session: Option<SessionId>, count: u32) -> Event
+    ensures { result ≡ events.Fetch (Spec.instance instance) session count }
+{
+    Event::Fetch {
+        instance: InstanceId(instance),
+        session,
+        count,
+    }
+}
+
+#[inline]
+fn written(of: u32, id: u32, outcome: Outcome) -> Event
+    ensures { result ≡ events.Write (Spec.session of) (Spec.message id) outcome }
+{
+    Event::Write(session(of), message(id), outcome)
+}
+
+#[inline]
+fn ticked(alloc: Global, n: u32) -> Event
+    ensures { result ≡ events.Admin (steps.Tick n) (dids.Ended []) }
+{
+    Event::Admin(Admin::Tick { n: u64::from(n) }, Did::Ended(Seq::new(alloc)))
+}
+
+/// What a kind tells of its words, or of the event that was kept as it is.
+#[inline]
+pub(crate) fn tell<'a>(alloc: Global, kind: Kind, words: &[u32], whole: &'a [Event]) -> Told<'a>
+    requires words { Spec.words_of kind ≤ length words.now }
+    requires whole { Spec.kept_of kind ≤ length whole.now }
+    ensures { Spec.event_of kind words.now whole.now ≡ Some (event_in result) }
+{
+    Told::Made(match kind {
+        Kind::Line => Event::Line(words[0]),
+        Kind::Tick => ticked(alloc, words[0]),
+        Kind::Begin => Event::Begin(controller(words[0]), begun(words)),
+        Kind::Live => Event::Live(controller(words[0]), pass(words[1])),
+        Kind::Mail => Event::Mail(controller(words[0]), pass(words[1]), session(words[2])),
+        Kind::States => Event::States(controller(words[0]), pass(words[1]), session(words[2])),
+        Kind::Ideals => Event::Ideals(controller(words[0]), pass(words[1])),
+        Kind::FetchNobody => fetched(words[0], None, words[1]),
+        Kind::Fetch => fetched(words[0], Some(session(words[1])), words[2]),
+        Kind::Take => Event::Take(session(words[0]), message(words[1])),
+        Kind::WriteOk => written(words[0], words[1], Outcome::Ok),
+        Kind::WriteFailed => written(words[0], words[1], Outcome::Failed),
+        Kind::Ack => Event::Ack(session(words[0]), message(words[1])),
+        Kind::Whole => return Told::Kept(&whole[0]),
+    })
+}
