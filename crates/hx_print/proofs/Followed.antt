@@ -1,5 +1,5 @@
 -- A roll that goes on with each event of a cluster.
-use Rattle.std.proofs.Common.{◌≡◌, ℕ, suc, ◌+◌, ◌<◌, add-one, drop-cons, ◌==◌, Bool, true, false, not, List, [], ◌∷◌, ◌++◌, map, filter, find, length, get_or, drop, slice_get, Option, Some, None, if◌then◌else◌, refl, sym, ap, ◌∙◌, subst}
+use Rattle.std.proofs.Common.{◌≡◌, ℕ, ◌+◌, ◌==◌, Bool, true, false, not, List, [], ◌∷◌, ◌++◌, map, filter, slice_get, Option, Some, None, if◌then◌else◌, refl, sym, ap, ◌∙◌, subst}
 use Rattle.std.specs.Prelude.{option_map, IfSome}
 use Rattle.std.proofs.lemmas.Bool.{eqb-true}
 use Rattle.std.proofs.lemmas.List.{map-append}
@@ -19,9 +19,7 @@ use Rattle.hx_cluster.specs.declared.state.Cluster.{Cluster}
 use Rattle.hx_cluster.specs.declared.state.Message.{Message}
 use Rattle.hx_cluster.specs.declared.happenings.Admin.{Admin}
 use Rattle.hx_cluster.specs.declared.happenings.Admin.TheVariants as steps
-use Rattle.hx_cluster.specs.declared.happenings.Did.{Did}
 use Rattle.hx_cluster.specs.declared.happenings.Outcome.{Outcome}
-use Rattle.hx_cluster.specs.declared.happenings.Outcome.TheVariants as outcomes
 use Rattle.hx_cluster.specs.declared.happenings.Proposal.{Proposal}
 use Rattle.hx_cluster.specs.declared.happenings.Placed.{Placed}
 use Rattle.hx_cluster.specs.declared.happenings.Placed.TheVariants as placings
@@ -30,13 +28,11 @@ use Rattle.hx_cluster.specs.declared.happenings.Event.TheVariants as events
 use Rattle.hx_cluster.specs.Ends.{shown_of, session_in, resource_at}
 use Rattle.hx_cluster.specs.Steps.{is_of, is_leader, live_of, ended_of, beaten_of, asked_of, changed_at, marked_down, without_leader, with_resource, after, did_of}
 use Rattle.hx_cluster.specs.Steps as Steps
-use Rattle.hx_cluster.specs.Messages.{after_placed, after_proposals, raised_pass, next_pass, after_dispatch, after_write, pending_of, written_of, placed_of}
+use Rattle.hx_cluster.specs.Messages.{after_placed, after_proposals, raised_pass, next_pass, pending_of, written_of, placed_of}
 use Rattle.hx_cluster.specs.Events.{next, IsStep, IsLegal}
-use Rattle.hx_text.specs.Texts.{PutsFront}
-use Rattle.hx_text.proofs.Printing.{IsMidway, puts_next}
 use Rattle.hx_print.specs.declared.roll.Roll.{Roll}
 use Rattle.hx_print.specs.Texts.{names_of, roll_of, event_text, log_text}
-use Rattle.hx_print.specs.Rolls.{without, without_all, joined_live, ended_live, beaten_live, roll_after_step, roll_after, rolled_text}
+use Rattle.hx_print.specs.Rolls.{without, without_all, ended_live, beaten_live, roll_after_step, roll_after, rolled_text}
 
 -- who is shown when one has ended
 shown-without : (s : SessionId) (live : List Live) → shown_of (filter (λ l. not (l.session.0 == s.0)) live) ≡ without s (shown_of live)
@@ -164,13 +160,3 @@ log_rolled spec c [] legal = refl
 log_rolled spec c (e ∷ es) legal =
     ap (λ (r : Roll). event_text spec (roll_of c) e ++ rolled_text spec r es) (sym (roll_next c e legal.0))
     ∙ ap (λ t. event_text spec (roll_of c) e ++ t) (log_rolled spec (next c e) es legal.1)
-
--- a front of an event's text is a front of the log
-pub puts_event : (spec : Spec) (first roll : Roll) (es : List Event) (i : ℕ) (e : Event) (old page new : List ℕ) → i < length es → e ≡ get_or es i e
-    → IsMidway (rolled_text spec first es) old page (rolled_text spec roll (drop i es)) → PutsFront (event_text spec roll e) page new
-    → PutsFront (rolled_text spec first es) old new
-puts_event spec first roll es i e old page new lt is m p =
-    let rest = rolled_text spec (roll_after roll e) (drop (i + 1) es) in
-    let next : rolled_text spec roll (drop i es) ≡ event_text spec roll e ++ rest =
-    rw add-one (ap (rolled_text spec roll) (drop-cons es i e lt) ∙ ap (λ (d : Event). event_text spec roll d ++ rolled_text spec (roll_after roll d) (drop (suc i) es)) (sym is)) in
-    puts_next (rolled_text spec first es) old page new (event_text spec roll e) rest (record { whole = ap (λ t. page ++ t) (sym next) ∙ m.whole; grown = m.grown }) p

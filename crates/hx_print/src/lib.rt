@@ -21,7 +21,7 @@ pub use outcomes::{
     print_accept, print_failed, print_full, print_history_full, print_moved, print_route,
     print_seen, print_sent, print_settle, print_settled, print_summary, print_waiting,
 };
-pub use roll::{Roll, instance_in, print_log, rolls_follow_clusters, session_in};
+pub use roll::{Roll, instance_in, rolls_follow_clusters, session_in};
 
 /// The next step of a controller's turn.
 #[derive(Clone, Copy, Debug, PartialEq, Eq)]

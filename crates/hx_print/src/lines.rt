@@ -9,7 +9,7 @@ use hx_cluster::Spec;
 use hx_ids::{
     ControllerId, Epoch, InstanceId, MsgId, PartId, PassNo, ResourceId, SessionId, StateId,
 };
-use hx_text::{Page, Piece};
+use hx_text::Page;
 use std::alloc::AllocError;
 
 /// A word of a line.
@@ -40,37 +40,41 @@ pub enum Rest<'a> {
     Holders(&'a [(SessionId, InstanceId)], &'a [SessionId]),
 }
 
+/// Prints a word.
+fn print_token(word: &Token, page: &mut Page) -> Result<(), AllocError>
+    ensures { Prints (Tokens.token_word word.now) page.old result page.new }
+{
+    match word {
+        Token::Text(text) => page.push_str(text),
+        Token::Number(n) => page.push_u64(*n),
+        Token::Controller(k) => page.push_numbered(b'c', k.0 as u64 + 1),
+        Token::Session(s) => page.push_numbered(b's', s.0),
+        Token::Message(m) => page.push_numbered(b'm', m.0),
+        Token::Epoch(e) => page.push_numbered(b'e', e.0),
+        Token::Pass(p) => page.push_numbered(b'p', p.0),
+        Token::Resource(name, r) => {
+            page.push_str(name)?;
+            page.push_numbered(b'#', r.0 as u64)
+        }
+        Token::Part(name, p) => {
+            page.push_str(name)?;
+            page.push_numbered(b'#', p.resource.0 as u64)?;
+            page.push_numbered(b'/', p.index as u64)
+        }
+        Token::Pair(a, sign, b) => {
+            page.push_str(a)?;
+            page.push_str(sign)?;
+            page.push_str(b)
+        }
+    }
+}
+
 /// Prints a word, with a space before it.
 pub fn print_word(word: &Token, page: &mut Page) -> Result<(), AllocError>
     ensures { Prints (codes " " ++ Tokens.token_word word.now) page.old result page.new }
 {
-    let space = Piece::Text(" ");
-    match word {
-        Token::Text(text) => page.push_all(&[space, Piece::Text(text)]),
-        Token::Number(n) => page.push_all(&[space, Piece::Number(*n)]),
-        Token::Controller(k) => page.push_all(&[Piece::Text(" c"), Piece::Number(k.0 as u64 + 1)]),
-        Token::Session(s) => page.push_all(&[Piece::Text(" s"), Piece::Number(s.0)]),
-        Token::Message(m) => page.push_all(&[Piece::Text(" m"), Piece::Number(m.0)]),
-        Token::Epoch(e) => page.push_all(&[Piece::Text(" e"), Piece::Number(e.0)]),
-        Token::Pass(p) => page.push_all(&[Piece::Text(" p"), Piece::Number(p.0)]),
-        Token::Resource(name, r) => page.push_all(&[
-            space,
-            Piece::Text(name),
-            Piece::Text("#"),
-            Piece::Number(r.0 as u64),
-        ]),
-        Token::Part(name, p) => page.push_all(&[
-            space,
-            Piece::Text(name),
-            Piece::Text("#"),
-            Piece::Number(p.resource.0 as u64),
-            Piece::Text("/"),
-            Piece::Number(p.index as u64),
-        ]),
-        Token::Pair(a, sign, b) => {
-            page.push_all(&[space, Piece::Text(a), Piece::Text(sign), Piece::Text(b)])
-        }
-    }
+    page.push_byte(b' ')?;
+    print_token(word, page)
 }
 
 /// Prints words, each with a space before it.
@@ -90,7 +94,7 @@ pub fn print_line(first: &str, others: &[Token], page: &mut Page) -> Result<(), 
 {
     page.push_str(first)?;
     print_words(others, page)?;
-    page.push_str("\n")
+    page.push_byte(b'\n')
 }
 
 /// Prints the names of instances, each with a space before it.
@@ -174,5 +178,22 @@ pub fn print_long_line(
     page.push_str(first)?;
     print_words(words, page)?;
     print_rest(rest, spec, page)?;
-    page.push_str("\n")
+    page.push_byte(b'\n')
+}
+
+/// Prints a line whose words stand in two lists.
+pub(crate) fn print_parted_line(
+    first: &str,
+    words: &[Token],
+    others: &[Token],
+    page: &mut Page,
+) -> Result<(), AllocError>
+    ensures { Prints
+        (Texts.line_of (first.now ∷ (Tokens.words_of words.now ++ Tokens.words_of others.now)))
+        page.old result page.new }
+{
+    page.push_str(first)?;
+    print_words(words, page)?;
+    print_words(others, page)?;
+    page.push_byte(b'\n')
 }

@@ -1,19 +1,22 @@
-//! The lines of the log.
-ghost use Rattle.std.specs.Prelude.{◌≡◌, ◌∷◌, ◌++◌, codes};
+//! The lines of the log. Each kind of line has a function of its own, since a function clears the
+//! room of all its words when it is called.
+ghost use Rattle.std.specs.Prelude.{◌≡◌, [], ◌∷◌, codes, decimal};
 ghost use Rattle.std.specs.List.{flat_map};
 ghost use Rattle.hx_text.specs.Texts.{Prints};
 ghost use Rattle.hx_print.specs.Tokens;
 ghost use Rattle.hx_print.specs.Texts;
 
-use crate::lines::{Rest, Token, print_line, print_long_line};
+use crate::lines::{Rest, Token, print_line, print_long_line, print_parted_line};
 use crate::names::{
     instance_name, mode_name, model_name, name_at, name_of_resource, outcome_name, session_or_dash,
     state_name, state_or_dash,
 };
 use crate::roll::{Roll, instance_in, session_in};
-use hx_cluster::{Admin, Did, Event, Placed, Proposal, Spec};
+use hx_cluster::{Admin, Did, Event, Outcome, Placed, Proposal, Spec};
 use hx_ideal::Ideal;
-use hx_ids::{ControllerId, Epoch, InstanceId, ModelId, PartId, ResourceId, SessionId};
+use hx_ids::{
+    ControllerId, Epoch, InstanceId, ModelId, MsgId, PartId, PassNo, ResourceId, SessionId,
+};
 use hx_text::Page;
 use std::alloc::AllocError;
 
@@ -186,6 +189,61 @@ fn print_lead(
     }
 }
 
+/// Prints a step on an instance.
+fn print_instance(
+    word: &str,
+    instance: InstanceId,
+    spec: &Spec,
+    page: &mut Page,
+) -> Result<(), AllocError>
+    ensures { Prints (Texts.line_of (word.now ∷ Texts.instance_name spec.now instance ∷ []))
+        page.old result page.new }
+{
+    print_line(word, &[Token::Text(instance_name(spec, instance))], page)
+}
+
+/// Prints a step on a controller.
+fn print_controller(word: &str, controller: ControllerId, page: &mut Page) -> Result<(), AllocError>
+    ensures { Prints (Texts.line_of (word.now ∷ Texts.controller_name controller ∷ []))
+        page.old result page.new }
+{
+    print_line(word, &[Token::Controller(controller)], page)
+}
+
+/// Prints that a resource was dropped.
+fn print_drop(
+    resource: ResourceId,
+    names: &[u32],
+    spec: &Spec,
+    page: &mut Page,
+) -> Result<(), AllocError>
+    ensures { Prints
+        (Texts.line_of (codes "drop"
+        ∷ Texts.numbered (Texts.name_of_resource spec.now names.now resource) resource ∷ []))
+        page.old result page.new }
+{
+    let name = name_of_resource(spec, names, resource);
+    print_line("drop", &[Token::Resource(name, resource)], page)
+}
+
+/// Prints a new list or map of a part.
+fn print_edit(
+    word: &str,
+    part: PartId,
+    rest: &Rest,
+    names: &[u32],
+    spec: &Spec,
+    page: &mut Page,
+) -> Result<(), AllocError>
+    ensures { Prints
+        (Texts.line_of (word.now ∷ Texts.part_in spec.now names.now part
+        ∷ Tokens.rest_words spec.now rest.now))
+        page.old result page.new }
+{
+    let name = name_of_resource(spec, names, part.resource);
+    print_long_line(word, &[Token::Part(name, part)], rest, spec, page)
+}
+
 /// Prints a step with what it answered. The roll is the one before it.
 fn print_step(
     step: &Admin,
@@ -207,36 +265,31 @@ fn print_step(
             print_session("beat", *instance, session_in(live, *instance), spec, page)
         }
         Admin::Tick { n } => print_tick(*n, ended_by_tick(did), live, spec, page),
-        Admin::Drain { instance } => {
-            print_line(
-                "drain",
-                &[Token::Text(instance_name(spec, *instance))],
-                page,
-            )
-        }
-        Admin::Undrain { instance } => {
-            print_line(
-                "undrain",
-                &[Token::Text(instance_name(spec, *instance))],
-                page,
-            )
-        }
+        Admin::Drain { instance } => { print_instance("drain", *instance, spec, page) }
+        Admin::Undrain { instance } => { print_instance("undrain", *instance, spec, page) }
         Admin::Add { name, model, ideal } => {
             print_add(*name, *model, ideal, added_as(did), spec, page)
         }
-        Admin::Drop { resource } => {
-            let name = name_of_resource(spec, names, *resource);
-            print_line("drop", &[Token::Resource(name, *resource)], page)
-        }
+        Admin::Drop { resource } => { print_drop(*resource, names, spec, page) }
         Admin::SetList { part, list } => {
-            let name = name_of_resource(spec, names, part.resource);
-            let list = Rest::Instances(list.as_slice());
-            print_long_line("list", &[Token::Part(name, *part)], &list, spec, page)
+            print_edit(
+                "list",
+                *part,
+                &Rest::Instances(list.as_slice()),
+                names,
+                spec,
+                page,
+            )
         }
         Admin::SetMap { part, map } => {
-            let name = name_of_resource(spec, names, part.resource);
-            let map = Rest::Pairs("=", map.as_slice());
-            print_long_line("map", &[Token::Part(name, *part)], &map, spec, page)
+            print_edit(
+                "map",
+                *part,
+                &Rest::Pairs("=", map.as_slice()),
+                names,
+                spec,
+                page,
+            )
         }
         Admin::Reset { instance, part } => {
             print_reset(
@@ -249,8 +302,8 @@ fn print_step(
             )
         }
         Admin::Lead { controller } => print_lead(*controller, leads_in(did), page),
-        Admin::Stop { controller } => print_line("stop", &[Token::Controller(*controller)], page),
-        Admin::Start { controller } => print_line("start", &[Token::Controller(*controller)], page),
+        Admin::Stop { controller } => print_controller("stop", *controller, page),
+        Admin::Start { controller } => print_controller("start", *controller, page),
     }
 }
 
@@ -271,34 +324,33 @@ fn print_placed(
     let from = state_name(spec, proposal.from);
     let to = state_name(spec, proposal.to);
     let change = Token::Pair(from, ">", to);
+    let proposed = [session, part, change];
     match answer {
-        Placed::Sent(m) => print_line("  sent", &[Token::Message(m), session, part, change], page),
-        Placed::Ended => print_line("  ended", &[session, part, change], page),
-        Placed::ResourceDropped => print_line("  dropped", &[session, part, change], page),
-        Placed::Busy { id } => print_line(
-            "  busy",
-            &[Token::Message(id), session, part, change],
-            page,
-        ),
+        Placed::Sent(m) => print_parted_line("  sent", &[Token::Message(m)], &proposed, page),
+        Placed::Ended => print_parted_line("  ended", &[], &proposed, page),
+        Placed::ResourceDropped => print_parted_line("  dropped", &[], &proposed, page),
+        Placed::Busy { id } => print_parted_line("  busy", &[Token::Message(id)], &proposed, page),
         Placed::WrongFrom { has } => {
             let has = Token::Text(state_or_dash(spec, has));
-            print_line("  from", &[has, session, part, change], page)
+            print_parted_line("  from", &[has], &proposed, page)
         }
-        Placed::Illegal => print_line("  illegal", &[session, part, change], page),
+        Placed::Illegal => print_parted_line("  illegal", &[], &proposed, page),
         Placed::OverBound { count, bound } => {
             let [count, bound] = [Token::Number(count as u64), Token::Number(bound as u64)];
-            print_line(
+            print_parted_line(
                 "  bound",
-                &[count, Token::Text("of"), bound, session, part, change],
+                &[count, Token::Text("of"), bound],
+                &proposed,
                 page,
             )
         }
         Placed::OverThrottle { rule, load, limit } => {
             let rule = Token::Number(rule as u64);
             let [load, limit] = [Token::Number(load as u64), Token::Number(limit as u64)];
-            print_line(
+            print_parted_line(
                 "  throttle",
-                &[rule, load, Token::Text("of"), limit, session, part, change],
+                &[rule, load, Token::Text("of"), limit],
+                &proposed,
                 page,
             )
         }
@@ -325,22 +377,140 @@ fn print_all_placed(
     Ok(())
 }
 
-/// Prints a dispatch of a turn.
-fn print_dispatch(
-    turn: &[Token],
-    proposals: &[Proposal],
-    placed: &[Placed],
-    names: &[u32],
+/// Prints that a line of the script begins.
+fn print_number_of_line(n: u32, page: &mut Page) -> Result<(), AllocError>
+    ensures { Prints (Texts.line_of (codes "line" ∷ decimal n ∷ [])) page.old result page.new }
+{
+    print_line("line", &[Token::Number(n as u64)], page)
+}
+
+/// Prints a step of a turn in an epoch.
+fn print_turn(
+    word: &str,
+    controller: ControllerId,
+    epoch: Epoch,
+    pass: PassNo,
+    page: &mut Page,
+) -> Result<(), AllocError>
+    ensures { Prints
+        (Texts.line_of (word.now ∷ Texts.controller_name controller
+        ∷ Texts.epoch_name epoch ∷ Texts.pass_name pass ∷ []))
+        page.old result page.new }
+{
+    let turn = [
+        Token::Controller(controller),
+        Token::Epoch(epoch),
+        Token::Pass(pass),
+    ];
+    print_line(word, &turn, page)
+}
+
+/// Prints that a turn read what is there once.
+fn print_read(
+    word: &str,
+    controller: ControllerId,
+    pass: PassNo,
+    page: &mut Page,
+) -> Result<(), AllocError>
+    ensures { Prints
+        (Texts.line_of (word.now ∷ Texts.controller_name controller ∷ Texts.pass_name pass ∷ []))
+        page.old result page.new }
+{
+    let turn = [Token::Controller(controller), Token::Pass(pass)];
+    print_line(word, &turn, page)
+}
+
+/// Prints that a turn read what is there for each session.
+fn print_read_of(
+    word: &str,
+    controller: ControllerId,
+    pass: PassNo,
+    session: SessionId,
+    page: &mut Page,
+) -> Result<(), AllocError>
+    ensures { Prints
+        (Texts.line_of (word.now ∷ Texts.controller_name controller
+        ∷ Texts.pass_name pass ∷ Texts.session_name session ∷ []))
+        page.old result page.new }
+{
+    let turn = [
+        Token::Controller(controller),
+        Token::Pass(pass),
+        Token::Session(session),
+    ];
+    print_line(word, &turn, page)
+}
+
+/// Prints a post of so many rows.
+fn print_post(
+    controller: ControllerId,
+    epoch: Epoch,
+    count: usize,
+    page: &mut Page,
+) -> Result<(), AllocError>
+    ensures { Prints
+        (Texts.line_of (codes "post" ∷ Texts.controller_name controller
+        ∷ Texts.epoch_name epoch ∷ decimal count ∷ []))
+        page.old result page.new }
+{
+    let count = Token::Number(count as u64);
+    print_line(
+        "post",
+        &[Token::Controller(controller), Token::Epoch(epoch), count],
+        page,
+    )
+}
+
+/// Prints a fetch of so many messages.
+fn print_fetch(
+    instance: InstanceId,
+    session: Option<SessionId>,
+    count: u32,
     spec: &Spec,
     page: &mut Page,
 ) -> Result<(), AllocError>
     ensures { Prints
-        (Texts.line_of (codes "send" ∷ Tokens.words_of turn.now) ++
-        Texts.placed_lines spec.now names.now proposals.now placed.now)
+        (Texts.line_of (codes "fetch" ∷ Texts.instance_name spec.now instance
+        ∷ Texts.or_dash Texts.session_name session ∷ decimal count ∷ []))
         page.old result page.new }
 {
-    print_line("send", turn, page)?;
-    print_all_placed(proposals, placed, names, spec, page)
+    let instance = Token::Text(instance_name(spec, instance));
+    let count = Token::Number(count as u64);
+    print_line("fetch", &[instance, session_or_dash(session), count], page)
+}
+
+/// Prints a step on a message.
+fn print_message(
+    word: &str,
+    session: SessionId,
+    id: MsgId,
+    page: &mut Page,
+) -> Result<(), AllocError>
+    ensures { Prints
+        (Texts.line_of (word.now ∷ Texts.session_name session ∷ Texts.message_name id ∷ []))
+        page.old result page.new }
+{
+    print_line(word, &[Token::Session(session), Token::Message(id)], page)
+}
+
+/// Prints the outcome of a run.
+fn print_write(
+    session: SessionId,
+    id: MsgId,
+    outcome: Outcome,
+    page: &mut Page,
+) -> Result<(), AllocError>
+    ensures { Prints
+        (Texts.line_of (codes "write" ∷ Texts.session_name session ∷ Texts.message_name id
+        ∷ Texts.outcome_name outcome ∷ []))
+        page.old result page.new }
+{
+    let outcome = Token::Text(outcome_name(outcome));
+    print_line(
+        "write",
+        &[Token::Session(session), Token::Message(id), outcome],
+        page,
+    )
 }
 
 /// Prints an event. The roll is the one before it.
@@ -354,40 +524,12 @@ pub fn print_event(
 {
     match event {
         Event::Admin(step, did) => print_step(step, did, roll, spec, page),
-        Event::Line(n) => print_line("line", &[Token::Number(*n as u64)], page),
-        Event::Begin(c, begun) => print_line(
-            "begin",
-            &[
-                Token::Controller(*c),
-                Token::Epoch(begun.epoch),
-                Token::Pass(begun.pass),
-            ],
-            page,
-        ),
-        Event::Live(c, pass) => {
-            print_line("live", &[Token::Controller(*c), Token::Pass(*pass)], page)
-        }
-        Event::Mail(c, pass, s) => print_line(
-            "mail",
-            &[
-                Token::Controller(*c),
-                Token::Pass(*pass),
-                Token::Session(*s),
-            ],
-            page,
-        ),
-        Event::States(c, pass, s) => print_line(
-            "states",
-            &[
-                Token::Controller(*c),
-                Token::Pass(*pass),
-                Token::Session(*s),
-            ],
-            page,
-        ),
-        Event::Ideals(c, pass) => {
-            print_line("ideals", &[Token::Controller(*c), Token::Pass(*pass)], page)
-        }
+        Event::Line(n) => print_number_of_line(*n, page),
+        Event::Begin(c, begun) => print_turn("begin", *c, begun.epoch, begun.pass, page),
+        Event::Live(c, pass) => print_read("live", *c, *pass, page),
+        Event::Mail(c, pass, s) => print_read_of("mail", *c, *pass, *s, page),
+        Event::States(c, pass, s) => print_read_of("states", *c, *pass, *s, page),
+        Event::Ideals(c, pass) => print_read("ideals", *c, *pass, page),
         Event::Dispatch {
             c,
             epoch,
@@ -395,14 +537,9 @@ pub fn print_event(
             proposals,
             answer,
         } => {
-            let turn = [
-                Token::Controller(*c),
-                Token::Epoch(*epoch),
-                Token::Pass(*pass),
-            ];
+            print_turn("send", *c, *epoch, *pass, page)?;
             let names = roll.resources.as_slice();
-            print_dispatch(
-                &turn,
+            print_all_placed(
                 proposals.as_slice(),
                 answer.placed.as_slice(),
                 names,
@@ -410,32 +547,14 @@ pub fn print_event(
                 page,
             )
         }
-        Event::Post { c, epoch, rows } => {
-            let count = Token::Number(rows.len() as u64);
-            print_line(
-                "post",
-                &[Token::Controller(*c), Token::Epoch(*epoch), count],
-                page,
-            )
-        }
+        Event::Post { c, epoch, rows } => print_post(*c, *epoch, rows.len(), page),
         Event::Fetch {
             instance,
             session,
             count,
-        } => {
-            let instance = Token::Text(instance_name(spec, *instance));
-            let count = Token::Number(*count as u64);
-            print_line("fetch", &[instance, session_or_dash(*session), count], page)
-        }
-        Event::Take(s, m) => print_line("take", &[Token::Session(*s), Token::Message(*m)], page),
-        Event::Write(s, m, outcome) => {
-            let outcome = Token::Text(outcome_name(*outcome));
-            print_line(
-                "write",
-                &[Token::Session(*s), Token::Message(*m), outcome],
-                page,
-            )
-        }
-        Event::Ack(s, m) => print_line("ack", &[Token::Session(*s), Token::Message(*m)], page),
+        } => print_fetch(*instance, *session, *count, spec, page),
+        Event::Take(s, m) => print_message("take", *s, *m, page),
+        Event::Write(s, m, outcome) => print_write(*s, *m, *outcome, page),
+        Event::Ack(s, m) => print_message("ack", *s, *m, page),
     }
 }

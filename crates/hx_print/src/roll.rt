@@ -2,7 +2,7 @@
 ghost use Rattle.std.specs.Prelude.{◌≡◌, ◌∷◌, ◌++◌, [], OnOk, OnErr, IfOk};
 ghost use Rattle.hx_cluster.specs.Ends.{instance_in, session_in};
 ghost use Rattle.hx_cluster.specs.Steps.{opening};
-ghost use Rattle.hx_cluster.specs.Events.{next, IsStep, IsLegal};
+ghost use Rattle.hx_cluster.specs.Events.{next, IsStep};
 ghost use Rattle.hx_cluster.specs.declared.state.Cluster.{Cluster};
 ghost use Rattle.hx_cluster.specs.declared.happenings.Event.{Event};
 ghost use Rattle.hx_text.specs.Texts.{Prints};
@@ -146,36 +146,6 @@ impl Roll {
         print_event(event, self, spec, page)?;
         self.follow(event)
     }
-}
-
-/// Prints events that come next, in order.
-fn print_all(
-    roll: &mut Roll,
-    events: &[Event],
-    spec: &Spec,
-    page: &mut Page,
-) -> Result<(), AllocError>
-    ensures { Prints (Rolls.rolled_text spec.now roll.old events.now) page.old result page.new }
-{
-    for event in events {
-        roll.print_next(event, spec, page)?;
-    }
-    Ok(())
-}
-
-/// Prints the log of a history.
-pub fn print_log(
-    alloc: Global,
-    events: &[Event],
-    spec: &Spec,
-    page: &mut Page,
-) -> Result<(), AllocError>
-    requires { IsLegal (opening spec.now) events.now }
-    ensures { Prints (Texts.log_text spec.now (opening spec.now) events.now)
-        page.old result page.new }
-{
-    let mut roll = Roll::at_opening(alloc, spec)?;
-    print_all(&mut roll, events, spec, page)
 }
 
 /// A law: a roll that goes on with each event of a cluster is the roll of the cluster.

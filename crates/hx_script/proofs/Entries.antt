@@ -1,5 +1,5 @@
 -- Events that come one by one, and the log with one more.
-use Rattle.std.proofs.Common.{◌≡◌, List, [], ◌∷◌, ◌++◌, fold, Result, OnOk, refl, sym, ap, ◌∙◌, append_assoc}
+use Rattle.std.proofs.Common.{◌≡◌, ℕ, List, [], ◌∷◌, ◌++◌, fold, Result, OnOk, refl, sym, ap, ◌∙◌, append_assoc}
 use Rattle.std.proofs.lemmas.List.{append-nil}
 use Rattle.std.proofs.lemmas.Result.{on_ok_weaker}
 use Rattle.hx_cluster.specs.declared.description.Spec.{Spec}
@@ -8,8 +8,10 @@ use Rattle.hx_cluster.specs.declared.happenings.Event.{Event}
 use Rattle.hx_cluster.specs.Steps.{opening}
 use Rattle.hx_cluster.specs.Events.{next, replay, IsStep, IsLegal}
 use Rattle.hx_print.specs.declared.roll.Roll.{Roll}
-use Rattle.hx_print.specs.Texts.{roll_of, entry_text, log_text}
-use Rattle.hx_print.specs.Rolls.{roll_after}
+use Rattle.hx_text.specs.Texts.{PutsFront}
+use Rattle.hx_text.proofs.Printing.{IsMidway, puts_next}
+use Rattle.hx_print.specs.Texts.{roll_of, event_text, entry_text, log_text}
+use Rattle.hx_print.specs.Rolls.{roll_after, rolled_text}
 use Rattle.hx_print.proofs.Followed.{roll_next}
 use Rattle.hx_script.specs.History.{HasPrinted}
 
@@ -20,13 +22,19 @@ followed_all c (e ∷ es) legal =
     ap (λ (r : Roll). fold roll_after r es) (sym (roll_next c e legal.0)) ∙ followed_all (next c e) es legal.1
 
 -- a printer that begins with a history
-pub printed_all : (spec : Spec) (es given : List Event) (first last : Roll) → IsLegal (opening spec) es → first ≡ roll_of (opening spec) → given ≡ es
-    → last ≡ fold roll_after first given → HasPrinted spec es last
-printed_all spec es given first last legal opened same followed =
+pub printed_all : (spec : Spec) (es : List Event) (first last : Roll) → IsLegal (opening spec) es → first ≡ roll_of (opening spec) → last ≡ fold roll_after first es → HasPrinted spec es last
+printed_all spec es first last legal opened followed =
     followed
-    ∙ ap (λ (ds : List Event). fold roll_after first ds) same
     ∙ ap (λ (r : Roll). fold roll_after r es) opened
     ∙ followed_all (opening spec) es legal
+
+-- a front of an event's text is a front of the log
+pub puts_event : (spec : Spec) (first roll : Roll) (all left rest : List Event) (e : Event) (old page new : List ℕ) → left ≡ e ∷ rest
+    → IsMidway (rolled_text spec first all) old page (rolled_text spec roll left) → PutsFront (event_text spec roll e) page new
+    → PutsFront (rolled_text spec first all) old new
+puts_event spec first roll all left rest e old page new is m p =
+    let next : rolled_text spec roll left ≡ event_text spec roll e ++ rolled_text spec (roll_after roll e) rest = ap (rolled_text spec roll) is in
+    puts_next (rolled_text spec first all) old page new (event_text spec roll e) (rolled_text spec (roll_after roll e) rest) (record { whole = ap (λ t. page ++ t) (sym next) ∙ m.whole; grown = m.grown }) p
 
 -- one event more
 replay_more : (c : Cluster) (es : List Event) (e : Event) → replay c (es ++ e ∷ []) ≡ next (replay c es) e

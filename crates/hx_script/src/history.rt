@@ -7,11 +7,12 @@ ghost use Rattle.hx_cluster.specs.declared.state.Cluster.{Cluster};
 ghost use Rattle.hx_cluster.specs.declared.happenings.Event.{Event};
 ghost use Rattle.hx_text.specs.Texts.{Prints};
 ghost use Rattle.hx_print.specs.Texts.{log_text, entry_text};
-ghost use Rattle.hx_print.specs.Rolls.{roll_after};
+ghost use Rattle.hx_print.specs.Rolls.{roll_after, rolled_text};
 ghost use Rattle.hx_script.specs.History.{HasPrinted};
 
-use hx_cluster::{Event, History, Spec};
-use hx_print::{Roll, print_log};
+use hx_cluster::{Event, Spec};
+use hx_history::{Entries, History};
+use hx_print::Roll;
 use hx_text::Page;
 use std::alloc::{AllocError, Global};
 use std::marker::Model;
@@ -27,15 +28,31 @@ pub fn print_history(
     ensures { Prints (log_text spec.now (opening spec.now) history.now.entries.items)
         out.old result out.new }
 {
-    print_log(alloc, history.entries.as_slice(), spec, out)
+    let mut roll = Roll::at_opening(alloc, spec)?;
+    print_all(&mut roll, &history.entries, spec, out)
 }
 
-/// Goes on to the roll after some events.
-fn follow_all(roll: &mut Roll, events: &[Event]) -> Result<(), AllocError>
-    ensures { OnOk result (roll.new ≡ fold roll_after roll.old events.now) }
+/// Prints entries that come next, in order.
+fn print_all(
+    roll: &mut Roll,
+    entries: &Entries,
+    spec: &Spec,
+    out: &mut Page,
+) -> Result<(), AllocError>
+    ensures { Prints (rolled_text spec.now roll.old entries.now.items) out.old result out.new }
 {
-    for event in events {
-        roll.follow(event)?;
+    for told in entries {
+        roll.print_next(told.event(), spec, out)?;
+    }
+    Ok(())
+}
+
+/// Goes on to the roll after some entries.
+fn follow_all(roll: &mut Roll, entries: &Entries) -> Result<(), AllocError>
+    ensures { OnOk result (roll.new ≡ fold roll_after roll.old entries.now.items) }
+{
+    for told in entries {
+        roll.follow(told.event())?;
     }
     Ok(())
 }
@@ -63,7 +80,7 @@ impl Printer {
             HasPrinted spec.now history.now.entries.items printer) }
     {
         let mut roll = Roll::at_opening(alloc, spec)?;
-        follow_all(&mut roll, history.entries.as_slice())?;
+        follow_all(&mut roll, &history.entries)?;
         Ok(Printer { roll })
     }
 

@@ -1,7 +1,7 @@
 use super::small_spec;
-use hx_cluster::{Admin, Did, Event, History};
+use hx_cluster::{Admin, Did, Event};
+use hx_history::{Entries, History};
 use hx_ids::{InstanceId, SessionId};
-use hx_lists::Log;
 use hx_script::{Printer, print_history};
 use hx_text::Page;
 use std::test::Fail;
@@ -16,7 +16,7 @@ fn an_entry_is_printed_behind_a_history(rt: HostRuntime) -> Result<(), Fail> {
     let join = Event::Admin(Admin::Join { instance }, Did::Joined(SessionId(1)));
     let end = Event::Admin(Admin::End { instance }, Did::Done);
     let mut history = History {
-        entries: Log::new(rt.alloc()),
+        entries: Entries::new(rt.alloc()),
     };
     history.entries.push(join)?;
     let mut page = Page::new(rt.alloc());

@@ -19,6 +19,6 @@ pub returns : goal.returns
 returns c =
     let first = c.args.first.now in
     let words = spaced (words_of c.args.others.now) in
-    prints_then c.args.page.now c.print_words.new.page c.push_str-2.new.self (first ++ words) (codes "\n") c.push_str-2.result
+    prints_then c.args.page.now c.print_words.new.page c.push_byte.new.self (first ++ words) (codes "\n") c.push_byte.result
     (c.in_ok-print_words.ensures.ok ∙ ap (λ t. t ++ words) c.in_ok-push_str.ensures.ok ∙ append_assoc c.args.page.now first words)
-    (prints_or_none _ _ _ c.push_str-2.result c.push_str-2.ensures.ok c.push_str-2.ensures.err)
+    (prints_or_none _ _ _ c.push_byte.result c.push_byte.ensures.ok c.push_byte.ensures.err)

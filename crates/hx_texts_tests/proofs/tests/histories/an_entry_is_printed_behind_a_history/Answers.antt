@@ -6,6 +6,10 @@ pub new-requires-2 : goal.new-requires-2
 new-requires-2 g c =
     joined_legal c.in_ok-spec.spec c.new.result.items _ (omega (arith, c.len.ensures.len)) c.new.ensures.items c.in_ok-push.ensures.items
 
+pub print_history-requires : goal.print_history-requires
+print_history-requires g c =
+    joined_legal c.in_ok-spec.spec c.new.result.items _ (omega (arith, c.len.ensures.len)) c.new.ensures.items c.in_ok-push.ensures.items
+
 pub entry-requires : goal.entry-requires
 entry-requires g c =
     let spec = c.in_ok-spec.spec in (
