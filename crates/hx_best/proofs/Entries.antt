@@ -1,5 +1,5 @@
 -- The entries of a list or a map, one after the other.
-use Rattle.std.proofs.Common.{◌≡◌, ℕ, zero, suc, ◌+◌, ◌<◌, ◌≤◌, ◌==◌, ◌&&◌, ◌||◌, Bool, true, false, List, [], ◌∷◌, length, drop, get_or, refl, sym, ap, ◌∙◌, arith}
+use Rattle.std.proofs.Common.{◌≡◌, ℕ, zero, suc, ◌+◌, ◌<◌, ◌≤◌, ◌&&◌, ◌||◌, Bool, true, false, List, [], ◌∷◌, length, drop, get_or, refl, sym, ap, ◌∙◌, arith}
 use mir.Val.{bool_byte}
 use Rattle.std.specs.Prelude.{if◌then◌else◌}
 use Rattle.std.specs.List.{list_any, list_all}
@@ -19,7 +19,7 @@ any_at q [] k d lt e = absurd (omega (arith, lt))
 any_at q (x ∷ xs) zero d lt e = grind (arith, e)
 any_at q (x ∷ xs) (suc k) d lt e = grind (arith, any_at q xs k d (omega (arith, lt)) e)
 
-all_at : {X : Type 0} (q : X → Bool) (xs : List X) → ((k : ℕ) (d : X) → k < length xs → q (get_or xs k d) ≡ true) → list_all q xs ≡ true
+pub all_at : {X : Type 0} (q : X → Bool) (xs : List X) → ((k : ℕ) (d : X) → k < length xs → q (get_or xs k d) ≡ true) → list_all q xs ≡ true
 all_at q [] h = refl
 all_at q (x ∷ xs) h = grind (arith, h 0 x (omega arith), all_at q xs (λ k d lt. h (suc k) d (omega (arith, lt))))
 

@@ -1,9 +1,9 @@
 -- The targets of a part.
-use Rattle.std.proofs.Common.{◌≡◌, ℕ, suc, zero, ◌+◌, ◌<◌, ◌≤◌, ◌||◌, ◌==◌, Bool, true, false, List, [], ◌∷◌, ◌++◌, length, map, take, get_or, Option, Some, None, refl, sym, ap, ◌∙◌, arith, append_assoc, append-nil}
+use Rattle.std.proofs.Common.{◌≡◌, ℕ, suc, zero, ◌+◌, ◌<◌, ◌||◌, ◌==◌, Bool, true, false, List, [], ◌∷◌, ◌++◌, length, map, take, get_or, Option, Some, None, refl, sym, ap, ◌∙◌, arith, append_assoc, append-nil}
 use Rattle.std.specs.Prelude.{if◌then◌else◌, filter, option_map}
 use Rattle.std.specs.List.{list_any, position_or_len, filter_map, flat_map, cons_option}
 use Rattle.std.specs.Option.{option_map_or, is_some}
-use Rattle.std.proofs.lemmas.List.{take_more, take_all}
+use Rattle.std.proofs.lemmas.List.{take_more}
 use Rattle.std.proofs.lemmas.List.Elements.{filter_map-append}
 use Rattle.hx_lists.specs.Lists.{numbers_from, numbers_below}
 use Rattle.hx_ids.specs.declared.InstanceId.{InstanceId}
@@ -14,9 +14,9 @@ use Rattle.hx_cluster.specs.declared.planning.Target.{Target}
 use Rattle.hx_cluster.specs.declared.state.Row.{Row}
 use Rattle.hx_cluster.specs.Ends.{row_of, state_of}
 use Rattle.hx_best.specs.declared.marks.Mark.{Mark}
-use Rattle.hx_best.specs.Wants.{Wants, Listed, Mapped, is_wanted, place_in, by_instance}
+use Rattle.hx_best.specs.Wants.{Wants, Listed, Mapped, is_wanted, place_in}
 use Rattle.hx_best.specs.Goals.{goal, wanted_goal}
-use Rattle.hx_best.specs.Targets.{is_target, target, place_of, targets_at}
+use Rattle.hx_best.specs.Targets.{is_target, target, place_of}
 use Rattle.hx_best.specs.Places.{Placing, model_in, mark_of, wants_at, place_past, target_at}
 
 not_there : {X : Type 0} (q : X → Bool) (xs : List X) → list_any q xs ≡ false → position_or_len q xs ≡ length xs
@@ -64,7 +64,7 @@ module _ (x : Placing) (p : PartId) (e : SessionId × InstanceId) (state : Optio
       ∙ ap (λ (b : Bool). if b then Some (target x.models x.view x.resource p e) else None) (sym some ∙ target_if x p e state mark here is)
 
 -- the targets of a part, one by one
-found_all : (x : Placing) (p : PartId) (xs : List (SessionId × InstanceId)) → filter_map (target_at x p) xs ≡ map (target x.models x.view x.resource p) (filter (is_target x.view x.resource p) xs)
+pub found_all : (x : Placing) (p : PartId) (xs : List (SessionId × InstanceId)) → filter_map (target_at x p) xs ≡ map (target x.models x.view x.resource p) (filter (is_target x.view x.resource p) xs)
 found_all x p [] = refl
 found_all x p (e ∷ xs) = one (is_target x.view x.resource p e) (found_all x p xs)
   where
@@ -74,15 +74,11 @@ found_all x p (e ∷ xs) = one (is_target x.view x.resource p e) (found_all x p 
     one true more = ap (λ (ts : List Target). target x.models x.view x.resource p e ∷ ts) more
     one false more = more
 
-pub found_more : (x : Placing) (p : PartId) (old now new : List Target) (live : List (SessionId × InstanceId)) (k : ℕ) (d : SessionId × InstanceId) → k < length live
-    → now ≡ old ++ filter_map (target_at x p) (take k live) → new ≡ now ++ cons_option (target_at x p (get_or live k d)) [] → new ≡ old ++ filter_map (target_at x p) (take (k + 1) live)
-found_more x p old now new live k d lt so is =
-    is ∙ rw so (append_assoc old (filter_map (target_at x p) (take k live)) (cons_option (target_at x p (get_or live k d)) []))
-    ∙ ap (λ (ts : List Target). old ++ ts) (sym (filter_map-append (target_at x p) (take k live) (get_or live k d ∷ [])) ∙ ap (filter_map (target_at x p)) (sym (take_more live k d lt)))
-
-pub found_done : (x : Placing) (p : PartId) (old now : List Target) (live : List (SessionId × InstanceId)) (k : ℕ) → live ≡ by_instance x.view.live → length live ≤ k
-    → now ≡ old ++ filter_map (target_at x p) (take k live) → now ≡ old ++ targets_at x.models x.view x.resource p
-found_done x p old now live k is le so = so ∙ ap (λ (ts : List Target). old ++ ts) (ap (filter_map (target_at x p)) (take_all k live le ∙ is) ∙ found_all x p (by_instance x.view.live))
+pub found_more : {X : Type 0} (f : X → Option Target) (old now new : List Target) (xs : List X) (k : ℕ) (d : X) → k < length xs
+    → now ≡ old ++ filter_map f (take k xs) → new ≡ now ++ cons_option (f (get_or xs k d)) [] → new ≡ old ++ filter_map f (take (k + 1) xs)
+found_more f old now new xs k d lt so is =
+    is ∙ rw so (append_assoc old (filter_map f (take k xs)) (cons_option (f (get_or xs k d)) []))
+    ∙ ap (λ (ts : List Target). old ++ ts) (sym (filter_map-append f (take k xs) (get_or xs k d ∷ [])) ∙ ap (filter_map f) (sym (take_more xs k d lt)))
 
 -- one number more
 flat_map-numbers_from-suc : {X : Type 0} (f : ℕ → List X) (a n : ℕ) → flat_map f (numbers_from a (suc n)) ≡ flat_map f (numbers_from a n) ++ f (a + n)

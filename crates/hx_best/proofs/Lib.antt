@@ -9,3 +9,6 @@ pub mod Meeting
 pub mod Entries
 pub mod Standing
 pub mod Moves
+pub mod Visiting
+pub mod Spanning
+pub mod Gathered

@@ -13,12 +13,14 @@ use Rattle.std.proofs.lemmas.List.Elements.{filter_map-append}
 use Rattle.hx_lists.specs.Lists.{count, numbers_below}
 use Rattle.hx_ids.specs.declared.InstanceId.{InstanceId}
 use Rattle.hx_ids.specs.declared.StateId.{StateId}
+use Rattle.hx_ids.specs.declared.SessionId.{SessionId}
 use Rattle.hx_ids.specs.declared.PartId.{PartId}
 use Rattle.hx_best.specs.declared.marks.Mark.{Mark}
 use Rattle.hx_best.specs.Wants.{Listed, Mapped}
 use Rattle.hx_best.specs.Goals.{is_eligible, best_below}
-use Rattle.hx_best.specs.Lookups.{cell_of}
-use Rattle.hx_best.specs.Places.{Placing, model_in, mark_of, IsMarked}
+use Rattle.hx_best.specs.Places.{Placing, model_in, mark_of, order_of, IsMarked}
+use Rattle.hx_best.specs.Visits.{mark_at, is_visited}
+use Rattle.hx_best.specs.declared.visits.Visit.{Visit}
 use Rattle.hx_best.proofs.Best.{map-numbers_below_more}
 
 any_more : {X : Type 0} (q : X → Bool) (xs : List X) (y : X) → list_any q (xs ++ y ∷ []) ≡ (list_any q xs || q y)
@@ -92,21 +94,19 @@ pub byte_small : (b : Bool) → bool_byte b ≤ 1
 byte_small true = omega arith
 byte_small false = omega arith
 
-module _ (x : Placing) (p : PartId) (cells new : List (Option Mark)) (k : ℕ) (mark : Mark) where
-  pub list_marked : (list : List InstanceId) (d : InstanceId) (rank : ℕ) → k < length list → ((i : InstanceId) → cell_of cells i ≡ mark_of x p (Listed (take k list)) i)
+-- the mark of an instance, with that of an entry more
+module _ (x : Placing) (p : PartId) (i : InstanceId) (old new : Option Mark) (k : ℕ) (mark : Mark) where
+  pub list_marked : (list : List InstanceId) (d : InstanceId) (rank : ℕ) → k < length list → old ≡ mark_of x p (Listed (take k list)) i
       → mark.place ≡ k → mark.goal ≡ best_below (model_in x) x.resource.ideal.replicas (length x.view.live) rank → rank ≡ count (is_eligible x.view p) (take k list)
-      → ((i : InstanceId) → cell_of new i ≡ option_or (cell_of cells i) (if i.0 == (get_or list k d).0 then Some mark else None))
-      → (i : InstanceId) → cell_of new i ≡ mark_of x p (Listed (take (k + 1) list)) i
-  list_marked list d rank lt so place goal counted filled i =
+      → new ≡ option_or old (if i.0 == (get_or list k d).0 then Some mark else None) → new ≡ mark_of x p (Listed (take (k + 1) list)) i
+  list_marked list d rank lt so place goal counted filled =
       let same : mark ≡ next_mark x p (take k list) = (λ j. record { place = (place ∙ sym (length-take-le k list (omega arith))) j; goal = (goal ∙ ap (best_below (model_in x) x.resource.ideal.replicas (length x.view.live)) counted) j }) in
-      filled i ∙ rw (so i, same) (sym (listed_more x p (take k list) (get_or list k d) i)) ∙ ap (λ (ys : List InstanceId). mark_of x p (Listed ys) i) (sym (take_more list k d lt))
+      filled ∙ rw (so, same) (sym (listed_more x p (take k list) (get_or list k d) i)) ∙ ap (λ (ys : List InstanceId). mark_of x p (Listed ys) i) (sym (take_more list k d lt))
 
-  pub map_marked : (map : List (InstanceId × StateId)) (d : InstanceId × StateId) → k < length map → ((i : InstanceId) → cell_of cells i ≡ mark_of x p (Mapped (take k map)) i)
-      → mark ≡ record { place = 0; goal = (get_or map k d).1 }
-      → ((i : InstanceId) → cell_of new i ≡ option_or (cell_of cells i) (if i.0 == (get_or map k d).0.0 then Some mark else None))
-      → (i : InstanceId) → cell_of new i ≡ mark_of x p (Mapped (take (k + 1) map)) i
-  map_marked map d lt so is filled i =
-      filled i ∙ rw (so i, is) (sym (mapped_more x p (take k map) (get_or map k d) i)) ∙ ap (λ (ys : List (InstanceId × StateId)). mark_of x p (Mapped ys) i) (sym (take_more map k d lt))
+  pub map_marked : (map : List (InstanceId × StateId)) (d : InstanceId × StateId) → k < length map → old ≡ mark_of x p (Mapped (take k map)) i
+      → mark ≡ record { place = 0; goal = (get_or map k d).1 } → new ≡ option_or old (if i.0 == (get_or map k d).0.0 then Some mark else None) → new ≡ mark_of x p (Mapped (take (k + 1) map)) i
+  map_marked map d lt so is filled =
+      filled ∙ rw (so, is) (sym (mapped_more x p (take k map) (get_or map k d) i)) ∙ ap (λ (ys : List (InstanceId × StateId)). mark_of x p (Mapped ys) i) (sym (take_more map k d lt))
 
 -- a turn more
 pub turn_more : (instances list : List InstanceId) (f : ℕ → ℕ) (k : ℕ) (d : InstanceId) → f k < length instances → list ≡ filter_map (slice_get instances) (map f (numbers_below k))
@@ -115,10 +115,21 @@ turn_more instances list f k d lt so =
     rw (so, map-numbers_below_more f k, filter_map-append (slice_get instances) (map f (numbers_below k)) (f k ∷ []), slice_get-get_or instances (f k) d lt) refl
 
 -- all entries
-pub list_done : (x : Placing) (p : PartId) (list : List InstanceId) (cells : List (Option Mark)) (k past : ℕ) → length list ≤ k → ((i : InstanceId) → cell_of cells i ≡ mark_of x p (Listed (take k list)) i) → past ≡ length list
-    → IsMarked x p (Listed list) cells past
-list_done x p list cells k past le so is = record { each = λ i. so i ∙ ap (λ (ys : List InstanceId). mark_of x p (Listed ys) i) (take_all k list le); behind = is }
+module _ (x : Placing) (p : PartId) (visits : List Visit) (k : ℕ) (within : (j : ℕ) → is_visited visits j ≡ true → j < length (order_of x)) where
+  pub list_done : (list : List InstanceId) (past : ℕ) → length list ≤ k
+      → ((j : ℕ) (d : SessionId × InstanceId) → j < length (order_of x) → mark_at visits j ≡ mark_of x p (Listed (take k list)) (get_or (order_of x) j d).1) → past ≡ length list
+      → IsMarked x p (Listed list) visits past
+  list_done list past le so is = record {
+    each = λ j d lt. so j d lt ∙ ap (λ (ys : List InstanceId). mark_of x p (Listed ys) (get_or (order_of x) j d).1) (take_all k list le);
+    within = within;
+    behind = is;
+  }
 
-pub map_done : (x : Placing) (p : PartId) (map : List (InstanceId × StateId)) (cells : List (Option Mark)) (k : ℕ) → length map ≤ k → ((i : InstanceId) → cell_of cells i ≡ mark_of x p (Mapped (take k map)) i)
-    → IsMarked x p (Mapped map) cells 0
-map_done x p map cells k le so = record { each = λ i. so i ∙ ap (λ (ys : List (InstanceId × StateId)). mark_of x p (Mapped ys) i) (take_all k map le); behind = refl }
+  pub map_done : (entries : List (InstanceId × StateId)) → length entries ≤ k
+      → ((j : ℕ) (d : SessionId × InstanceId) → j < length (order_of x) → mark_at visits j ≡ mark_of x p (Mapped (take k entries)) (get_or (order_of x) j d).1)
+      → IsMarked x p (Mapped entries) visits 0
+  map_done entries le so = record {
+    each = λ j d lt. so j d lt ∙ ap (λ (ys : List (InstanceId × StateId)). mark_of x p (Mapped ys) (get_or (order_of x) j d).1) (take_all k entries le);
+    within = within;
+    behind = refl;
+  }

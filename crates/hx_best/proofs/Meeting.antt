@@ -8,9 +8,8 @@ use Rattle.std.proofs.Math.ListN.{drop_of_length-le}
 use Rattle.hx_ids.specs.declared.InstanceId.{InstanceId}
 use Rattle.hx_ids.specs.declared.SessionId.{SessionId}
 use Rattle.hx_ids.specs.declared.PartId.{PartId}
-use Rattle.hx_ids.specs.declared.StateId.{StateId}
 use Rattle.hx_cluster.specs.declared.state.Row.{Row}
-use Rattle.hx_cluster.specs.Ends.{part_eq, is_row, row_of, state_of, session_in}
+use Rattle.hx_cluster.specs.Ends.{part_eq, row_of, state_of, session_in}
 use Rattle.hx_parts.specs.Parts.{items_at}
 use Rattle.hx_parts.proofs.Narrow.{state-at}
 use Rattle.hx_best.specs.Places.{Placing, rows_at}

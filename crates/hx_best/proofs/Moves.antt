@@ -1,7 +1,7 @@
 -- Targets with each that isn't at its goal, some more of them.
 use Rattle.std.proofs.Common.{◌≡◌, ◌&&◌, ◌++◌, not, Bool, true, false, List, [], ◌∷◌, map, Option, Some, None, refl, sym, ap, ◌∙◌, arith, append-nil}
 use Rattle.std.specs.Prelude.{filter, if◌then◌else◌}
-use Rattle.std.specs.List.{list_all, flat_map}
+use Rattle.std.specs.List.{list_all}
 use Rattle.std.specs.Option.{option_map_or}
 use Rattle.std.proofs.lemmas.List.Elements.{filter-append}
 use Rattle.hx_ids.specs.declared.PartId.{PartId}

@@ -10,19 +10,19 @@ use Rattle.hx_ids.specs.declared.InstanceId.{InstanceId}
 use Rattle.hx_ids.specs.declared.StateId.{StateId}
 use Rattle.hx_ids.specs.declared.SessionId.{SessionId}
 use Rattle.hx_ids.specs.declared.PartId.{PartId}
-use Rattle.hx_model.specs.Model.{error, dropped}
+use Rattle.hx_model.specs.Model.{dropped}
 use Rattle.hx_cluster.specs.declared.state.Row.{Row}
 use Rattle.hx_cluster.specs.declared.planning.Target.{Target}
-use Rattle.hx_cluster.specs.Ends.{part_eq, is_row, row_of, state_of, session_in, instance_in}
+use Rattle.hx_cluster.specs.Ends.{part_eq, row_of, state_of, session_in, instance_in}
 use Rattle.hx_cluster.specs.Reads.{instance_before}
 use Rattle.hx_cluster.specs.Steps.{is_drained, is_error}
 use Rattle.hx_parts.specs.Parts.{items_at}
-use Rattle.hx_parts.proofs.Narrow.{state-at, row-at}
+use Rattle.hx_parts.proofs.Narrow.{state-at}
 use Rattle.hx_best.specs.Lookups.{IsPlain}
 use Rattle.hx_ideal.specs.declared.Mode.{Mode}
 use Rattle.hx_ideal.specs.declared.Mode.TheVariants as modes
 use Rattle.hx_best.specs.Wants.{Wants, Listed, Mapped, is_wanted, by_instance, open_instances, in_turn, wants_in}
-use Rattle.hx_best.specs.Goals.{is_in_error, is_asked, is_eligible, eligible_before, best_below, wanted_goal, goal}
+use Rattle.hx_best.specs.Goals.{is_in_error, is_eligible, eligible_before, best_below, wanted_goal, goal}
 use Rattle.hx_best.specs.Targets.{is_target, is_shown_as, target, targets_at}
 use Rattle.hx_best.specs.Places.{Placing, model_in, wants_at, rows_at}
 use Rattle.hx_best.specs.Still.{is_there, is_at_goal, goal_on, stands, list_stands, map_stands, is_on, list_covers, map_covers}

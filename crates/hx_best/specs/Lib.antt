@@ -1,7 +1,9 @@
 pub mod Wants
 pub mod Goals
 pub mod Targets
+pub mod Orders
 pub mod Lookups
 pub mod Places
 pub mod Numbers
+pub mod Visits
 pub mod Still

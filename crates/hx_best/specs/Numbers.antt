@@ -1,7 +1,6 @@
 -- Sets of numbers below 64, as the bits of a number.
 use Rattle.std.specs.Prelude.{ℕ, Bool, ◌==◌, ◌||◌, ◌≡◌, true, List, slice_index_or}
 use Rattle.std.specs.Int.{bit_at}
-use Rattle.hx_ids.specs.declared.SessionId.{SessionId}
 use Rattle.hx_cluster.specs.declared.state.Row.{Row}
 
 abbrev pub has_number : ℕ → ℕ → Bool

@@ -1,5 +1,5 @@
 -- The goals of the places of a resource.
-use Rattle.std.specs.Prelude.{◌≡◌, ℕ, List, length, map, Option, None, Some, if◌then◌else◌}
+use Rattle.std.specs.Prelude.{◌≡◌, ℕ, ◌<◌, true, List, length, map, Option, None, Some, slice_index_or, if◌then◌else◌}
 use Rattle.hx_lists.specs.Lists.{numbers_below}
 use Rattle.hx_ids.specs.declared.SessionId.{SessionId}
 use Rattle.hx_ids.specs.declared.InstanceId.{InstanceId}
@@ -12,9 +12,10 @@ use Rattle.hx_cluster.specs.declared.planning.Target.{Target}
 use Rattle.hx_cluster.specs.declared.state.Row.{Row}
 use Rattle.hx_cluster.specs.Ends.{model_at}
 use Rattle.hx_parts.specs.Parts.{items_at}
-use Rattle.hx_best.specs.Lookups.{cell_of}
 use Rattle.hx_best.specs.declared.marks.Mark.{Mark}
-use Rattle.hx_best.specs.Wants.{Wants, Listed, Mapped, wants_of, is_wanted, place_in}
+use Rattle.hx_best.specs.declared.visits.Visit.{Visit}
+use Rattle.hx_best.specs.Wants.{Wants, Listed, Mapped, wants_of, is_wanted, place_in, by_instance}
+use Rattle.hx_best.specs.Visits.{mark_at, is_visited}
 use Rattle.hx_best.specs.Goals.{best_state, wanted_goal}
 use Rattle.hx_best.specs.Targets.{is_target, target}
 
@@ -53,11 +54,21 @@ place_past (Mapped map) = 0
 abbrev pub rows_at : Placing → PartId → List Row
 rows_at x p = items_at (λ r. r.part) p x.view.rows
 
--- marks of where a part is wanted
-pub record IsMarked (x : Placing) (p : PartId) (wants : Wants) (cells : List (Option Mark)) (past : ℕ) : Type 0 where
-  pub each : (i : InstanceId) → cell_of cells i ≡ mark_of x p wants i
+-- the shown sessions, in order of instance
+abbrev pub order_of : Placing → List (SessionId × InstanceId)
+order_of x = by_instance x.view.live
+
+-- visits, only of shown sessions, with the mark of each whose instance is wanted
+pub record IsMarked (x : Placing) (p : PartId) (wants : Wants) (visits : List Visit) (past : ℕ) : Type 0 where
+  pub each : (k : ℕ) (d : SessionId × InstanceId) → k < length (order_of x) → mark_at visits k ≡ mark_of x p wants (slice_index_or (order_of x) k d).1
+  pub within : (k : ℕ) → is_visited visits k ≡ true → k < length (order_of x)
   pub behind : past ≡ place_past wants
 
 -- the target of a shown session, if there is one
 abbrev pub target_at : Placing → PartId → SessionId × InstanceId → Option Target
 target_at x p e = if is_target x.view x.resource p e then Some (target x.models x.view x.resource p e) else None
+
+-- the same, with a visit of each that has a target
+pub record AreVisits (x : Placing) (p : PartId) (visits : List Visit) (past : ℕ) : Type 0 where
+  pub marked : IsMarked x p (wants_at x p) visits past
+  pub each : (k : ℕ) (d : SessionId × InstanceId) → k < length (order_of x) → is_target x.view x.resource p (slice_index_or (order_of x) k d) ≡ true → is_visited visits k ≡ true

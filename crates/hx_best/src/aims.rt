@@ -5,16 +5,33 @@ ghost use Rattle.std.specs.Option.{option_map_or, is_some};
 ghost use Rattle.hx_best.specs.Goals.{goal as goal_of};
 ghost use Rattle.hx_best.specs.Targets.{targets_at, targets_in};
 ghost use Rattle.hx_best.specs.Targets.{targets as all_of};
-ghost use Rattle.hx_best.specs.Places.{mark_of, wants_at, place_past, target_at, IsMarked};
+ghost use Rattle.hx_best.specs.Places.{mark_of, wants_at, place_past, target_at, AreVisits};
 
 use crate::lookups::Index;
 use crate::marks::{Mark, Shown};
 use crate::places::Places;
-use crate::tables::{cell, clear};
+use crate::visits::Visits;
 use hx_cluster::{Target, View};
 use hx_ids::{InstanceId, PartId, ResourceId, SessionId, StateId};
 use hx_model::{DROPPED, ERROR, Model};
 use std::alloc::{AllocError, Global};
+
+/// What parts that are gone over one after another share: a list of instances, and visits.
+#[derive(Drop)]
+pub struct Room {
+    pub list: Vec<InstanceId>,
+    pub visits: Visits,
+}
+
+impl Room {
+    /// A room with nothing in it.
+    pub fn new(alloc: Global) -> Room {
+        Room {
+            list: Vec::new(alloc),
+            visits: Visits::new(alloc),
+        }
+    }
+}
 
 impl Shown<'_> {
     /// The goal of a session's replica, by the mark of its instance.
@@ -87,41 +104,48 @@ impl Shown<'_> {
         })
     }
 
-    /// Adds the targets of the part, in order of instance.
+    /// Visits the sessions that may have a target of the part: those on instances where one is wanted,
+    /// and those that have a row. It answers the place of where none is wanted.
+    fn visits(&self, room: &mut Room) -> Result<u32, AllocError>
+        ensures { IfOk result (λ past.
+            AreVisits self.now.0 self.now.1 room.new.visits past) }
+    {
+        room.visits.clear();
+        let past = self.mark(&mut room.list, &mut room.visits)?;
+        self.visit_rows(&mut room.visits)?;
+        Ok(past)
+    }
+
+    /// Adds the targets of the visited sessions, in order.
     fn push_targets(
         &self,
-        cells: &[Option<Mark>],
+        visits: &Visits,
         past: u32,
         found: &mut Vec<Target>,
     ) -> Result<(), AllocError>
-        requires { IsMarked self.now.0 self.now.1 (wants_at self.now.0 self.now.1) cells.now past }
+        requires { AreVisits self.now.0 self.now.1 visits.now past }
         ensures { OnOk result (
             found.new.items
             ≡ found.old.items
             ++ targets_at self.now.0.models self.now.0.view self.now.0.resource self.now.1) }
     {
-        for shown in self.places().index().live() {
-            let mark = cell(cells, shown.1);
-            push_some(found, self.target(*shown, mark, past))?;
+        let live = self.places().index().live();
+        for visit in visits.as_slice() {
+            push_some(found, self.target(live[visit.number], visit.mark, past))?;
         }
         Ok(())
     }
 
-    /// The same with a table for marks, of which what it has doesn't matter.
-    pub fn add_targets(
-        &self,
-        alloc: Global,
-        cells: &mut Vec<Option<Mark>>,
-        found: &mut Vec<Target>,
-    ) -> Result<(), AllocError>
+    /// Adds the targets of the part, in order of instance. It costs what the part has: its rows, and
+    /// the entries of its list or map. What the room has doesn't matter.
+    pub fn add_targets(&self, room: &mut Room, found: &mut Vec<Target>) -> Result<(), AllocError>
         ensures { OnOk result (
             found.new.items
             ≡ found.old.items
             ++ targets_at self.now.0.models self.now.0.view self.now.0.resource self.now.1) }
     {
-        clear(cells);
-        let past = self.mark(alloc, cells)?;
-        self.push_targets(cells.as_slice(), past, found)
+        let past = self.visits(room)?;
+        self.push_targets(&room.visits, past, found)
     }
 }
 
@@ -154,10 +178,10 @@ fn targets_of(
         found.items ≡ targets_in places.now.models places.now.view resource places.now.resource) }
 {
     let mut found = Vec::new(alloc);
-    let mut cells = Vec::new(alloc);
+    let mut room = Room::new(alloc);
     for index in 0..places.resource().ideal.parts() {
         let shown = Shown::of(&*places, PartId { resource, index });
-        shown.add_targets(alloc, &mut cells, &mut found)?;
+        shown.add_targets(&mut room, &mut found)?;
     }
     Ok(found)
 }

@@ -6,9 +6,11 @@ mod lookups;
 mod marks;
 mod moving;
 mod numbers;
+mod orders;
 mod places;
 mod still;
 mod tables;
+mod visits;
 
 pub use aims::{targets, targets_on};
 pub use lookups::Index;

@@ -1,16 +1,17 @@
 //! Where a part is wanted, instance by instance.
-ghost use Rattle.std.specs.Prelude.{◌≡◌, [], None, length, slice_index_or, IfOk, OnOk};
+ghost use Rattle.std.specs.Prelude.{◌≡◌, ℕ, ◌==◌, ◌<◌, true, [], None, length, slice_index_or, IfOk, OnOk};
 ghost use Rattle.hx_ids.specs.declared.InstanceId.{InstanceId};
+ghost use Rattle.hx_ids.specs.declared.SessionId.{SessionId};
 ghost use Rattle.std.specs.List.{list_any};
 ghost use Rattle.hx_cluster.specs.Ends.{state_of};
 ghost use Rattle.hx_cluster.specs.Steps.{is_error, is_flag};
 ghost use Rattle.hx_best.specs.Wants.{Listed, Mapped, in_turn as in_turn_of};
 ghost use Rattle.hx_best.specs.Goals.{is_in_error, is_asked, is_eligible};
-ghost use Rattle.hx_best.specs.Lookups.{cell_of};
-ghost use Rattle.hx_best.specs.Places.{IsMarked, wants_at, rows_at};
+ghost use Rattle.hx_best.specs.Places.{IsMarked, wants_at, rows_at, order_of};
+ghost use Rattle.hx_best.specs.Visits.{Adds, is_visited};
 
 use crate::places::Places;
-use crate::tables::fill_first;
+use crate::visits::{Visit, Visits};
 use hx_cluster::{Row, is_flag_of, state_on};
 use hx_ideal::Mode;
 use hx_ids::{InstanceId, PartId, SessionId, StateId};
@@ -18,6 +19,9 @@ use hx_lists::Seq;
 use hx_model::ERROR;
 use std::alloc::{AllocError, Global};
 use std::marker::Model;
+
+// Up to so many visits, to go over them costs less than to search for a session.
+const FEW: usize = 16;
 
 /// A place where a replica is wanted, and its goal there.
 #[derive(Clone, Copy, Debug, PartialEq, Eq)]
@@ -130,45 +134,41 @@ impl<'a> Shown<'a> {
 }
 
 impl Shown<'_> {
-    /// Marks where the part is wanted. It answers the place of where it isn't.
-    pub fn mark(&self, alloc: Global, cells: &mut Vec<Option<Mark>>) -> Result<u32, AllocError>
-        requires { (i : InstanceId) → cell_of cells.old.items i ≡ None }
+    /// Marks where the part is wanted. It answers the place of where it isn't. The list is for
+    /// instances in turn; what it has doesn't matter.
+    pub fn mark(&self, list: &mut Vec<InstanceId>, visits: &mut Visits) -> Result<u32, AllocError>
+        requires { visits.old ≡ [] }
         ensures { IfOk result (λ past.
-            IsMarked self.now.0 self.now.1 (wants_at self.now.0 self.now.1) cells.new.items past) }
+            IsMarked self.now.0 self.now.1 (wants_at self.now.0 self.now.1) visits.new past) }
     {
         let resource = self.places.resource();
         let part = self.part.index;
         match resource.ideal.mode() {
             Mode::Full => {
                 let instances = self.places.index().open_instances();
-                let mut list = Vec::new(alloc);
-                fill_turn(&mut list, instances, resource.ideal.replicas(), part)?;
-                self.mark_list(cells, list.as_slice())
+                fill_turn(list, instances, resource.ideal.replicas(), part)?;
+                self.mark_list(list.as_slice(), visits)
             }
-            Mode::Semi(lists) => self.mark_list(cells, items_in(lists, part)),
-            Mode::Custom(maps) => self.mark_map(cells, items_in(maps, part)),
+            Mode::Semi(lists) => self.mark_list(items_in(lists, part), visits),
+            Mode::Custom(maps) => self.mark_map(items_in(maps, part), visits),
         }
     }
 
     /// Marks the instances of a list, each where it stands first. A list whose places don't fit
     /// their type is want of memory.
-    fn mark_list(
-        &self,
-        cells: &mut Vec<Option<Mark>>,
-        list: &[InstanceId],
-    ) -> Result<u32, AllocError>
-        requires { (i : InstanceId) → cell_of cells.old.items i ≡ None }
+    fn mark_list(&self, list: &[InstanceId], visits: &mut Visits) -> Result<u32, AllocError>
+        requires { visits.old ≡ [] }
         ensures { IfOk result (λ past.
-            IsMarked self.now.0 self.now.1 (Listed list.now) cells.new.items past) }
+            IsMarked self.now.0 self.now.1 (Listed list.now) visits.new past) }
     {
         let past = number(list.len())?;
         let mut rank = 0;
         for (place, instance) in list.iter().enumerate() {
             let mark = Mark {
                 place: place as u32,
-                goal: self.places.below(rank),
+                goal: self.places().below(rank),
             };
-            fill_first(cells, *instance, mark)?;
+            self.mark_on(*instance, mark, visits)?;
             rank += self.is_eligible(*instance) as usize;
         }
         Ok(past)
@@ -177,22 +177,100 @@ impl Shown<'_> {
     /// Marks the instances of a map.
     fn mark_map(
         &self,
-        cells: &mut Vec<Option<Mark>>,
         map: &[(InstanceId, StateId)],
+        visits: &mut Visits,
     ) -> Result<u32, AllocError>
-        requires { (i : InstanceId) → cell_of cells.old.items i ≡ None }
+        requires { visits.old ≡ [] }
         ensures { IfOk result (λ past.
-            IsMarked self.now.0 self.now.1 (Mapped map.now) cells.new.items past) }
+            IsMarked self.now.0 self.now.1 (Mapped map.now) visits.new past) }
     {
         for (instance, goal) in map {
             let mark = Mark {
                 place: 0,
                 goal: *goal,
             };
-            fill_first(cells, *instance, mark)?;
+            self.mark_on(*instance, mark, visits)?;
         }
         Ok(0)
     }
+
+    /// Visits the sessions of an instance, with a mark.
+    fn mark_on(
+        &self,
+        instance: InstanceId,
+        mark: Mark,
+        visits: &mut Visits,
+    ) -> Result<(), AllocError>
+        ensures { (d : SessionId × InstanceId)
+            → OnOk result
+            (Adds (length (order_of self.now.0))
+            (λ k. (slice_index_or (order_of self.now.0) k d).1.0 == instance.0) (Some mark)
+            visits.old visits.new) }
+    {
+        let (first, end) = self.places().index().order().places_on(instance);
+        for number in first..end {
+            visits.add(Visit {
+                number,
+                mark: Some(mark),
+            })?;
+        }
+        Ok(())
+    }
+
+    /// Visits a session, without a mark.
+    fn visit(&self, session: SessionId, visits: &mut Visits) -> Result<(), AllocError>
+        ensures { (d : SessionId × InstanceId)
+            → OnOk result
+            (Adds (length (order_of self.now.0))
+            (λ k. (slice_index_or (order_of self.now.0) k d).0.0 == session.0) None
+            visits.old visits.new) }
+    {
+        let order = self.places().index().order();
+        if order.is_once() && has_session(order.as_slice(), visits.as_slice(), session) {
+            return Ok(());
+        }
+        let places = order.places_of(session);
+        for (_, number) in places {
+            visits.add(Visit {
+                number: *number,
+                mark: None,
+            })?;
+        }
+        Ok(())
+    }
+
+    /// Visits the sessions that have a row of the part.
+    pub fn visit_rows(&self, visits: &mut Visits) -> Result<(), AllocError>
+        ensures { (d : SessionId × InstanceId)
+            → OnOk result
+            (Adds (length (order_of self.now.0))
+            (λ k. list_any
+            (λ r. (slice_index_or (order_of self.now.0) k d).0.0 == r.session.0)
+            (rows_at self.now.0 self.now.1)) None visits.old visits.new) }
+    {
+        let rows = self.rows();
+        for row in rows {
+            self.visit(row.session, visits)?;
+        }
+        Ok(())
+    }
+}
+
+/// Whether a session is found among the visited ones. It is looked for only where these are few.
+fn has_session(live: &[(SessionId, InstanceId)], visits: &[Visit], session: SessionId) -> bool
+    ensures { result ≡ true
+        → (k : ℕ) × (k < length live.now) × (is_visited visits.now k ≡ true)
+        × ((d : SessionId × InstanceId) → (slice_index_or live.now k d).0.0 ≡ session.0) }
+{
+    if visits.len() > FEW {
+        return false;
+    }
+    for visit in visits {
+        if visit.number < live.len() && live[visit.number].0 == session {
+            return true;
+        }
+    }
+    false
 }
 
 /// A number of 32 bits. A larger one is want of memory.

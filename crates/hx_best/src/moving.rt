@@ -7,30 +7,19 @@ ghost use Rattle.hx_best.specs.Targets.{targets as targets_of};
 ghost use Rattle.hx_marks.specs.Marks.{is_marked};
 ghost use Rattle.hx_best.specs.Still.{HasMoving, is_among, those_among};
 
+use crate::aims::Room;
 use crate::lookups::Index;
-use crate::marks::{Mark, Shown, number};
+use crate::marks::{Shown, number};
 use crate::places::Places;
 use hx_cluster::Target;
-use hx_ids::{InstanceId, PartId, ResourceId};
+use hx_ids::{PartId, ResourceId};
 use hx_marks::Marks;
 use hx_model::Model;
 use std::alloc::{AllocError, Global};
 
-/// What the parts of a resource share: a list of instances, and a table of marks.
-#[derive(Drop)]
-struct Room {
-    list: Vec<InstanceId>,
-    cells: Vec<Option<Mark>>,
-}
-
 impl Shown<'_> {
     /// Adds the targets of the part, unless it stands still.
-    fn add_moving(
-        &self,
-        alloc: Global,
-        room: &mut Room,
-        found: &mut Vec<Target>,
-    ) -> Result<(), AllocError>
+    fn add_moving(&self, room: &mut Room, found: &mut Vec<Target>) -> Result<(), AllocError>
         requires { resource_at self.now.0.view.ideals.resources self.now.1.resource
             ≡ Some self.now.0.resource }
         ensures { (all : List Target) → HasMoving self.now.0.models self.now.0.view all found.old.items
@@ -43,7 +32,7 @@ impl Shown<'_> {
         if self.is_still(&mut room.list)? {
             return Ok(());
         }
-        self.add_targets(alloc, &mut room.cells, found)
+        self.add_targets(room, found)
     }
 }
 
@@ -72,17 +61,14 @@ fn moving_of(
         found.items) }
 {
     let mut found = Vec::new(alloc);
-    let mut room = Room {
-        list: Vec::new(alloc),
-        cells: Vec::new(alloc),
-    };
+    let mut room = Room::new(alloc);
     for index in 0..places.resource().ideal.parts() {
         let part = PartId { resource, index };
         if !is_among(marks, part) {
             continue;
         }
         let shown = Shown::of(&*places, part);
-        shown.add_moving(alloc, &mut room, &mut found)?;
+        shown.add_moving(&mut room, &mut found)?;
     }
     Ok(found)
 }

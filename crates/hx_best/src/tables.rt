@@ -1,6 +1,5 @@
 //! Tables by instance.
 ghost use Rattle.std.specs.Prelude.{◌≡◌, ◌==◌, if◌then◌else◌, Some, None, OnOk};
-ghost use Rattle.std.specs.Option.{option_or};
 ghost use Rattle.hx_ids.specs.declared.InstanceId.{InstanceId};
 ghost use Rattle.hx_best.specs.Lookups.{cell_of};
 
@@ -32,29 +31,4 @@ pub fn fill<T: Copy>(
     }
     table[place] = Some(value);
     Ok(())
-}
-
-/// Fills the cell of an instance, where it has nothing. The table grows up to it.
-pub fn fill_first<T: Copy>(
-    table: &mut Vec<Option<T>>,
-    instance: InstanceId,
-    value: T,
-) -> Result<(), AllocError>
-    ensures { OnOk result ((i : InstanceId) → cell_of table.new.items i
-        ≡ option_or (cell_of table.old.items i)
-        (if i.0 == instance.0 then Some value else None)) }
-{
-    match cell(table.as_slice(), instance) {
-        Some(_) => Ok(()),
-        None => fill(table, instance, value),
-    }
-}
-
-/// Empties each cell.
-pub fn clear<T: Copy>(table: &mut Vec<Option<T>>)
-    ensures { (i : InstanceId) → cell_of table.new.items i ≡ None }
-{
-    for place in 0..table.len() {
-        table[place] = None;
-    }
 }

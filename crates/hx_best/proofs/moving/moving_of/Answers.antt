@@ -1,4 +1,4 @@
-use Rattle.std.proofs.Common.{◌≡◌, arith, not, ℕ, ◌+◌, Bool, true, false, List, [], ◌++◌, ◌∙◌, ap, sym, subst, append-nil}
+use Rattle.std.proofs.Common.{◌≡◌, arith, ℕ, true, false, List, ◌++◌, ◌∙◌, ap, sym, subst, append-nil}
 use Rattle.std.specs.Prelude.{option_copied}
 use Rattle.std.specs.List.{flat_map}
 use Rattle.std.proofs.lemmas.List.Elements.{filter-append}
