@@ -1,12 +1,15 @@
 -- How a kept turn makes its plan, sends it and posts.
-use Rattle.std.proofs.Common.{◌≡◌, ℕ, suc, ◌+◌, ◌⊎◌, inr, ◌&&◌, not, Bool, true, false, List, [], ◌∷◌, length, drop, Option, None, Some, refl, sym, ap, ap₂, ◌∙◌, subst, arith}
-use Rattle.std.specs.Prelude.{◌==◌, Ok, Err, option_map, nat_lt, if◌then◌else◌}
+use Rattle.std.proofs.Common.{◌≡◌, ℕ, suc, ◌+◌, ◌⊎◌, inr, ◌&&◌, not, Bool, true, false, List, [], ◌∷◌, ◌++◌, map, length, drop, Option, None, Some, refl, sym, ap, ap₂, ◌∙◌, subst, append_assoc, arith}
+use Rattle.std.specs.Prelude.{◌==◌, Ok, Err, MatchOption, option_map, nat_lt, if◌then◌else◌}
 use Rattle.std.proofs.lemmas.Bool.Decides.{nat_tests}
+use Rattle.hx_ids.specs.declared.SessionId.{SessionId}
+use Rattle.hx_ids.specs.declared.InstanceId.{InstanceId}
 use Rattle.hx_cluster.specs.declared.description.Spec.{Spec}
 use Rattle.hx_cluster.specs.declared.state.Cluster.{Cluster}
 use Rattle.hx_cluster.specs.declared.state.Message.{Message}
 use Rattle.hx_cluster.specs.declared.planning.Report.{Report}
 use Rattle.hx_cluster.specs.declared.planning.Plan.{Plan}
+use Rattle.hx_cluster.specs.declared.planning.View.{View}
 use Rattle.hx_cluster.specs.declared.happenings.Proposal.{Proposal}
 use Rattle.hx_cluster.specs.declared.happenings.Dispatched.{Dispatched}
 use Rattle.hx_cluster.specs.declared.happenings.Seen.{Seen}
@@ -17,7 +20,7 @@ use Rattle.hx_cluster.specs.Events.{dispatched_of, is_epoch, is_pass}
 use Rattle.hx_lists.specs.Lists.{count}
 use Rattle.hx_pass.specs.Plans.{plan}
 use Rattle.hx_pass.specs.Drafts.{Draft, draft, finished}
-use Rattle.hx_pass.specs.Turns.{Turn, Send, Post, idle_turn, is_due, is_of_epoch, if_due, gone_on, turn_after, posted_of}
+use Rattle.hx_pass.specs.Turns.{Call, Mail, States, Ideals, Turn, Send, Post, idle_turn, is_due, is_of_epoch, if_due, gone_on, turn_after, posted_of}
 use Rattle.hx_board.specs.Board.{Held, happened}
 use Rattle.hx_board.specs.Refusals.{full, post_refusal}
 use Rattle.hx_board.specs.declared.faults.PostRefusal.{PostRefusal}
@@ -27,22 +30,26 @@ use Rattle.hx_control.specs.declared.PassOutcome.{PassOutcome}
 use Rattle.hx_control.specs.declared.PassOutcome.TheVariants as ends
 use Rattle.hx_control.specs.declared.ControlFault.{ControlFault}
 use Rattle.hx_control.specs.declared.ControlFault.TheVariants as faults
+use Rattle.hx_control.specs.declared.controller.Next.{Next}
 use Rattle.hx_control.specs.declared.controller.Next.TheVariants as nexts
 use Rattle.hx_control.specs.declared.controller.Controller.TheInside.{Inside}
 use Rattle.hx_control.specs.Controllers.{Controller, idle_controller}
 use Rattle.hx_control.specs.Steps.{Step, Calls, Plans, Refuses, is_sent, is_of_cluster, of_cluster, outcome_of, dispatch_step, planned_step, post_step, step_of}
 use Rattle.hx_control.specs.OfBoard.{IsPlanOf}
-use Rattle.hx_control.specs.Turning.{controller, with_plan}
+use Rattle.hx_control.specs.Turning.{left_of, controller, with_plan, IsTurn}
 use Rattle.hx_control.specs.Drafted.{IsToSend, IsDispatched}
 use Rattle.hx_control.specs.Faults.{of_post}
 use Rattle.hx_control.specs.Made.{step_fault, Tries}
 use Rattle.hx_control.proofs.Making.{if_true, own, with_turn, call_made, full_same, tried_in_vain, tried_well, due, next_step}
 
-pub planned_of : (spec : Spec) (a : Inside) (x : Controller) (d : Draft) → controller a ≡ x → Some d ≡ a.draft → IsPlanOf spec x.turn x.plan
-    → finished a.view d ≡ plan spec.models spec.rules a.view
-planned_of spec a x d seen is planned =
-    let of : IsPlanOf spec (controller a).turn (option_map (finished a.view) a.draft) = subst (λ (v : Controller). IsPlanOf spec v.turn v.plan) (sym seen) planned in
-    (subst (λ (o : Option Draft). IsPlanOf spec (controller a).turn (option_map (finished a.view) o)) (sym is) of).1
+-- a turn whose plan was made has that plan
+pub planned_as : (a : Inside) (x : Controller) (d : Draft) → controller a ≡ x → a.draft ≡ Some d → with_plan x (finished x.turn.view d) ≡ x
+planned_as a x d seen is =
+    subst (λ (v : Controller). with_plan v (finished v.turn.view d) ≡ v) seen
+    (λ i. record { id = a.id; turn = (controller a).turn; plan = option_map (finished a.view) (sym is i) })
+
+pub planned_of : (spec : Spec) (x : Controller) (p : Plan) → with_plan x p ≡ x → IsPlanOf spec x.turn x.plan → p ≡ plan spec.models spec.rules x.turn.view
+planned_of spec x p is planned = (subst (λ (o : Option Plan). IsPlanOf spec x.turn o) (sym (ap (λ (v : Controller). v.plan) is)) planned).1
 
 -- the plan
 plan_made : (spec : Spec) (b : Held) (x y : Controller) (p : Plan) → x.turn.left ≡ Send ∷ Post ∷ [] → x.plan ≡ None → is_of_cluster spec b.cluster x.turn.view ≡ true
@@ -220,3 +227,25 @@ module _ (spec : Spec) (b : Held) (a : Inside) (x : Controller) (seen : controll
         ∙ ap (λ (rs : List Seen). happened b (events.Post x.id x.turn.begun.epoch rs)) (posted ∙ ap (λ (v : Controller). posted_of v.turn.view) seen) in
         tried_well of_post (post_refusal b x.turn.begun.epoch rows) (step_of spec b.cluster x) b d x y None same free
         (call_made b d x y e None (step_of spec b.cluster x) idle_turn calls (own x.id x.turn idle_turn) then_is now)
+
+-- where the post is next, the rows of the view that was planned last are those of the turn's
+more_left : (calls : List Call) → calls ++ Ideals ∷ Send ∷ Post ∷ [] ≡ Post ∷ [] → ⊥
+more_left [] is = cc
+more_left (x ∷ []) is = let e : Ideals ∷ Send ∷ Post ∷ [] ≡ [] = ap (drop 1) is in cc
+more_left (x ∷ y ∷ calls) is = let e : y ∷ (calls ++ Ideals ∷ Send ∷ Post ∷ []) ≡ [] = ap (drop 1) is in cc
+
+pub post_next : (next : Next) (live : List (SessionId × InstanceId)) → left_of next live ≡ Post ∷ [] → next ≡ nexts.Post
+post_next nexts.Begin live is = cc
+post_next nexts.Live live is = cc
+post_next (nexts.Mail n) live is =
+    absurd (more_left (map (λ e. Mail e.0) (drop n live) ++ map (λ e. States e.0) live) (append_assoc (map (λ e. Mail e.0) (drop n live)) (map (λ e. States e.0) live) (Ideals ∷ Send ∷ Post ∷ []) ∙ is))
+post_next (nexts.States n) live is = absurd (more_left (map (λ e. States e.0) (drop n live)) is)
+post_next nexts.Ideals live is = cc
+post_next nexts.Send live is = cc
+post_next nexts.Post live is = refl
+
+pub rows_of_turn : (a : Inside) (x : Controller) (rows : List Seen) → controller a ≡ x → x.turn.left ≡ Post ∷ [] → IsTurn a
+    → MatchOption a.planner (rows ≡ []) (λ view. rows ≡ posted_of view) → rows ≡ posted_of a.view
+rows_of_turn a x rows seen left turn are =
+    let next : a.next ≡ nexts.Post = post_next a.next a.view.live (ap (λ (v : Controller). v.turn.left) seen ∙ left) in
+    subst (λ (o : Option View). MatchOption o (rows ≡ []) (λ view. rows ≡ posted_of view)) (turn.posts next) are

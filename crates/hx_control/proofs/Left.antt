@@ -1,9 +1,9 @@
 -- How many calls of a turn are left.
-use Rattle.std.proofs.Common.{◌≡◌, ℕ, ◌+◌, ◌-◌, List, [], ◌∷◌, ◌++◌, length, drop, map, refl, ap, ◌∙◌, suc, arith, length-drop, ◌<◌, ◌≤◌, ◌^◌, sym, subst}
+use Rattle.std.proofs.Common.{◌≡◌, ℕ, ◌+◌, List, [], ◌∷◌, ◌++◌, length, drop, map, refl, ap, ◌∙◌, suc, arith, length-drop, ◌<◌, ◌≤◌, ◌^◌}
 use Rattle.hx_ids.specs.declared.SessionId.{SessionId}
 use Rattle.hx_ids.specs.declared.InstanceId.{InstanceId}
 use Rattle.hx_lists.specs.Lists.{count}
-use Rattle.hx_pass.specs.Turns.{Call, Mail}
+use Rattle.hx_pass.specs.Turns.{Mail}
 use Rattle.hx_control.specs.declared.controller.Next.{Next}
 use Rattle.hx_control.specs.declared.controller.Next.TheVariants as nexts
 use Rattle.hx_control.specs.Controllers.{is_mail_call, is_states_call}

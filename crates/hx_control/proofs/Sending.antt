@@ -1,5 +1,5 @@
 -- What a turn of the board sends and posts is what the board has.
-use Rattle.std.proofs.Common.{◌≡◌, ◌&&◌, ℕ, Bool, true, false, List, length, Option, Some, sym, ap, ◌∙◌, subst}
+use Rattle.std.proofs.Common.{◌≡◌, ◌&&◌, ℕ, Bool, true, false, List, length, sym, ap, ◌∙◌, subst}
 use Rattle.std.specs.List.{list_all}
 use Rattle.hx_cluster.specs.declared.description.Spec.{Spec}
 use Rattle.hx_cluster.specs.declared.planning.Plan.{Plan}
@@ -19,9 +19,7 @@ use Rattle.hx_pass.specs.Drafts.{Draft, draft}
 use Rattle.hx_pass.specs.Turns.{posted_of}
 use Rattle.hx_safe.proofs.Counting.{and-first}
 use Rattle.hx_board.specs.Board.{Held, HasHistory}
-use Rattle.hx_control.specs.declared.controller.Controller.TheInside.{Inside}
 use Rattle.hx_control.specs.Steps.{has_parts_of, is_of_cluster}
-use Rattle.hx_control.specs.Turning.{IsModelled}
 use Rattle.hx_control.proofs.Proposed.{HasGiven, proposed, posted}
 use Rattle.hx_control.proofs.Given.{given, instances_given}
 pub use Rattle.hx_calls.proofs.Placing.{placed_each}
@@ -60,9 +58,6 @@ view_modelled spec b view told same of = well_formed-modelled spec.models (lengt
 -- the shown resources have the models of a draft when it is made, where it is kept, and where it is sent
 pub drafted_modelled : (spec : Spec) (view : View) (d : Draft) → d ≡ draft spec.models spec.rules view → has_models spec.models view ≡ true → has_models d.models view ≡ true
 drafted_modelled spec view d is have = ap (λ (e : Draft). has_models e.models view) is ∙ have
-
-pub kept_modelled : (a : Inside) (d : Draft) → Some d ≡ a.draft → IsModelled a.view a.draft → has_models d.models a.view ≡ true
-kept_modelled a d is modelled = subst (λ (o : Option Draft). IsModelled a.view o) (sym is) modelled
 
 -- a report is the one that is told where it is told at all
 pub report_if : (r : Result Report AllocError) (of : Report) (A B : Type 0) → IfOk r (λ report. report ≡ of) → IfOk r (λ report. A → B → report ≡ of)

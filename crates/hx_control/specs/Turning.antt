@@ -66,8 +66,11 @@ IsLeft _ sessions = Unit {0}
 abbrev pub IsModelled : View → Option Draft → Type 0
 IsModelled view draft = IfSome draft (λ d. has_models d.models view ≡ true)
 
+-- what is drafted, or posted next, is of the view that was planned last
 pub record IsTurn (a : Inside) : Type 0 where
   pub left : IsLeft a.next (length a.view.live)
   pub few : length a.view.live < 2 ^ 32
   pub formed : IsFound a.formed a.view
   pub modelled : IsModelled a.view a.draft
+  pub drafted : IfSome a.draft (λ d. a.planner ≡ Some a.view)
+  pub posts : a.next ≡ nexts.Post → a.planner ≡ Some a.view

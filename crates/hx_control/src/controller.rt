@@ -83,7 +83,7 @@ fn is_first(next: Next) -> bool
 /// A controller with its turn. Contracts see its number, the turn, and the plan where it was made:
 /// what is kept of it is a draft, of which the report is made only where it is told. That what it
 /// was shown is well formed is found with the plan, and kept to the end of the turn; what a plan
-/// found of the view is kept for the next turn.
+/// found of the view is kept for the post, and for the next turn.
 #[derive(Drop)]
 pub struct Controller {
     pub(crate) id: ControllerId,

@@ -1,5 +1,5 @@
 //! How a turn begins, and what it reads.
-ghost use Rattle.std.specs.Prelude.{◌≡◌, ◌<◌, ◌++◌, true, List, drop, length, map};
+ghost use Rattle.std.specs.Prelude.{◌≡◌, ◌≢◌, ◌<◌, ◌++◌, true, List, drop, length, map};
 ghost use Rattle.std.specs.Prelude.{IfOk, OnOk, OnErr};
 ghost use Rattle.hx_lists.specs.Answers.{RefusedBy};
 ghost use Rattle.hx_cluster.specs.declared.happenings.Event.TheVariants as events;
@@ -28,6 +28,7 @@ fn states_at(read: u32, sessions: usize) -> Next
     ensures calls { (live : List (SessionId × InstanceId)) → length live ≡ sessions
         → left_of result live ≡ calls_after_mail (drop read live) }
     ensures left { IsLeft result sessions }
+    ensures reads { result ≢ Next.Post }
 {
     if (read as usize) < sessions {
         Next::States(read)
@@ -42,6 +43,7 @@ fn mail_at(read: u32, sessions: usize) -> Next
         → left_of result live
         ≡ map (λ e. Mail e.0) (drop read live) ++ calls_after_mail live }
     ensures left { IsLeft result sessions }
+    ensures reads { result ≢ Next.Post }
 {
     if (read as usize) < sessions {
         Next::Mail(read)

@@ -10,6 +10,7 @@ ghost use Rattle.hx_pass.specs.Plans.{plan as plan_of};
 ghost use Rattle.hx_pass.specs.Drafts.{finished, reported};
 ghost use Rattle.hx_board.specs.Board.{happened};
 ghost use Rattle.hx_control.specs.Steps.{is_sent, outcome_of, step_of, planned_step};
+ghost use Rattle.hx_control.specs.OfBoard.{IsPlanOf};
 ghost use Rattle.hx_control.specs.Turning.{left_of, with_plan};
 ghost use Rattle.hx_control.specs.Drafted.{IsToSend, IsDispatched};
 ghost use Rattle.hx_control.specs.Made.{Tries, step_fault};
@@ -187,34 +188,28 @@ impl Controller {
         Ok(self.outcome(plan, &answer))
     }
 
-    /// Dispatches a drafted plan, and goes on to the post.
+    /// Drafts the plan, or dispatches it where it was drafted, and goes on to the post.
     pub(crate) fn send(
         &mut self,
         spec: &Spec,
-        draft: Draft,
+        hops: &[Hops],
         board: &mut Board,
     ) -> Result<Option<PassOutcome>, ControlFault>
         requires controller { has_controller board.old.cluster self.old.id ≡ true }
         requires board { board.old.spec ≡ spec.now }
-        requires planned { finished self.old.turn.view draft
-            ≡ plan_of spec.now.models spec.now.rules self.old.turn.view }
-        requires models { has_models draft.models self.old.turn.view ≡ true }
+        requires hops { hops.now ≡ spec.now.models }
+        requires planned { IsPlanOf spec.now self.old.turn self.old.plan }
         requires next { self.old.turn.left ≡ left_of Next.Send self.old.turn.view.live }
-        ensures { let planned = with_plan self.old (finished self.old.turn.view draft) in
-            Tries (step_of spec.now board.old.cluster planned) board.old board.new planned
+        ensures { Tries (step_of spec.now board.old.cluster self.old) board.old board.new self.old
             self.new result }
     {
-        match self.dispatch_draft(spec, &draft, board) {
-            Ok(outcome) => {
-                self.next = Next::Post;
-                self.draft = None;
-                Ok(Some(outcome))
-            }
-            Err(fault) => {
-                self.draft = Some(draft);
-                Err(fault)
-            }
-        }
+        let Some(draft) = &self.draft else {
+            return self.make_plan(spec, hops, board);
+        };
+        let outcome = self.dispatch_draft(spec, draft, board)?;
+        self.next = Next::Post;
+        self.draft = None;
+        Ok(Some(outcome))
     }
 
     /// Posts the rows that were shown, and ends the turn.
@@ -234,8 +229,7 @@ impl Controller {
         if !is_of_board(alloc, spec, board, &self.view, &self.formed)? {
             return Err(ControlFault::OtherBoard);
         }
-        let rows = self.planner.posted(alloc, &self.view)?;
-        board.publish(self.id, self.begun.epoch, rows.as_slice())?;
+        board.publish(self.id, self.begun.epoch, self.planner.posted())?;
         self.restart();
         Ok(None)
     }

@@ -42,10 +42,7 @@ impl Controller {
             Next::Mail(place) => self.read_mail(place, board),
             Next::States(place) => self.read_states(place, board),
             Next::Ideals => self.read_ideals(board),
-            Next::Send => match self.draft.take() {
-                None => self.make_plan(spec, hops, board),
-                Some(draft) => self.send(spec, draft, board),
-            },
+            Next::Send => self.send(spec, hops, board),
             Next::Post => self.post(spec, board),
         }
     }

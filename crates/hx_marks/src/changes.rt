@@ -1,5 +1,5 @@
 //! The parts of which two lists have other items.
-ghost use Rattle.std.specs.Prelude.{◌≡◌, [], false, IsTrue};
+ghost use Rattle.std.specs.Prelude.{◌≡◌, ◌≤◌, [], false, take, length, IsTrue};
 ghost use Rattle.hx_ids.specs.declared.PartId.{PartId};
 ghost use Rattle.hx_parts.specs.Parts.{items_at};
 ghost use Rattle.hx_marks.specs.Marks.{is_marked};
@@ -42,6 +42,21 @@ fn mark_all<T: Listed>(marks: &mut Marks, items: &[T]) -> bool
     true
 }
 
+/// How many items at the front of two lists are the same.
+fn same_front<T: Listed>(old: &[T], new: &[T]) -> usize
+    ensures old { result ≤ length old.now }
+    ensures new { result ≤ length new.now }
+    ensures same { take result old.now ≡ take result new.now }
+{
+    let most = old.len().min(new.len());
+    for place in 0..most {
+        if !old[place].same(&new[place]) {
+            return place;
+        }
+    }
+    most
+}
+
 /// Adds to a set the parts of which two lists have other items, and perhaps others. It says no
 /// where the set has no room for one of these; what is in the set then doesn't matter. It takes no
 /// memory.
@@ -54,10 +69,11 @@ pub fn mark_changes<T: Listed>(marks: &mut Marks, old: &[T], new: &[T]) -> bool
     let mut old = old;
     let mut new = new;
     while let ([item, olds @ ..], [other, news @ ..]) = (old, new) {
-        if item.same(other) {
-            last = item.session();
-            old = olds;
-            new = news;
+        let same = same_front(old, new);
+        if same > 0 {
+            last = old[same - 1].session();
+            old = &old[same..];
+            new = &new[same..];
         } else if is_first(item, other, last) {
             last = item.session();
             if !marks.mark(item.part()) {

@@ -1,15 +1,16 @@
 -- What is known of a view again, by what was known of an earlier one.
 use Rattle.std.proofs.Common.{◌≡◌, ◌∙◌, ℕ, Bool, true, false, List, [], ◌∷◌, refl, sym, ap, subst, arith}
 use Rattle.std.specs.Prelude.{filter, if◌then◌else◌}
-use Rattle.std.specs.List.{list_all}
+use Rattle.std.specs.List.{list_any, list_all}
 use Rattle.hx_ids.specs.declared.PartId.{PartId}
+use Rattle.hx_cluster.specs.Ends.{part_eq}
 use Rattle.hx_model.specs.declared.ModelParts.{ModelParts}
 use Rattle.hx_cluster.specs.declared.planning.View.{View}
 use Rattle.hx_cluster.specs.declared.planning.Candidate.{Candidate}
 use Rattle.hx_cluster.specs.declared.happenings.Seen.{Seen}
 use Rattle.hx_cluster.specs.Views.{is_well_formed}
 use Rattle.hx_pass.specs.Turns.{posted_of}
-use Rattle.hx_parts.specs.Parts.{items_at, IsByPart}
+use Rattle.hx_parts.specs.Parts.{items_at}
 use Rattle.hx_marks.specs.Marks.{IsSpliced}
 use Rattle.hx_local.specs.Local.{DifferWithin, narrowed, accepted_in, accepted_within}
 use Rattle.hx_local.proofs.Again.{accepted_again}
@@ -17,16 +18,16 @@ use Rattle.hx_local.proofs.Posted.{posted_again}
 use Rattle.hx_local.proofs.FormedAgain.{formed_again}
 use Rattle.hx_planner.specs.Known.{Knowing, IsKnown}
 
--- a list is spliced by either of two tests that agree
-pub spliced_as : {X : Type 0} (part_of : X → PartId) (marked also : PartId → Bool) → ((p : PartId) → marked p ≡ also p) → (old new out : List X) → IsSpliced part_of marked old new out → IsSpliced part_of also old new out
-spliced_as part_of marked also same old new out is = record {
-  by_part = is.by_part;
-  at = λ p. is.at p ∙ ap (λ (b : Bool). if b then items_at part_of p new else items_at part_of p old) (same p);
-}
-
--- what is posted is told by the shown sessions and rows
-pub posted_same : (v w : View) → v.live ≡ w.live → v.rows ≡ w.rows → posted_of v ≡ posted_of w
-posted_same v w live rows = rw (live, rows) refl
+-- a list is spliced by a test that tells which parts are listed
+pub spliced_as : {X : Type 0} (part_of : X → PartId) (parts : List PartId) (marked : PartId → Bool) → ((p : PartId) → list_any (part_eq p) parts ≡ marked p)
+    → (old old_one new new_one out : List X) → old ≡ old_one → new ≡ new_one → IsSpliced part_of (λ p. list_any (part_eq p) parts) old new out → IsSpliced part_of marked old_one new_one out
+spliced_as {X} part_of parts marked same old old_one new new_one out old_is new_is is =
+    subst (λ (xs : List X). IsSpliced part_of marked xs new_one out) old_is
+    (subst (λ (xs : List X). IsSpliced part_of marked old xs out) new_is
+    (record {
+      by_part = is.by_part;
+      at = λ p. is.at p ∙ ap (λ (b : Bool). if b then items_at part_of p new else items_at part_of p old) (same p);
+    }))
 
 pub all-filter : {X : Type 0} (t u : X → Bool) (xs : List X) → list_all t xs ≡ true → list_all t (filter u xs) ≡ true
 all-filter t u [] h = refl

@@ -18,7 +18,7 @@ use hx_hops::Hops;
 use hx_lists::Seq;
 use hx_marks::{Marks, mark_changes, splice};
 use hx_model::Model;
-use hx_pass::{accepted, posted};
+use hx_pass::{accepted, posted as posted_rows};
 use hx_same::Same;
 use std::alloc::{AllocError, Global};
 use std::marker;
@@ -77,44 +77,6 @@ fn same_ideals(ideals: &Ideals, others: &Ideals) -> bool
         && ideals.resets.same(&others.resets)
 }
 
-/// The accepted candidates of an earlier view, where those of marked parts give way to the ones of a
-/// view of these parts alone.
-fn accepted_again(
-    alloc: Global,
-    models: &[Model],
-    hops: &[Hops],
-    narrow: &View,
-    marks: &Marks,
-    old: &[Candidate],
-) -> Result<Seq<Candidate>, AllocError>
-    requires hops { hops.now ≡ models.now }
-    requires models { has_models models.now narrow.now ≡ true }
-    requires old { IsByPart (λ c. c.part) old.now }
-    ensures { IfOk result (IsSpliced (λ c. c.part) (is_marked marks.now) old.now
-        (accepted_within models.now (is_marked marks.now) narrow.now)) }
-{
-    let new = accepted_among(alloc, models, hops, narrow, marks)?;
-    let parts = marks.parts(alloc)?;
-    let accepted = splice(alloc, old, parts.as_slice(), new.as_slice())?;
-    Ok(Seq::from_vec(accepted))
-}
-
-/// The same of the rows to post.
-fn posted_again(
-    alloc: Global,
-    narrow: &View,
-    marks: &Marks,
-    old: &[Seen],
-) -> Result<Vec<Seen>, AllocError>
-    requires old { IsByPart (λ s. s.part) old.now }
-    ensures { IfOk result (λ posted. IsSpliced (λ s. s.part) (is_marked marks.now) old.now
-        (posted_of narrow.now) posted.items) }
-{
-    let new = posted(alloc, narrow)?;
-    let parts = marks.parts(alloc)?;
-    splice(alloc, old, parts.as_slice(), new.as_slice())
-}
-
 impl Known {
     /// The accepted candidates.
     pub fn accepted(&self) -> &[Candidate]
@@ -147,7 +109,7 @@ impl Known {
         }
         Ok(Some(Known {
             accepted: accepted(alloc, models, hops, view)?,
-            posted: posted(alloc, view)?,
+            posted: posted_rows(alloc, view)?,
             models: spec.models.clone()?,
             instances,
             view: copied(view)?,
@@ -165,13 +127,6 @@ impl Known {
             && self.view.live.same(&view.live)
             && same_ideals(&self.view.ideals, &view.ideals)
             && self.models.same(&spec.models)
-    }
-
-    /// Whether a view shows the same sessions and rows, so that the same is to be posted.
-    pub fn shows(&self, view: &View) -> bool
-        ensures { IsTrue result → posted_of self.now.view ≡ posted_of view.now }
-    {
-        self.view.live.same(&view.live) && self.view.rows.same(&view.rows)
     }
 
     /// Marks the parts of which a view shows other rows or messages. It says no where there is no
@@ -208,14 +163,16 @@ impl Known {
         if !is_well_formed_beside(alloc, models.as_slice(), instances, &narrow)? {
             return Ok(None);
         }
-        let old = accepted.as_slice();
-        let accepted = accepted_again(alloc, models.as_slice(), hops, &narrow, marks, old)?;
-        let posted = posted_again(alloc, &narrow, marks, posted.as_slice())?;
+        let parts = marks.parts(alloc)?;
+        let new = accepted_among(alloc, models.as_slice(), hops, &narrow, marks)?;
+        let accepted = splice(alloc, accepted.as_slice(), parts.as_slice(), new.as_slice())?;
+        let new = posted_rows(alloc, &narrow)?;
+        let posted = splice(alloc, posted.as_slice(), parts.as_slice(), new.as_slice())?;
         Ok(Some(Known {
             models,
             instances,
             view: widened(alloc, narrow, view)?,
-            accepted,
+            accepted: Seq::from_vec(accepted),
             posted,
         }))
     }

@@ -1,5 +1,5 @@
 //! A planner of views one after another.
-ghost use Rattle.std.specs.Prelude.{◌≡◌, true, false, length, IfOk, MatchOption};
+ghost use Rattle.std.specs.Prelude.{◌≡◌, true, false, [], None, Some, length, IfOk, MatchOption};
 ghost use Rattle.hx_cluster.specs.Views.{is_well_formed};
 ghost use Rattle.hx_pass.specs.Drafts.{draft as draft_of};
 ghost use Rattle.hx_pass.specs.Turns.{posted_of};
@@ -9,19 +9,31 @@ use crate::known::Known;
 use hx_cluster::{Seen, Spec, View};
 use hx_hops::Hops;
 use hx_marks::Marks;
-use hx_pass::{Draft, draft_of_accepted, posted};
+use hx_pass::{Draft, draft_of_accepted};
 use std::alloc::{AllocError, Global};
+use std::marker::Model;
 
-/// What was found of the view that was planned last, if there was one. No plan depends on it, but
-/// what it costs.
+/// What was found of the view that was planned last. Contracts see that view, if there is one: the
+/// plan of another one depends on it only in what it costs.
 #[derive(Drop)]
 pub struct Planner {
     known: Option<Known>,
 }
 
+impl Model for Planner {
+    ghost use Rattle.std.specs.Prelude.{Option, option_map};
+    ghost use Rattle.hx_cluster.specs.declared.planning.View.{View};
+
+    ghost Value = { Option View };
+
+    ghost view = { λ a. option_map (λ k. k.view) a.known };
+}
+
 impl Planner {
     /// Nothing was planned. It takes no memory.
-    pub fn new() -> Planner {
+    pub fn new() -> Planner
+        ensures { result ≡ None }
+    {
         Planner { known: None }
     }
 
@@ -35,7 +47,8 @@ impl Planner {
         view: &View,
     ) -> Result<Option<Known>, AllocError>
         requires { hops.now ≡ spec.now.models }
-        ensures { IfOk result (λ known. IsKnownOf spec.now view.now known) }
+        ensures known { IfOk result (λ known. IsKnownOf spec.now view.now known) }
+        ensures forgotten { self.new ≡ None }
     {
         let Some(known) = self.known.take() else {
             return Known::of(alloc, spec, hops, view);
@@ -62,10 +75,12 @@ impl Planner {
         view: &View,
     ) -> Result<Option<Draft>, AllocError>
         requires { hops.now ≡ spec.now.models }
-        ensures { IfOk result (λ draft.
+        ensures made { IfOk result (λ draft.
             let formed = is_well_formed spec.now.models (length spec.now.instances) view.now in
             MatchOption draft (formed ≡ false) (λ d.
             (formed ≡ true) × (d ≡ draft_of spec.now.models spec.now.rules view.now))) }
+        ensures planned { IfOk result (λ draft.
+            MatchOption draft (self.new ≡ None) (λ _. self.new ≡ Some view.now)) }
     {
         let Some(known) = self.know(alloc, spec, hops, view)? else {
             return Ok(None);
@@ -75,14 +90,13 @@ impl Planner {
         Ok(Some(draft))
     }
 
-    /// The rows to post of a view. They are copied where it shows the sessions and rows of the one
-    /// that was planned last.
-    pub fn posted(&self, alloc: Global, view: &View) -> Result<Vec<Seen>, AllocError>
-        ensures { IfOk result (λ rows. rows.items ≡ posted_of view.now) }
+    /// The rows to post of the view that was planned last, and none if there is no such view.
+    pub fn posted(&self) -> &[Seen]
+        ensures { MatchOption self.now (result.now ≡ []) (λ view. result.now ≡ posted_of view) }
     {
         match &self.known {
-            Some(known) if known.shows(view) => Vec::from_slice(alloc, known.posted()),
-            _ => posted(alloc, view),
+            Some(known) => known.posted(),
+            None => &[],
         }
     }
 }

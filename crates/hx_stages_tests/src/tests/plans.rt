@@ -20,6 +20,7 @@ use hx_ids::{InstanceId, MsgId, SessionId, StateId};
 use hx_lists::Seq;
 use hx_model::{DROPPED, ERROR};
 use hx_pass::{draft, plan};
+use hx_planner::Planner;
 use hx_report::report;
 use hx_select::{accepted_on, select};
 use hx_throttle::throttle;
@@ -486,6 +487,25 @@ fn drafted(rt: &impl Abort, alloc: Global, spec: &Spec, view: &View) -> Plan {
     Plan { proposals, report }
 }
 
+/// What a planner of one view after another proposes of a view. It posts each row.
+fn planned_again(
+    rt: &impl Abort,
+    alloc: Global,
+    spec: &Spec,
+    view: &View,
+    planner: &mut Planner,
+) -> Seq<Proposal> {
+    let hops = hops(rt, alloc, spec.models.as_slice());
+    let Ok(Some(draft)) = planner.draft(alloc, spec, hops.as_slice(), view) else {
+        panic!(rt; "no plan");
+    };
+    let Ok(proposals) = draft.proposals(alloc) else {
+        panic!(rt; "no memory");
+    };
+    assert_eq!(rt; planner.posted().len(), view.rows.len());
+    proposals
+}
+
 fn expect_move(rt: &impl Abort, proposal: &Proposal, wanted: &Move) {
     assert_eq!(rt; proposal.session, wanted.0);
     assert_eq!(rt; proposal.part.index, wanted.1);
@@ -541,12 +561,15 @@ fn expect_plan(rt: &impl Abort, plan: &Plan, worked: &Worked) {
 }
 
 fn expect(rt: &impl Abort, alloc: Global, table: &[Worked]) {
+    let mut planner = Planner::new();
     for worked in table {
         let spec = described(rt, alloc, worked.shown.text);
         let view = view(rt, alloc, &spec, &worked.shown);
         expect_stages(rt, alloc, &spec, &view, worked);
         expect_plan(rt, &planned(rt, alloc, &spec, &view), worked);
         expect_plan(rt, &drafted(rt, alloc, &spec, &view), worked);
+        let again = planned_again(rt, alloc, &spec, &view, &mut planner);
+        expect_moves(rt, again.as_slice(), worked.moves);
     }
 }
 

@@ -1,4 +1,4 @@
-use Rattle.std.proofs.Common.{rules, ◌≡◌, ◌≤◌, length, arith}
+use Rattle.std.proofs.Common.{rules, ◌≤◌, length, arith}
 use Rattle.hx_marks.proofs.InPlace.{step, finish, done}
 use Rattle.hx_marks.proofs.splicing.splice.Goals as goal
 

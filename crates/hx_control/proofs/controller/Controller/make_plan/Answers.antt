@@ -14,7 +14,11 @@ found : (c : In-Some) → (is_well_formed c.args.spec.now.models (length c.args.
 found c =
     subst (λ (o : Option Draft). MatchOption o (is_well_formed c.args.spec.now.models (length c.args.spec.now.instances) c.self.inside.view ≡ false)
     (λ d. (is_well_formed c.args.spec.now.models (length c.args.spec.now.instances) c.self.inside.view ≡ true) × (d ≡ draft c.args.spec.now.models c.args.spec.now.rules c.self.inside.view)))
-    c.in-Some.is c.in_ok-draft.ensures
+    c.in-Some.is c.in_ok-draft.ensures.made
+
+-- and was planned last
+last : (c : In-Some) → c.draft.new.self ≡ Some c.self.inside.view
+last c = subst (λ (o : Option Draft). MatchOption o (c.draft.new.self ≡ None) (λ _. c.draft.new.self ≡ Some c.self.inside.view)) c.in-Some.is c.in_ok-draft.ensures.planned
 
 pub keep-requires : goal.keep-requires
 keep-requires c = rw (c.as_slice.ensures, c.len-instances.ensures.len) (found (goal.at.keep-requires c).In-Some).0
@@ -24,7 +28,7 @@ returns-in_default c =
     let bad : is_well_formed c.args.spec.now.models (length c.args.spec.now.instances) c.self.inside.view ≡ false =
     subst (λ (o : Option Draft). MatchOption o (is_well_formed c.args.spec.now.models (length c.args.spec.now.instances) c.self.inside.view ≡ false)
     (λ d. (is_well_formed c.args.spec.now.models (length c.args.spec.now.instances) c.self.inside.view ≡ true) × (d ≡ draft c.args.spec.now.models c.args.spec.now.rules c.self.inside.view)))
-    c.in_default.is c.in_ok-draft.ensures in
+    c.in_default.is c.in_ok-draft.ensures.made in
     let of : is_of_cluster c.args.spec.now c.args.board.now.cluster c.self.inside.view ≡ false =
     view_unformed c.args.spec.now c.args.board.now c.self.inside.view c.history.ensures.history c.requires.board bad in
     plan_refused c.args.spec.now c.args.board.now c.self.inside c.args.self.now c.self.view_is c.requires.next of
@@ -38,6 +42,8 @@ invariant_of-self-2 c =
       formed = c.in_ok-keep.ensures.found;
       modelled = drafted_modelled c.args.spec.now c.self.inside.view c.in-Some.draft (found at).1
           (well_formed-modelled c.args.spec.now.models (length c.args.spec.now.instances) c.self.inside.view (found at).0);
+      drafted = last at;
+      posts = λ is. last at;
     }
 
 pub returns : goal.returns

@@ -16,6 +16,8 @@ invariant_of-self c =
       few = omega (arith, shown, few_live c.args.board.now c.history.ensures.history);
       formed = forgotten c.forget.new.self _ c.forget.ensures;
       modelled = tt;
+      drafted = tt;
+      posts = λ is. absurd (c.mail_at-self-inside.ensures.reads is);
     }
 
 pub returns : goal.returns

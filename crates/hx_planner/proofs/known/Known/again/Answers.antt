@@ -1,4 +1,6 @@
-use Rattle.std.proofs.Common.{rules, ◌≡◌, ◌∙◌, ℕ, not, Bool, true, false, List, sym, ap, subst, arith, refl}
+use Rattle.std.proofs.Common.{rules, ◌≡◌, ◌∙◌, true, false, List, sym, ap, subst, arith, refl}
+use Rattle.std.specs.List.{list_any}
+use Rattle.hx_cluster.specs.Ends.{part_eq}
 use Rattle.hx_model.specs.declared.ModelParts.{ModelParts}
 use Rattle.hx_cluster.specs.declared.planning.View.{View}
 use Rattle.hx_cluster.specs.declared.planning.Candidate.{Candidate}
@@ -6,14 +8,14 @@ use Rattle.hx_cluster.specs.declared.happenings.Seen.{Seen}
 use Rattle.hx_cluster.specs.Views.{is_well_formed}
 use Rattle.hx_parts.specs.Parts.{IsByPart}
 use Rattle.hx_marks.specs.Marks.{is_marked, IsSpliced}
-use Rattle.hx_local.specs.Local.{DifferWithin, accepted_in, accepted_within}
+use Rattle.hx_local.specs.Local.{DifferWithin, marked_targets, accepted_in, accepted_within}
 use Rattle.hx_local.proofs.Accepted.{accepted_by_part}
 use Rattle.hx_local.proofs.Posted.{posted_by_part}
 use Rattle.hx_pass.specs.Turns.{posted_of}
 use Rattle.hx_best.specs.Targets.{all_targets}
 use Rattle.hx_gen.proofs.Modelled.{well_formed-modelled}
 use Rattle.hx_planner.specs.Known.{Knowing, IsKnown}
-use Rattle.hx_planner.proofs.Again.{formed_by, known_by}
+use Rattle.hx_planner.proofs.Again.{spliced_as, formed_by, known_by}
 use Rattle.hx_planner.proofs.known.Known.again.Goals as goal
 use Rattle.hx_planner.proofs.known.Known.again.Goals.{In_ok-is_well_formed_beside}
 
@@ -38,41 +40,56 @@ returns-then-not-branch c =
     (formed_by (last at) c.self.inside.accepted c.self.inside.posted.items c.self.invariant (is_marked c.args.marks.now) c.args.view.now (differ at)
     c.as_slice.result.now c.self.inside.instances c.in_ok-narrow.narrow (same_models at) refl c.in_ok-narrow.ensures false bad)
 
-pub accepted_again-requires-clause-models : goal.accepted_again-requires-clause-models
+pub accepted_among-requires-clause-models : goal.accepted_among-requires-clause-models
 unfolding last
-accepted_again-requires-clause-models c =
-    let at = (goal.at.accepted_again-requires-clause-models c).In_ok-is_well_formed_beside in
+accepted_among-requires-clause-models c =
+    let at = (goal.at.accepted_among-requires-clause-models c).In_ok-is_well_formed_beside in
     let also : c.as_slice-2.result.now ≡ c.self.inside.models = search rules in
     let good : is_well_formed c.as_slice.result.now c.self.inside.instances c.in_ok-narrow.narrow ≡ true = grind (arith, c.in_ok-is_well_formed_beside.ensures, c.if-not-branch.false) in
     well_formed-modelled c.as_slice-2.result.now c.self.inside.instances c.in_ok-narrow.narrow
     (ap (λ (ms : List ModelParts). is_well_formed ms c.self.inside.instances c.in_ok-narrow.narrow) (also ∙ sym (same_models at)) ∙ good)
 
-pub accepted_again-requires-clause-old : goal.accepted_again-requires-clause-old
-accepted_again-requires-clause-old c =
-    let old : c.as_slice-old.result.now ≡ accepted_in c.self.inside.models c.self.inside.view = search rules in
+pub splice-requires-clause-old : goal.splice-requires-clause-old
+splice-requires-clause-old c =
+    let old : c.as_slice-3.result.now ≡ accepted_in c.self.inside.models c.self.inside.view = search rules in
     subst (λ (cs : List Candidate). IsByPart (λ c. c.part) cs) (sym old) (accepted_by_part c.self.inside.models c.self.inside.view (all_targets c.self.inside.models c.self.inside.view))
 
-pub posted_again-requires : goal.posted_again-requires
-posted_again-requires c = record {
-  old = subst (λ (rows : List Seen). IsByPart (λ s. s.part) rows) (sym (c.as_slice-3.ensures.value ∙ c.self.invariant.posted_are)) (posted_by_part c.self.inside.view);
-}
+pub splice-requires-clause-new : goal.splice-requires-clause-new
+splice-requires-clause-new c =
+    let models = c.as_slice-2.result.now in
+    subst (λ (cs : List Candidate). IsByPart (λ c. c.part) cs) (sym (c.as_slice-5.ensures ∙ c.in_ok-new.ensures))
+    (accepted_by_part models c.in_ok-narrow.narrow (marked_targets models (is_marked c.args.marks.now) c.in_ok-narrow.narrow))
+
+pub splice-requires-2-clause-old : goal.splice-requires-2-clause-old
+splice-requires-2-clause-old c =
+    subst (λ (rows : List Seen). IsByPart (λ s. s.part) rows) (sym (c.as_slice-6.ensures.value ∙ c.self.invariant.posted_are)) (posted_by_part c.self.inside.view)
+
+pub splice-requires-2-clause-new : goal.splice-requires-2-clause-new
+splice-requires-2-clause-new c =
+    subst (λ (rows : List Seen). IsByPart (λ s. s.part) rows) (sym (c.as_slice-8.ensures.value ∙ c.in_ok-new-2.ensures)) (posted_by_part c.in_ok-narrow.narrow)
 
 pub invariant_of-result : goal.invariant_of-result
 unfolding last
 invariant_of-result c =
     let at = (goal.at.invariant_of-result c).In_ok-is_well_formed_beside in
     let ms = c.as_slice.result.now in
+    let marked = is_marked c.args.marks.now in
+    let narrow = c.in_ok-narrow.narrow in
     let also : c.as_slice-2.result.now ≡ ms = search rules in
-    let old : c.as_slice-old.result.now ≡ c.self.inside.accepted = search rules in
-    let good : is_well_formed ms c.self.inside.instances c.in_ok-narrow.narrow ≡ true = grind (arith, c.in_ok-is_well_formed_beside.ensures, c.if-not-branch.false) in
-    let accepts : IsSpliced (λ c. c.part) (is_marked c.args.marks.now) c.self.inside.accepted (accepted_within ms (is_marked c.args.marks.now) c.in_ok-narrow.narrow) c.in_ok-accepted.accepted =
-    subst (λ (xs : List Candidate). IsSpliced (λ c. c.part) (is_marked c.args.marks.now) xs (accepted_within ms (is_marked c.args.marks.now) c.in_ok-narrow.narrow) c.in_ok-accepted.accepted) old
-    (subst (λ (m : List ModelParts). IsSpliced (λ c. c.part) (is_marked c.args.marks.now) c.as_slice-old.result.now (accepted_within m (is_marked c.args.marks.now) c.in_ok-narrow.narrow) c.in_ok-accepted.accepted) also c.in_ok-accepted.ensures) in
-    let posts : IsSpliced (λ s. s.part) (is_marked c.args.marks.now) c.self.inside.posted.items (posted_of c.in_ok-narrow.narrow) c.in_ok-posted.posted.items =
-    subst (λ (xs : List Seen). IsSpliced (λ s. s.part) (is_marked c.args.marks.now) xs (posted_of c.in_ok-narrow.narrow) c.in_ok-posted.posted.items) c.as_slice-3.ensures.value c.in_ok-posted.ensures in
-    let known = known_by (last at) c.self.inside.accepted c.self.inside.posted.items c.self.invariant (is_marked c.args.marks.now) c.args.view.now (differ at)
-    ms c.self.inside.instances c.in_ok-narrow.narrow (same_models at) refl c.in_ok-narrow.ensures good c.in_ok-accepted.accepted c.in_ok-posted.posted.items c.in_ok-widened.field-0 c.in_ok-widened.ensures accepts posts in
-    subst (λ (m : List ModelParts). IsKnown m c.self.inside.instances c.in_ok-widened.field-0 c.in_ok-accepted.accepted c.in_ok-posted.posted.items) (same_models at ∙ sym c.models.view_is) known
+    let old : c.as_slice-3.result.now ≡ c.self.inside.accepted = search rules in
+    let good : is_well_formed ms c.self.inside.instances narrow ≡ true = grind (arith, c.in_ok-is_well_formed_beside.ensures, c.if-not-branch.false) in
+    let new : c.as_slice-5.result.now ≡ accepted_within ms marked narrow =
+    c.as_slice-5.ensures ∙ c.in_ok-new.ensures ∙ ap (λ (m : List ModelParts). accepted_within m marked narrow) also in
+    let accepts : IsSpliced (λ c. c.part) marked c.self.inside.accepted (accepted_within ms marked narrow) c.in_ok-accepted.accepted.items =
+    spliced_as (λ c. c.part) c.as_slice-4.result.now marked (λ p. ap (list_any (part_eq p)) c.as_slice-4.ensures.value ∙ c.in_ok-parts.ensures.same p) c.as_slice-3.result.now c.self.inside.accepted
+    c.as_slice-5.result.now (accepted_within ms marked narrow) c.in_ok-accepted.accepted.items old new c.in_ok-accepted.ensures in
+    let posts : IsSpliced (λ s. s.part) marked c.self.inside.posted.items (posted_of narrow) c.in_ok-posted.posted.items =
+    spliced_as (λ s. s.part) c.as_slice-7.result.now marked (λ p. ap (list_any (part_eq p)) c.as_slice-7.ensures.value ∙ c.in_ok-parts.ensures.same p) c.as_slice-6.result.now c.self.inside.posted.items
+    c.as_slice-8.result.now (posted_of narrow) c.in_ok-posted.posted.items c.as_slice-6.ensures.value (c.as_slice-8.ensures.value ∙ c.in_ok-new-2.ensures) c.in_ok-posted.ensures in
+    let known = known_by (last at) c.self.inside.accepted c.self.inside.posted.items c.self.invariant marked c.args.view.now (differ at)
+    ms c.self.inside.instances narrow (same_models at) refl c.in_ok-narrow.ensures good c.in_ok-accepted.accepted.items c.in_ok-posted.posted.items c.in_ok-widened.field-0 c.in_ok-widened.ensures accepts posts in
+    subst (λ (m : List ModelParts). IsKnown m c.self.inside.instances c.in_ok-widened.field-0 c.from_vec.result c.in_ok-posted.posted.items) (same_models at ∙ sym c.models.view_is)
+    (subst (λ (cs : List Candidate). IsKnown ms c.self.inside.instances c.in_ok-widened.field-0 cs c.in_ok-posted.posted.items) (sym c.from_vec.ensures) known)
 
 pub returns : goal.returns
 unfolding last
