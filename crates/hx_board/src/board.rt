@@ -2,7 +2,8 @@
 ghost use Rattle.std.specs.Prelude.{◌≡◌, ◌+◌, ◌≤◌, [], ◌∷◌, ◌++◌, OnOk};
 ghost use Rattle.hx_board.specs.Refusals.{full};
 
-use hx_cluster::{Event, History, Spec};
+use hx_cluster::{Event, Spec};
+use hx_history::History;
 use hx_records::Records;
 use std::alloc::AllocError;
 use std::marker::Model;

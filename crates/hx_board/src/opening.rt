@@ -5,9 +5,9 @@ ghost use Rattle.hx_safe.specs.Ordered.{rises};
 ghost use Rattle.hx_board.specs.Board.{most, new_board};
 
 use crate::board::Board;
-use hx_cluster::{History, Spec};
+use hx_cluster::Spec;
+use hx_history::{Entries, History};
 use hx_ids::Names;
-use hx_lists::Log;
 use hx_records::Records;
 use std::alloc::{AllocError, Global};
 
@@ -52,7 +52,7 @@ impl Board {
             spec: spec_of(alloc, spec)?,
             records: Records::at_opening(alloc, spec)?,
             history: History {
-                entries: Log::new(alloc),
+                entries: Entries::new(alloc),
             },
             lines,
             taken: 0,

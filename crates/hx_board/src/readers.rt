@@ -8,7 +8,8 @@ ghost use Rattle.hx_cluster.specs.Runs.{IsOneRunEach};
 ghost use Rattle.hx_board.specs.Board.{weight_at, HasHistory};
 
 use crate::board::Board;
-use hx_cluster::{Admin, History, Message, Resource, Seen, StepFault};
+use hx_cluster::{Admin, Message, Resource, Seen, StepFault};
+use hx_history::History;
 use hx_ids::{ControllerId, InstanceId, PartId, ResourceId, SessionId, StateId};
 use std::alloc::AllocError;
 

@@ -30,14 +30,18 @@ pub fn nothing_shown(alloc: Global) -> View
     }
 }
 
-/// Forgets what a turn was shown. The ideals that it read, if it did, become the spare ones, over
-/// which another turn may read. It takes no memory.
+/// Forgets what a turn was shown, and keeps the room of its messages and rows for the next. The
+/// ideals that it read, if it did, become the spare ones, over which another turn may read. It takes
+/// no memory.
 pub fn forget_shown(view: &mut View, spare: &mut Ideals)
     ensures { view.new ≡ nothing_shown }
 {
     let alloc = view.live.allocator();
-    let shown = mem::replace(view, nothing_shown(alloc));
-    if !shown.ideals.drained.is_empty() {
-        *spare = shown.ideals;
+    view.live = Seq::new(alloc);
+    view.mail.truncate(0);
+    view.rows.truncate(0);
+    let ideals = mem::replace(&mut view.ideals, no_ideals(alloc));
+    if !ideals.drained.is_empty() {
+        *spare = ideals;
     }
 }

@@ -111,7 +111,7 @@ impl Records {
         requires { IsReached self.now }
         ensures { IfOk result (λ shown. shown.items ≡ live_shown self.now) }
     {
-        let mut shown = Vec::new(self.seats.allocator());
+        let mut shown = Vec::with_capacity(self.seats.allocator(), self.seats.len())?;
         for (place, seat) in self.seats.as_slice().iter().enumerate() {
             show(&mut shown, InstanceId(place as u32), *seat)?;
         }

@@ -40,7 +40,7 @@ pub fn report_on(
 ) -> Result<Report, AllocError>
     ensures { IfOk result (λ all. all ≡ report targets.now index.now fates.now.0 fates.now.1) }
 {
-    let mut entries = Seq::new(alloc);
+    let mut entries = Vec::with_capacity(alloc, targets.len())?;
     for target in targets {
         let finding = finding_of(index, fates, target)?;
         entries.push(Entry {
@@ -48,7 +48,9 @@ pub fn report_on(
             finding,
         })?;
     }
-    Ok(Report { entries })
+    Ok(Report {
+        entries: Seq::from_vec(entries),
+    })
 }
 
 /// The first finding that fits a target.

@@ -4,8 +4,6 @@ use Rattle.std.specs.Prelude.{if◌then◌else◌}
 use Rattle.std.specs.List.{list_any}
 use Rattle.std.specs.Map.{lookup}
 use Rattle.std.specs.Prelude.{Result, Ok, Err, OnOk, OnErr, is_err}
-use Rattle.std.specs.Ordering.{nat_cmp, is_eq}
-use Rattle.std.specs.BTreeMap as tree
 use Rattle.std.proofs.lemmas.Bool.{eqb-true}
 use Rattle.std.proofs.lemmas.Bool.Decides.{nat_tests}
 use Rattle.hx_lists.specs.Lists.{count}
@@ -37,9 +35,9 @@ pub where_err : {T E : Type 0} (r : Result T E) (P : Type 0) → is_err r ≡ tr
 where_err (Ok x) P e h = absurd (cc)
 where_err (Err x) P e h = h
 
--- a map with the same entries
-pub same_gets : (nodes nodes' : tree.BTreeMap ℕ Node) → nodes'.entries ≡ nodes.entries → (q : ℕ) → tree.get nat_cmp nodes' q ≡ tree.get nat_cmp nodes q
-same_gets nodes nodes' is q = ap (λ es. lookup (tree.is_at (nat_cmp q)) es) is
+-- the entries are the same
+pub same_gets : (nodes nodes' : List (ℕ × Node)) → nodes' ≡ nodes → (q : ℕ) → lookup (λ k. q == k) nodes' ≡ lookup (λ k. q == k) nodes
+same_gets nodes nodes' is q = ap (lookup (λ k. q == k)) is
 
 -- a pool of one list
 only_entries : (order : Option ListId) (lists : Lists) (n : Node) → IsOnlyList order lists → is_in n (entries_of lists) ≡ true → lists ≡ entries_of lists ∷ []
@@ -53,9 +51,6 @@ only_kept (Some l) lists lists' es es' one is is' = (one.0, is' ∙ ap (λ (ls :
 the_value : (v : Option Live) → is_some v ≡ true → (l : Live) × (v ≡ Some l)
 the_value None e = absurd (cc)
 the_value (Some l) e = (l, refl)
-
-eq_test : (a b : ℕ) → is_eq (nat_cmp a b) ≡ (a == b)
-eq_test a b = grind (arith, nat_tests)
 
 any-push : {X : Type 0} (p : X → Bool) (xs : List X) (x : X) → p x ≡ true → list_any p (xs ++ x ∷ []) ≡ true
 any-push p [] x e = rw e refl
@@ -72,8 +67,8 @@ none_left n [] = refl
 none_left n (x ∷ es) = grind (arith, none_left n es)
 
 -- what holds of the fields, from what holds of the entries
-placed_by : (order : Option ListId) (lists : Lists) (es : Entries) (nodes : tree.BTreeMap ℕ Node) (next : ℕ) → IsOnlyList order lists → entries_of lists ≡ es
-    → NodesOnce es → ((q : ℕ) → tree.get nat_cmp nodes q ≡ node_of q es) → next < 2 ^ 64 → AreSessions (record { live = live_of es; next = next }) → ArePlaced order lists nodes next
+placed_by : (order : Option ListId) (lists : Lists) (es : Entries) (nodes : List (ℕ × Node)) (next : ℕ) → IsOnlyList order lists → entries_of lists ≡ es
+    → NodesOnce es → ((q : ℕ) → lookup (λ k. q == k) nodes ≡ node_of q es) → next < 2 ^ 64 → AreSessions (record { live = live_of es; next = next }) → ArePlaced order lists nodes next
 placed_by order lists es nodes next one is once placed fits are =
     record {
       one = one;
@@ -120,8 +115,8 @@ live_found : (s : SessionId) (l : Live) (live : List Live) → session_at live s
 live_found s l [] e = absurd (cc)
 live_found s l (k ∷ live) e = grind (arith, live_found s l live)
 
-module _ (order : Option ListId) (lists : Lists) (nodes : tree.BTreeMap ℕ Node) (next : ℕ) (kept : ArePlaced order lists nodes next) where
-  pub stands_in : (s : SessionId) (n : Node) → tree.get nat_cmp nodes s.0 ≡ Some n → (l : Live) × StandsIn lists s n l
+module _ (order : Option ListId) (lists : Lists) (nodes : List (ℕ × Node)) (next : ℕ) (kept : ArePlaced order lists nodes next) where
+  pub stands_in : (s : SessionId) (n : Node) → lookup (λ k. s.0 == k) nodes ≡ Some n → (l : Live) × StandsIn lists s n l
   stands_in s n e =
       let node : node_of s.0 (entries_of lists) ≡ Some n = sym (kept.placed s.0) ∙ e in
       let there : is_in n (entries_of lists) ≡ true = node_of-in s.0 n (entries_of lists) node in
@@ -144,7 +139,7 @@ module _ (order : Option ListId) (lists : Lists) (nodes : tree.BTreeMap ℕ Node
         },
       )
 
-  pub stands_nowhere : (s : SessionId) → tree.get nat_cmp nodes s.0 ≡ None → is_live (live_of (entries_of lists)) s ≡ false
+  pub stands_nowhere : (s : SessionId) → lookup (λ k. s.0 == k) nodes ≡ None → is_live (live_of (entries_of lists)) s ≡ false
   stands_nowhere s e = node_of-none s (entries_of lists) (sym (kept.placed s.0) ∙ e)
 
   -- a session ends
@@ -163,14 +158,14 @@ module _ (order : Option ListId) (lists : Lists) (nodes : tree.BTreeMap ℕ Node
     without_live : live_of (links.without n (entries_of lists)) ≡ without s (live_of (entries_of lists))
     without_live = live-without n l (entries_of lists) stands.marked ∙ ap (λ (t : SessionId). without t (live_of (entries_of lists))) stands.same
 
-    pub ended_kept : (lists' : Lists) (nodes' : tree.BTreeMap ℕ Node) → lists' ≡ map (links.without n) lists
-        → ((q : ℕ) → tree.get nat_cmp nodes' q ≡ (if is_eq (nat_cmp s.0 q) then None else tree.get nat_cmp nodes q)) → ArePlaced order lists' nodes' next
+    pub ended_kept : (lists' : Lists) (nodes' : List (ℕ × Node)) → lists' ≡ map (links.without n) lists
+        → ((q : ℕ) → lookup (λ k. q == k) nodes' ≡ (if s.0 == q then None else lookup (λ k. q == k) nodes)) → ArePlaced order lists' nodes' next
     ended_kept lists' nodes' is gets =
         placed_by order lists' (links.without n (entries_of lists)) nodes' next
         (only_kept order lists lists' (entries_of lists) (links.without n (entries_of lists)) kept.one stands.only (ended_lists lists' is))
         (ap entries_of (ended_lists lists' is))
         (once_without n (entries_of lists) kept.once)
-        (λ q. gets q ∙ ap (λ b. if b then None else tree.get nat_cmp nodes q) (eq_test s.0 q) ∙ ap (λ o. if s.0 == q then None else o) (kept.placed q) ∙ sym (ended_node q))
+        (λ q. gets q ∙ ap (λ o. if s.0 == q then None else o) (kept.placed q) ∙ sym (ended_node q))
         kept.fits
         (subst (λ (live : List Live). AreSessions (record { live = live; next = next })) (sym without_live) (sessions_filter (λ k. not (is_session s k)) (live_of (entries_of lists)) next kept.sessions))
 
@@ -239,15 +234,15 @@ module _ (order : Option ListId) (lists : Lists) (nodes : tree.BTreeMap ℕ Node
     off : is_in n (entries_of lists) ≡ false
     off = let none : holds (entries_of lists ∷ []) n ≡ false = subst (λ (ls : Lists). holds ls n ≡ false) only_one fresh in grind arith
 
-    pub opened_kept : (lists2 : Lists) (nodes' : tree.BTreeMap ℕ Node) → lists2 ≡ pushed lists1 list.0 (n, new_live next i now)
-        → ((q : ℕ) → tree.get nat_cmp nodes' q ≡ (if is_eq (nat_cmp next q) then Some n else tree.get nat_cmp nodes q))
+    pub opened_kept : (lists2 : Lists) (nodes' : List (ℕ × Node)) → lists2 ≡ pushed lists1 list.0 (n, new_live next i now)
+        → ((q : ℕ) → lookup (λ k. q == k) nodes' ≡ (if next == q then Some n else lookup (λ k. q == k) nodes))
         → no_later now (live_of (entries_of lists)) ≡ true → next + 1 < 2 ^ 64 → ArePlaced (Some list) lists2 nodes' (next + 1)
     opened_kept lists2 nodes' is gets late fits =
         placed_by (Some list) lists2 (entries_of lists ++ (n, new_live next i now) ∷ []) nodes' (next + 1)
         (only_kept (Some list) lists1 lists2 (entries_of lists) (entries_of lists ++ (n, new_live next i now) ∷ []) one only_one (opened_lists lists2 is))
         (ap entries_of (opened_lists lists2 is))
         (once_push n (new_live next i now) (entries_of lists) kept.once (count-zero (is_at n) (entries_of lists) off))
-        (λ q. gets q ∙ ap (λ b. if b then Some n else tree.get nat_cmp nodes q) (eq_test next q) ∙ ap (λ o. if next == q then Some n else o) (kept.placed q)
+        (λ q. gets q ∙ ap (λ o. if next == q then Some n else o) (kept.placed q)
         ∙ sym (node_of-push q n (new_live next i now) (entries_of lists) none))
         fits
         (subst (λ (live : List Live). AreSessions (record { live = live; next = next + 1 })) (sym longer) (sessions_open (record { live = live_of (entries_of lists); next = next }) i now kept.sessions late))
@@ -259,8 +254,8 @@ module _ (order : Option ListId) (lists : Lists) (nodes : tree.BTreeMap ℕ Node
         longer = map-append (λ (e : Node × Live). e.1) (entries_of lists) ((n, new_live next i now) ∷ [])
 
     -- the session is not opened after all
-    pub unopened_kept : (lists2 lists3 : Lists) (nodes' : tree.BTreeMap ℕ Node) → lists2 ≡ pushed lists1 list.0 (n, new_live next i now)
-        → lists3 ≡ map (links.without n) lists2 → ((q : ℕ) → tree.get nat_cmp nodes' q ≡ tree.get nat_cmp nodes q) → (ArePlaced (Some list) lists3 nodes' next) × (entries_of lists3 ≡ entries_of lists)
+    pub unopened_kept : (lists2 lists3 : Lists) (nodes' : List (ℕ × Node)) → lists2 ≡ pushed lists1 list.0 (n, new_live next i now)
+        → lists3 ≡ map (links.without n) lists2 → ((q : ℕ) → lookup (λ k. q == k) nodes' ≡ lookup (λ k. q == k) nodes) → (ArePlaced (Some list) lists3 nodes' next) × (entries_of lists3 ≡ entries_of lists)
     unopened_kept lists2 lists3 nodes' is gone gets = (
       placed_by (Some list) lists3 (entries_of lists) nodes' next
           (only_kept (Some list) lists1 lists3 (entries_of lists) (entries_of lists) one only_one back)

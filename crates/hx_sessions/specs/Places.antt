@@ -1,7 +1,6 @@
 -- Where the sessions stand. No public clause cites this module.
 use Rattle.std.specs.Prelude.{◌≡◌, ℕ, ◌^◌, ◌≤◌, ◌<◌, ◌==◌, List, [], ◌∷◌, ◌++◌, map, drop, Option, Some, None, slice_index_or, if◌then◌else◌}
-use Rattle.std.specs.Ordering.{nat_cmp}
-use Rattle.std.specs.BTreeMap as tree
+use Rattle.std.specs.Map.{lookup}
 use Rattle.hx_lists.specs.Lists.{count}
 use Rattle.hx_ids.specs.declared.SessionId.{SessionId}
 use Rattle.hx_ids.specs.declared.Live.{Live}
@@ -30,10 +29,10 @@ IsOnlyList None lists = lists ≡ []
 IsOnlyList (Some l) lists = (l.0 ≡ 0) × (lists ≡ entries_of lists ∷ [])
 
 -- what holds of the fields: the pool has the sessions in one list, and the map names the node of each
-pub record ArePlaced (order : Option ListId) (lists : List (List (Node × Live))) (nodes : tree.BTreeMap ℕ Node) (next : ℕ) : Type 0 where
+pub record ArePlaced (order : Option ListId) (lists : List (List (Node × Live))) (nodes : List (ℕ × Node)) (next : ℕ) : Type 0 where
   pub one : IsOnlyList order lists
   pub once : (n : Node) → count (is_at n) (entries_of lists) ≤ 1
-  pub placed : (s : ℕ) → tree.get nat_cmp nodes s ≡ node_of s (entries_of lists)
+  pub placed : (s : ℕ) → lookup (λ k. s == k) nodes ≡ node_of s (entries_of lists)
   pub fits : next < 2 ^ 64
   pub sessions : AreSessions (record { live = live_of (entries_of lists); next = next })
 

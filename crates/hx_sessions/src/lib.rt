@@ -14,7 +14,7 @@ ghost use Rattle.hx_sessions.specs.Sessions.{remaining};
 use hx_ids::{InstanceId, Live, SessionId};
 use hx_links::{ListId, Node, Pool};
 use std::alloc::{AllocError, Global};
-use std::collections::BTreeMap;
+use std::collections::HashMap;
 use std::marker::Model;
 
 /// The session is not live.
@@ -30,7 +30,7 @@ pub struct Sessions {
     // The pool's one list, from the first session on.
     order: Option<ListId>,
     // The node of each session, by number.
-    nodes: BTreeMap<u64, Node>,
+    nodes: HashMap<u64, Node>,
     next: u64,
 }
 
@@ -43,7 +43,7 @@ impl Model for Sessions {
 
     ghost view = { λ s. record { live = live_of (entries_of s.pool.lists); next = s.next } };
 
-    ghost invariant = { λ s. ArePlaced s.order s.pool.lists s.nodes s.next };
+    ghost invariant = { λ s. ArePlaced s.order s.pool.lists s.nodes.entries s.next };
 }
 
 // The pool's one list, which is made at first need.
@@ -71,7 +71,7 @@ impl Sessions {
             alloc,
             pool: Pool::new(alloc),
             order: None,
-            nodes: BTreeMap::new(alloc),
+            nodes: HashMap::new(alloc),
             next: 1,
         }
     }

@@ -19,7 +19,7 @@ unlink-requires c =
 pub invariant_of-self-2 : goal.invariant_of-self-2
 invariant_of-self-2 c =
     let stands = stands_in _ _ _ _ c.self.invariant c.args.session c.in-Some.node (sym c.remove.ensures.value ∙ c.in-Some.is) in
-    ended_kept _ _ _ _ c.self.invariant c.args.session c.in-Some.node stands.0 stands.1 c.unlink.new.self.lists c.remove.new.self c.unlink.ensures.lists c.remove.ensures.updates.0
+    ended_kept _ _ _ _ c.self.invariant c.args.session c.in-Some.node stands.0 stands.1 c.unlink.new.self.lists c.remove.new.self.entries c.unlink.ensures.lists c.remove.ensures.updates.0
 
 pub returns-clause-refused : goal.returns-clause-refused
 returns-clause-refused c =

@@ -10,7 +10,7 @@ invariant_of-self-then-is_err c =
     let unchanged = where_err c.insert.result _ (sym c.is_err.ensures.value ∙ c.if-is_err.true) c.insert.ensures.err in
     rw c.in_ok-order.ensures.list
     ((unopened_kept _ _ _ _ c.self.invariant c.in_ok-order.order c.reserve.new.self.lists c.push_reserved-node.result c.args.instance c.args.now one entries c.push_reserved-node.ensures.fresh
-    c.push_reserved-node.new.self.lists c.unlink.new.self.lists c.insert.new.self c.push_reserved-node.ensures.lists c.unlink.ensures.lists (same_gets c.self.inside.nodes c.insert.new.self unchanged)).0)
+    c.push_reserved-node.new.self.lists c.unlink.new.self.lists c.insert.new.self.entries c.push_reserved-node.ensures.lists c.unlink.ensures.lists (same_gets c.self.inside.nodes.entries c.insert.new.self.entries unchanged)).0)
 
 pub returns-then-is_err-clause-err : goal.returns-then-is_err-clause-err
 returns-then-is_err-clause-err c =
@@ -18,7 +18,7 @@ returns-then-is_err-clause-err c =
     let entries = ap entries_of c.in_ok-reserve.ensures.lists ∙ c.in_ok-order.ensures.entries in
     let unchanged = where_err c.insert.result _ (sym c.is_err.ensures.value ∙ c.if-is_err.true) c.insert.ensures.err in
     let back = (unopened_kept _ _ _ _ c.self.invariant c.in_ok-order.order c.reserve.new.self.lists c.push_reserved-node.result c.args.instance c.args.now one entries c.push_reserved-node.ensures.fresh
-    c.push_reserved-node.new.self.lists c.unlink.new.self.lists c.insert.new.self c.push_reserved-node.ensures.lists c.unlink.ensures.lists (same_gets c.self.inside.nodes c.insert.new.self unchanged)).1 in
+    c.push_reserved-node.new.self.lists c.unlink.new.self.lists c.insert.new.self.entries c.push_reserved-node.ensures.lists c.unlink.ensures.lists (same_gets c.self.inside.nodes.entries c.insert.new.self.entries unchanged)).1 in
     rw (← c.self.view_is, back) refl
 
 pub invariant_of-self-2 : goal.invariant_of-self-2
@@ -29,4 +29,4 @@ invariant_of-self-2 c =
     let room : c.self.inside.next ≤ 2 ^ 63 = rw (← c.self.view_is) at c.requires.opened in
     rw c.in_ok-order.ensures.list
     (opened_kept _ _ _ _ c.self.invariant c.in_ok-order.order c.reserve.new.self.lists c.push_reserved-node.result c.args.instance c.args.now one entries c.push_reserved-node.ensures.fresh
-    c.push_reserved-node.new.self.lists c.insert.new.self c.push_reserved-node.ensures.lists updates.0 (rw (← c.self.view_is) at c.requires.clock) (omega arith))
+    c.push_reserved-node.new.self.lists c.insert.new.self.entries c.push_reserved-node.ensures.lists updates.0 (rw (← c.self.view_is) at c.requires.clock) (omega arith))
