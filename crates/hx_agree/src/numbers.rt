@@ -7,6 +7,7 @@ ghost use Rattle.hx_worlds.specs.Summaries.{joined_in, sent_in};
 
 use hx_board::Board;
 use hx_cluster::{Admin, Dispatched, Event, Placed};
+use hx_history::Entries;
 
 fn is_sent(placed: &Placed) -> bool
     ensures { result ≡ is_sent placed.now }
@@ -46,25 +47,25 @@ fn joined_in(event: &Event) -> u64
 }
 
 /// How many messages a history's events sent.
-fn sent(events: &[Event]) -> u64
-    requires { sum_by sent_in events.now < 2 ^ 64 }
-    ensures { result ≡ sum_by sent_in events.now }
+fn sent(entries: &Entries) -> u64
+    requires { sum_by sent_in entries.now.items < 2 ^ 64 }
+    ensures { result ≡ sum_by sent_in entries.now.items }
 {
     let mut sum = 0;
-    for event in events {
-        sum += sent_in(event);
+    for told in entries {
+        sum += sent_in(told.event());
     }
     sum
 }
 
 /// How many sessions they opened.
-fn joined(events: &[Event]) -> u64
-    requires { sum_by joined_in events.now < 2 ^ 64 }
-    ensures { result ≡ sum_by joined_in events.now }
+fn joined(entries: &Entries) -> u64
+    requires { sum_by joined_in entries.now.items < 2 ^ 64 }
+    ensures { result ≡ sum_by joined_in entries.now.items }
 {
     let mut sum = 0;
-    for event in events {
-        sum += joined_in(event);
+    for told in entries {
+        sum += joined_in(told.event());
     }
     sum
 }
@@ -74,7 +75,7 @@ pub(crate) fn sent_on(board: &Board) -> u64
     ensures { board.now.cluster.next_msg ≡ 1 + result }
 {
     let _weight = board.weight();
-    sent(board.history().entries.as_slice())
+    sent(&board.history().entries)
 }
 
 /// The number of the last session on a board.
@@ -82,5 +83,5 @@ pub(crate) fn joined_on(board: &Board) -> u64
     ensures { board.now.cluster.next_session ≡ 1 + result }
 {
     let _weight = board.weight();
-    joined(board.history().entries.as_slice())
+    joined(&board.history().entries)
 }

@@ -67,7 +67,7 @@ fn simulated(alloc: Global, scenario: Scenario) -> Result<Reply, AllocError>
 fn summary_page(alloc: Global, board: &Board) -> Result<Page, AllocError>
     ensures { IfOk result (λ page. page ≡ summary_of board.now.history) }
 {
-    let summary = summary_of(board.history().entries.as_slice())?;
+    let summary = summary_of(&board.history().entries)?;
     let mut text = Page::new(alloc);
     print_counts(&summary, &mut text)?;
     Ok(text)

@@ -47,8 +47,8 @@ impl<F: Factory> Scene<F> {
         ensures { (h : List Happening) (e : Happening) → self.now.board.history ≡ h ++ e ∷ []
             → Prints (event_text self.now.spec roll.now e) out.old result out.new }
     {
-        match self.board.history().entries.as_slice().last() {
-            Some(event) => print_event(event, roll, &self.spec, out),
+        match self.board.history().entries.last() {
+            Some(told) => print_event(told.event(), roll, &self.spec, out),
             None => Ok(()),
         }
     }

@@ -15,3 +15,4 @@ pub mod Words
 pub mod Settling
 pub mod Enough
 pub mod Ended
+pub mod Counted

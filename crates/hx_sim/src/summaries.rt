@@ -1,19 +1,19 @@
 //! What happened, in numbers.
 
-ghost use Rattle.std.specs.Prelude.{◌≡◌, not, IfOk, IfSome};
-ghost use Rattle.std.specs.List.{sum_by};
+ghost use Rattle.std.specs.Prelude.{◌≡◌, [], ◌∷◌, IfOk, IfSome};
 ghost use Rattle.hx_lists.specs.Lists.{count};
 ghost use Rattle.hx_control.specs.Steps.{is_sent};
 ghost use Rattle.hx_worlds.specs.Scripts.{do_summary};
 ghost use Rattle.hx_worlds.specs.Summaries.{sent_in, joined_in, ended_in, is_write, summary_of};
 ghost use Rattle.hx_scene.specs.Telling.{text_of};
 ghost use Rattle.hx_scene.specs.Doing.{DoesDeed};
-ghost use Rattle.hx_sim.specs.Counting.{has_outcome};
+ghost use Rattle.hx_sim.specs.Counting.{has_outcome, IsCounted};
 
 use crate::World;
 use hx_board::RoomFault;
 use hx_cluster::{Admin, Did, Dispatched, Event, Outcome, Placed};
 use hx_handler::Factory;
+use hx_history::Entries;
 use hx_scene::Summary;
 use hx_text::Page;
 use std::alloc::AllocError;
@@ -75,60 +75,53 @@ fn is_write(event: &Event, wanted: Outcome) -> bool
     }
 }
 
-/// How many messages a history's events sent.
-fn sent(events: &[Event]) -> Option<u64>
-    ensures { IfSome result (λ n. n ≡ sum_by sent_in events.now) }
+/// How many writes of an outcome it is.
+fn written_in(event: &Event, outcome: Outcome) -> u64
+    ensures { result ≡ count (is_write (has_outcome outcome)) (event.now ∷ []) }
 {
-    let mut sum: u64 = 0;
-    for event in events {
-        sum = sum.checked_add(sent_in(event))?;
-    }
-    Some(sum)
+    u64::from(is_write(event, outcome))
 }
 
-/// How many sessions they opened.
-fn joined(events: &[Event]) -> Option<u64>
-    ensures { IfSome result (λ n. n ≡ sum_by joined_in events.now) }
+/// What happened, with one event more. A number past 64 bits is none.
+fn counted(summary: &Summary, event: &Event) -> Option<Summary>
+    ensures { IfSome result (IsCounted summary.now event.now) }
 {
-    let mut sum: u64 = 0;
-    for event in events {
-        sum = sum.checked_add(joined_in(event))?;
+    match event {
+        Event::Dispatch { .. } => Some(Summary {
+            sent: summary.sent.checked_add(sent_in(event))?,
+            ..*summary
+        }),
+        Event::Write(..) => Some(Summary {
+            ok: summary.ok.checked_add(written_in(event, Outcome::Ok))?,
+            failed: summary
+                .failed
+                .checked_add(written_in(event, Outcome::Failed))?,
+            ..*summary
+        }),
+        Event::Admin(..) => Some(Summary {
+            joined: summary.joined.checked_add(joined_in(event))?,
+            ended: summary.ended.checked_add(ended_in(event))?,
+            ..*summary
+        }),
+        _ => Some(*summary),
     }
-    Some(sum)
-}
-
-/// How many sessions they ended.
-fn ended(events: &[Event]) -> Option<u64>
-    ensures { IfSome result (λ n. n ≡ sum_by ended_in events.now) }
-{
-    let mut sum: u64 = 0;
-    for event in events {
-        sum = sum.checked_add(ended_in(event))?;
-    }
-    Some(sum)
-}
-
-/// How many writes had an outcome.
-fn written(events: &[Event], outcome: Outcome) -> u64
-    ensures { result ≡ count (is_write (has_outcome outcome)) events.now }
-{
-    events
-        .iter()
-        .filter(|event| is_write(event, outcome))
-        .count() as u64
 }
 
 /// What happened in a history. A number past 64 bits is want of memory.
-pub fn summary_of(events: &[Event]) -> Result<Summary, AllocError>
-    ensures { IfOk result (λ summary. text_of summary ≡ summary_of events.now) }
+pub fn summary_of(entries: &Entries) -> Result<Summary, AllocError>
+    ensures { IfOk result (λ summary. text_of summary ≡ summary_of entries.now.items) }
 {
-    Ok(Summary {
-        sent: sent(events).ok_or(AllocError)?,
-        ok: written(events, Outcome::Ok),
-        failed: written(events, Outcome::Failed),
-        joined: joined(events).ok_or(AllocError)?,
-        ended: ended(events).ok_or(AllocError)?,
-    })
+    let mut summary = Summary {
+        sent: 0,
+        ok: 0,
+        failed: 0,
+        joined: 0,
+        ended: 0,
+    };
+    for told in entries {
+        summary = counted(&summary, told.event()).ok_or(AllocError)?;
+    }
+    Ok(summary)
 }
 
 impl<F: Factory> World<F> {
@@ -137,8 +130,7 @@ impl<F: Factory> World<F> {
         ensures { DoesDeed (λ x. do_summary x)
             self.old out.old self.new out.new result }
     {
-        let events = self.scene.board().history().entries.as_slice();
-        let summary = summary_of(events)?;
+        let summary = summary_of(&self.scene.board().history().entries)?;
         self.scene.say_summary(&summary, out)
     }
 }

@@ -9,7 +9,7 @@ use Rattle.hx_agree.proofs.numbers.joined_on.Goals as goal
 pub joined-requires : goal.joined-requires
 joined-requires c =
     let b = c.args.board.now in
-    let same : sum_by joined_in c.as_slice.result.now ≡ sum_by joined_in b.history = ap (λ (h : List Event). sum_by joined_in h) (c.as_slice.ensures ∙ c.history.ensures.value) in
+    let same : sum_by joined_in c.history.result.now.entries.items ≡ sum_by joined_in b.history = ap (λ (h : List Event). sum_by joined_in h) c.history.ensures.value in
     let fits : weight_at b < 2 ^ 64 = omega arith in
     let few : sum_by joined_in b.history < 2 ^ 64 = joins_fit b c.history.ensures.history fits in
     omega arith
@@ -17,5 +17,5 @@ joined-requires c =
 pub returns : goal.returns
 returns c =
     let b = c.args.board.now in
-    let same : sum_by joined_in c.as_slice.result.now ≡ sum_by joined_in b.history = ap (λ (h : List Event). sum_by joined_in h) (c.as_slice.ensures ∙ c.history.ensures.value) in
+    let same : sum_by joined_in c.history.result.now.entries.items ≡ sum_by joined_in b.history = ap (λ (h : List Event). sum_by joined_in h) c.history.ensures.value in
     next_session_is b c.history.ensures.history ∙ ap (λ (n : ℕ). 1 + n) (sym same ∙ sym c.joined.ensures)

@@ -14,5 +14,5 @@ pub returns : goal.returns
 returns g c =
     let s = c.self.inside.scene in
     let same : text_of c.in_ok-summary.summary ≡ summary_of s.board.history =
-    c.in_ok-summary.ensures ∙ ap summary_of (c.as_slice-events.ensures ∙ c.history.ensures.value ∙ ap (λ (b : Held). b.history) c.board.ensures.board) in
+    c.in_ok-summary.ensures ∙ ap summary_of (c.history.ensures.value ∙ ap (λ (b : Held). b.history) c.board.ensures.board) in
     rw (← c.self.view_is) (does_as _ _ s (λ a. ap (λ t. say 1 t (at s a)) (sym same)) _ _ _ _ _ c.say_summary.ensures)

@@ -1,7 +1,0 @@
-use Rattle.std.proofs.Common.{◌≡◌, take}
-use Rattle.std.specs.List.{sum_by}
-use Rattle.hx_worlds.specs.Summaries.{joined_in}
-use Rattle.hx_sim.proofs.summaries.joined.Given as goal
-
-abbrev pub invariant-loop-event : goal.invariant-loop-event
-invariant-loop-event l = l.sum ≡ sum_by joined_in (take l.event-index l.events)
