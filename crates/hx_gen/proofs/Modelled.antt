@@ -13,27 +13,17 @@ use Rattle.hx_cluster.specs.Views.{is_well_formed, is_good_resource, is_good_ses
 use Rattle.hx_best.specs.Targets.{target, targets_at, targets_in, targets, all_targets}
 use Rattle.hx_gen.specs.Stage.{has_model}
 use Rattle.hx_gen.specs.Modelled.{has_models}
+use Rattle.hx_lists.proofs.Conditions.{and-first, and-second, and-both}
 
 sixth : (a b c d e f : Bool) → (a && b && c && d && e && f) ≡ true → f ≡ true
 sixth a b c d e f h = grind (arith, h)
 
-first : (a b : Bool) → (a && b) ≡ true → a ≡ true
-first true b e = refl
-first false b e = cc
-
-last : (a b : Bool) → (a && b) ≡ true → b ≡ true
-last true b e = e
-last false b e = cc
-
-both : (a b : Bool) → a ≡ true → b ≡ true → (a && b) ≡ true
-both a b e f = grind (arith, e, f)
-
 modelled : (models : List ModelParts) (n : ℕ) (rs : List Resource) → list_all (is_good_resource models n) rs ≡ true → list_all (λ r. nat_lt r.model.0 (length models)) rs ≡ true
 modelled models n [] good = refl
 modelled models n (r ∷ rs) good =
-    both (nat_lt r.model.0 (length models)) (list_all (λ x. nat_lt x.model.0 (length models)) rs)
-    (first (nat_lt r.model.0 (length models)) _ (first (is_good_resource models n r) (list_all (is_good_resource models n) rs) good))
-    (modelled models n rs (last (is_good_resource models n r) (list_all (is_good_resource models n) rs) good))
+    and-both (nat_lt r.model.0 (length models)) (list_all (λ x. nat_lt x.model.0 (length models)) rs)
+    (and-first (nat_lt r.model.0 (length models)) _ (and-first (is_good_resource models n r) (list_all (is_good_resource models n) rs) good))
+    (modelled models n rs (and-second (is_good_resource models n r) (list_all (is_good_resource models n) rs) good))
 
 pub well_formed-modelled : (models : List ModelParts) (n : ℕ) (view : View) → is_well_formed models n view ≡ true → has_models models view ≡ true
 well_formed-modelled models n view good =
@@ -42,7 +32,7 @@ well_formed-modelled models n view good =
 
 all-append : {X : Type 0} (p : X → Bool) (xs ys : List X) → list_all p xs ≡ true → list_all p ys ≡ true → list_all p (xs ++ ys) ≡ true
 all-append p [] ys a b = b
-all-append p (x ∷ xs) ys a b = both (p x) (list_all p (xs ++ ys)) (first (p x) (list_all p xs) a) (all-append p xs ys (last (p x) (list_all p xs) a) b)
+all-append p (x ∷ xs) ys a b = and-both (p x) (list_all p (xs ++ ys)) (and-first (p x) (list_all p xs) a) (all-append p xs ys (and-second (p x) (list_all p xs) a) b)
 
 all-flat_map : {X Y : Type 0} (p : Y → Bool) (f : X → List Y) → ((x : X) → list_all p (f x) ≡ true) → (xs : List X) → list_all p (flat_map f xs) ≡ true
 all-flat_map p f each [] = refl
@@ -50,14 +40,14 @@ all-flat_map p f each (x ∷ xs) = all-append p (f x) (flat_map f xs) (each x) (
 
 all-map : {X Y : Type 0} (p : Y → Bool) (f : X → Y) → ((x : X) → p (f x) ≡ true) → (xs : List X) → list_all p (map f xs) ≡ true
 all-map p f each [] = refl
-all-map p f each (x ∷ xs) = both (p (f x)) (list_all p (map f xs)) (each x) (all-map p f each xs)
+all-map p f each (x ∷ xs) = and-both (p (f x)) (list_all p (map f xs)) (each x) (all-map p f each xs)
 
 all-at : {X : Type 0} (p : X → Bool) (xs : List X) (k : ℕ) (x : X) → list_all p xs ≡ true → slice_get xs k ≡ Some x → p x ≡ true
 all-at p [] k x all at = cc
 all-at {X = X} p (y ∷ xs) zero x all at =
     let same : y ≡ x = cc in
-    subst (λ (z : X). p z ≡ true) same (first (p y) (list_all p xs) all)
-all-at p (y ∷ xs) (suc k) x all at = all-at p xs k x (last (p y) (list_all p xs) all) at
+    subst (λ (z : X). p z ≡ true) same (and-first (p y) (list_all p xs) all)
+all-at p (y ∷ xs) (suc k) x all at = all-at p xs k x (and-second (p y) (list_all p xs) all) at
 
 module _ (models : List ModelParts) (view : View) (have : has_models models view ≡ true) where
   abbrev good : Target → Bool

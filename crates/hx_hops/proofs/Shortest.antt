@@ -20,19 +20,19 @@ use Rattle.hx_hops.proofs.Table.{any_state}
 node_is : (m : ModelParts) (s : StateId) → is_node m s ≡ (has_state m s || ((0 == s.0) || ((1 == s.0) || false)))
 node_is m s = list_any-append (λ (t : StateId). t.0 == s.0) (states_of m) (error ∷ dropped ∷ []) ∙ ap (λ b. b || ((0 == s.0) || ((1 == s.0) || false))) (any_state s.0 m.states)
 
-node_goal : (m : ModelParts) (s : StateId) → is_goal m s ≡ true → is_node m s ≡ true
-node_goal m s e = node_is m s ∙ one (has_state m s) e
+-- a state of the model, or another one that is ERROR or DROPPED
+node_by : (m : ModelParts) (s : StateId) (other : Bool) → (other ≡ true → ((0 == s.0) || ((1 == s.0) || false)) ≡ true) → (has_state m s || other) ≡ true → is_node m s ≡ true
+node_by m s other is e = node_is m s ∙ one (has_state m s) e
   where
-    one : (b : Bool) → (b || (s.0 == 1)) ≡ true → (b || ((0 == s.0) || ((1 == s.0) || false))) ≡ true
+    one : (b : Bool) → (b || other) ≡ true → (b || ((0 == s.0) || ((1 == s.0) || false))) ≡ true
     one true h = refl
-    one false h = grind (arith, nat_tests, h)
+    one false h = is h
+
+node_goal : (m : ModelParts) (s : StateId) → is_goal m s ≡ true → is_node m s ≡ true
+node_goal m s e = node_by m s (s.0 == 1) (λ h. grind (arith, nat_tests, h)) e
 
 node_from : (m : ModelParts) (s : StateId) → is_from m s ≡ true → is_node m s ≡ true
-node_from m s e = node_is m s ∙ one (has_state m s) e
-  where
-    one : (b : Bool) → (b || (s.0 == 0)) ≡ true → (b || ((0 == s.0) || ((1 == s.0) || false))) ≡ true
-    one true h = refl
-    one false h = grind (arith, nat_tests, h)
+node_from m s e = node_by m s (s.0 == 0) (λ h. grind (arith, nat_tests, h)) e
 
 all_item : {X : Type 0} (p : X → Bool) (xs : List X) (i : ℕ) (d : X) → i < length xs → list_all p xs ≡ true → p (get_or xs i d) ≡ true
 all_item p [] i d lt e = absurd (omega arith)

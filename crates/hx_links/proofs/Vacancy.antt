@@ -1,6 +1,6 @@
 -- How each change of the slots keeps the count and the chain of the vacant ones.
 use Rattle.std.proofs.Common.{◌≡◌, ◌≢◌, inl, inr, ◌==◌, ℕ, zero, suc, ◌+◌, ◌-◌, ◌^◌, ◌<◌, List, [], ◌∷◌, ◌++◌, map, length, get_or, set, Option, Some, None, is_some, IsSome, cond, slice_get, refl, sym, ap, subst, ◌∙◌, arith, length-set, true≢false}
-use Rattle.std.specs.Prelude.{if◌then◌else◌}
+use Rattle.std.specs.Prelude.{if◌then◌else◌, option_map}
 use Rattle.std.proofs.lemmas.Bool.{cases_eq, cases_lt, eq-eqb, ne_eqb}
 use Rattle.std.proofs.lemmas.Grind.{get_or-set_at}
 use Rattle.std.proofs.lemmas.List.{map-set, map_push, length-map, length_push, get_or-map, get_or-set_same, get_or-set_other, get_or_past, get_or_push, get_or_append_left}
@@ -10,7 +10,7 @@ use Rattle.hx_links.specs.declared.Node.{Node}
 use Rattle.hx_links.specs.declared.slots.Link.{Link}
 use Rattle.hx_links.specs.declared.slots.Slot.{Slot}
 use Rattle.hx_links.specs.declared.slots.Slot.TheVariants.{Vacant, Held}
-use Rattle.hx_links.specs.Slots.{link_at, held}
+use Rattle.hx_links.specs.Slots.{Slots, link_at, held}
 use Rattle.hx_links.specs.Layout.{link_of, IsVacantChain, IsLaidOut}
 
 get_or-push_test : {X : Type 0} (xs : List X) (x d : X) (k : ℕ) → get_or (xs ++ x ∷ []) k d ≡ (if k == length xs then x else get_or xs k d)
@@ -158,7 +158,7 @@ module _ {T : Type 0} where
         chain = rw one_more (vacant, written, chain-set slots n (Vacant vacant) idle vacant (λ m _. held_is_off slots n link found m) sound.chain);
       }
 
-  pub IsLaidOut-rewrite : (slots : List (Slot T)) (vacant : Option Node) (idle : ℕ) (n : Node) (old new : Link T) → IsLaidOut slots vacant idle → slice_get slots n.0 ≡ Some (Held old) → IsLaidOut (set slots n.0 (Held new)) vacant idle
+  IsLaidOut-rewrite : (slots : List (Slot T)) (vacant : Option Node) (idle : ℕ) (n : Node) (old new : Link T) → IsLaidOut slots vacant idle → slice_get slots n.0 ≡ Some (Held old) → IsLaidOut (set slots n.0 (Held new)) vacant idle
   IsLaidOut-rewrite slots vacant idle n old new sound found =
       record {
         counted = omega (arith, sound.counted, held-set slots n.0 (Held old) (Held new) found, length-set slots n.0 (Held new));
@@ -169,6 +169,31 @@ module _ {T : Type 0} where
   -- what a read at a place that a slot stands in gives is that slot
   pub read_at : (slots : List (Slot T)) (at : ℕ) (s r : Slot T) → slice_get slots at ≡ Some s → r ≡ get_or slots at r → r ≡ s
   read_at slots at s r found read = read ∙ get_or_from_slice_get slots at s r found
+
+  -- a link that was read at its node, and changed there: the slots are laid out as before, the other links stay, and as many nodes have one
+  pub record IsChanged (slots : List (Slot T)) (vacant : Option Node) (idle spare : ℕ) (seen : Slots T) (n : Node) (f : Link T → Link T) (link : Link T) : Type 0 where
+    pub laid_out : IsLaidOut (set slots n.0 (Held (f link))) vacant idle
+    pub told : record {
+      links : map link_of (set slots n.0 (Held (f link))) ≡ set seen.links n.0 (option_map f (link_at seen.links n));
+      held : held (map link_of (set slots n.0 (Held (f link)))) ≡ held seen.links;
+      spare : spare ≡ seen.spare;
+    }
+
+  pub changed : (slots : List (Slot T)) (vacant : Option Node) (idle spare : ℕ) (seen : Slots T) (n : Node) (f : Link T → Link T) (link : Link T) (s : Slot T)
+      → IsLaidOut slots vacant idle → record { links = map link_of slots; spare = spare } ≡ seen → s ≡ get_or slots n.0 s → s ≡ Held link → IsSome (link_at seen.links n)
+      → IsChanged slots vacant idle spare seen n f link
+  changed slots vacant idle spare seen n f link s sound view read is present =
+      let are : map link_of slots ≡ seen.links = ap (λ (v : Slots T). v.links) view in
+      let found = held_at slots n (rw (← are) at present) in
+      let here : slice_get slots n.0 ≡ Some (Held link) = found.1 ∙ ap Some (sym (read_at slots n.0 (Held found.0) s found.1 read) ∙ is) in
+      record {
+        laid_out = IsLaidOut-rewrite slots vacant idle n link (f link) sound here;
+        told = record {
+          links = rw (← are, map-set, link_from_slot slots n (Held link) here) refl;
+          held = rw (← are) (omega (arith, held-set slots n.0 (Held link) (Held (f link)) here));
+          spare = ap (λ (v : Slots T). v.spare) view;
+        };
+      }
 
   -- the links after one more at the end, and after one in a vacant slot
   pub link_at-push : (slots : List (Slot T)) (link : Link T) (n : Node) → link_at (map link_of (slots ++ Held link ∷ [])) n ≡ (if n.0 == length slots then Some link else link_at (map link_of slots) n)

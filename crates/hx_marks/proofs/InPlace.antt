@@ -11,6 +11,7 @@ use Rattle.hx_cluster.specs.Ends.{part_eq, part_before}
 use Rattle.hx_parts.specs.Parts.{items_at, IsByPart}
 use Rattle.hx_parts.proofs.Ordered.{parts_rank}
 use Rattle.hx_marks.specs.Marks.{before, behind, spliced, are_rising, IsSpliced}
+use Rattle.hx_lists.proofs.Conditions.{all-filter}
 
 -- ---- the loop
 abbrev pub first_part : PartId
@@ -131,14 +132,6 @@ module _ {X : Type 0} (part_of : X → PartId) where
   all-append : (t : X → Bool) (xs ys : List X) → list_all t (xs ++ ys) ≡ (list_all t xs && list_all t ys)
   all-append t [] ys = refl
   all-append t (x ∷ xs) ys = grind (arith, all-append t xs ys)
-
-  all-filter : (t u : X → Bool) (xs : List X) → list_all t xs ≡ true → list_all t (filter u xs) ≡ true
-  all-filter t u [] h = refl
-  all-filter t u (x ∷ xs) h = one (u x) refl (all-filter t u xs (grind (arith, h)))
-    where
-      one : (b : Bool) → u x ≡ b → list_all t (filter u xs) ≡ true → list_all t (filter u (x ∷ xs)) ≡ true
-      one true e more = grind (arith, e, h, more)
-      one false e more = grind (arith, e, h, more)
 
   passes-filter : (t : X → Bool) (xs : List X) → list_all t (filter t xs) ≡ true
   passes-filter t [] = refl

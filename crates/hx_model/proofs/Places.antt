@@ -1,20 +1,14 @@
 -- First places in lists.
-use Rattle.std.proofs.Common.{◌≡◌, ℕ, suc, ◌+◌, ◌≤◌, ◌<◌, map, drop, get_or, find, sym, ap, add-one, drop-cons, subst, ◌∙◌, not, Bool, true, false, List, length, position, Option, Some, None, refl, arith}
+use Rattle.std.proofs.Common.{◌≡◌, ℕ, suc, [], ◌∷◌, ◌+◌, ◌≤◌, ◌<◌, map, drop, get_or, find, sym, ap, add-one, drop-cons, subst, ◌∙◌, not, Bool, true, false, List, length, position, Option, Some, None, refl, arith}
 use Rattle.std.specs.Prelude.{nat_lt, if◌then◌else◌}
-use Rattle.std.specs.List.{position_or_len, list_any}
-use Rattle.hx_model.specs.Faults.{twice_at}
+use Rattle.std.specs.List.{position_or_len, list_any, prefix_len}
+use Rattle.hx_model.specs.declared.ModelFault.{ModelFault}
+use Rattle.hx_model.specs.Faults.{fault_at, twice_at}
 use Rattle.std.proofs.lemmas.Bool.Decides.{nat_tests}
 use Rattle.std.proofs.lemmas.List.{drop_all}
 use Rattle.std.proofs.lemmas.List.Sums.{prefix_len-le-length}
 
--- a place that is found is the first, and else that is the end
-pub found_place : {X : Type 0} (p : X → Bool) (xs : List X) (i : ℕ) → position p xs ≡ Some i → i ≡ position_or_len p xs
-found_place p xs i e = one (nat_lt (position_or_len p xs) (length xs)) refl e
-  where
-    one : (b : Bool) → nat_lt (position_or_len p xs) (length xs) ≡ b → (if b then Some (position_or_len p xs) else None) ≡ Some i → i ≡ position_or_len p xs
-    one true is e = cc
-    one false is e = cc
-
+-- a place that is not found is the end
 pub found_none : {X : Type 0} (p : X → Bool) (xs : List X) → position p xs ≡ None → length xs ≡ position_or_len p xs
 found_none p xs e = one (nat_lt (position_or_len p xs) (length xs)) refl e
   where
@@ -49,3 +43,19 @@ found_here {X} {Y} p f xs items i d r are lt e is =
 -- a distance at the end is none
 pub is_far : (n k : ℕ) → n ≡ k → not (nat_lt n k) ≡ true
 is_far n k e = grind (arith, nat_tests)
+
+-- no place is found where none passes
+pub no_place : (fault : ℕ → ModelFault) (place : Option ℕ) → fault_at fault place ≡ None → place ≡ None
+no_place fault None e = refl
+no_place fault (Some n) e = cc
+
+all_fail : {X : Type 0} (p : X → Bool) (xs : List X) → list_any p xs ≡ true → prefix_len (λ x. not (p x)) xs < length xs
+all_fail p [] e = cc
+all_fail p (x ∷ xs) e = grind (arith, e, all_fail p xs)
+
+pub none_passes : {X : Type 0} (p : X → Bool) (xs : List X) → position p xs ≡ None → list_any p xs ≡ false
+none_passes p xs e = one (list_any p xs) refl
+  where
+    one : (b : Bool) → list_any p xs ≡ b → b ≡ false
+    one true is = let low = all_fail p xs is in grind (arith, nat_tests, e, low)
+    one false is = refl

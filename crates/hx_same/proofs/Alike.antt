@@ -119,7 +119,7 @@ head-same {X} {x} {y} {xs} {ys} e = ap first e
     first [] = x
     first (z ∷ zs) = z
 
-tail-same : {X : Type 0} {x y : X} {xs ys : List X} → x ∷ xs ≡ y ∷ ys → xs ≡ ys
+pub tail-same : {X : Type 0} {x y : X} {xs ys : List X} → x ∷ xs ≡ y ∷ ys → xs ≡ ys
 tail-same {X} {x} {y} {xs} {ys} e = ap rest e
   where
     rest : List X → List X

@@ -53,14 +53,3 @@ walked_more models view candidates i d accepted more p q old new up long walked 
       subst (λ (r : PartId). part_before (get_or candidates k e).part r ≡ false) (ap (λ (c : Candidate). c.part) (get_or_default candidates i e d long) ∙ sym at)
       (sorted_far (λ x y. part_before x.part y.part) (parts_rank (λ c. c.part)) candidates up i k e (omega arith) short);
 }
-
--- what a look-up past the end of a list gives
-abbrev pub no_candidate : Candidate
-no_candidate = record {
-  session = record { 0 = 0 };
-  instance = record { 0 = 0 };
-  part = record { resource = record { 0 = 0 }; index = 0 };
-  from = record { 0 = 0 };
-  to = record { 0 = 0 };
-  place = 0;
-}

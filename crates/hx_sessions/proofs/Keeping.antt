@@ -12,7 +12,7 @@ use Rattle.hx_ids.specs.declared.InstanceId.{InstanceId}
 use Rattle.hx_ids.specs.declared.Live.{Live}
 use Rattle.hx_links.specs.declared.Node.{Node}
 use Rattle.hx_links.specs.declared.ListId.{ListId}
-use Rattle.hx_links.specs.Pool.{is_at, is_in, holds, value_in, value_of, next_of, list_of, pushed, replaced, moved_back}
+use Rattle.hx_links.specs.Pool.{is_at, is_in, holds, value_in, value_of, pushed, replaced, moved_back}
 use Rattle.hx_links.specs.Pool as links
 use Rattle.std.proofs.lemmas.List.{map-append}
 use Rattle.hx_links.proofs.Reading.{value_some, only_entry}
@@ -20,8 +20,9 @@ use Rattle.hx_links.proofs.Vacancy.{same_node}
 use Rattle.hx_ids.specs.Sessions.{is_session, is_live, session_at, no_later, without, with_beat, beaten}
 use Rattle.hx_sessions.specs.Sessions.{AreSessions, new_live}
 use Rattle.hx_sessions.specs.Places.{entries_of, live_of, node_of, IsOnlyList, ArePlaced}
-use Rattle.hx_sessions.proofs.Placing.{Entries, NodesOnce, Marks, node_of-in, node_of-none, value_at-node, marks, live-without, node_of-without, node_of-push, moved_replaced}
+use Rattle.hx_sessions.proofs.Placing.{Entries, Marks, node_of-in, node_of-none, value_at-node, marks, live-without, node_of-without, node_of-push, moved_replaced}
 use Rattle.hx_sessions.proofs.Living.{count-filter, count-push, count-zero, find-passes, same_session, below-none, sessions_open, sessions_filter, sessions_beat, beaten-last}
+use Rattle.hx_links.proofs.Walking.{NodesOnce}
 
 abbrev pub Lists : Type 0
 Lists = List Entries

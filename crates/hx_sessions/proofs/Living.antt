@@ -1,5 +1,5 @@
 -- What holds of all sessions, and how an expiry ends some of them.
-use Rattle.std.proofs.Common.{◌≡◌, ℕ, zero, suc, ◌+◌, ◌-◌, ◌≤◌, ◌<◌, ◌==◌, not, Bool, true, false, List, [], ◌∷◌, ◌++◌, length, filter, find, map, drop, Some, refl, sym, ap, ◌∙◌, subst, arith}
+use Rattle.std.proofs.Common.{◌≡◌, ℕ, zero, suc, ◌+◌, ◌-◌, ◌≤◌, ◌<◌, ◌==◌, not, Bool, true, false, List, [], ◌∷◌, ◌++◌, filter, find, map, drop, Some, refl, sym, ap, ◌∙◌, subst, arith}
 use Rattle.std.specs.Prelude.{if◌then◌else◌, nat_le, nat_lt}
 use Rattle.std.specs.List.{list_any, list_all}
 use Rattle.std.proofs.lemmas.Bool.Decides.{nat_tests}
@@ -10,11 +10,9 @@ use Rattle.hx_ids.specs.declared.SessionId.{SessionId}
 use Rattle.hx_ids.specs.declared.InstanceId.{InstanceId}
 use Rattle.hx_ids.specs.declared.Live.{Live}
 use Rattle.hx_ids.specs.Expiry.{is_expired, expired}
-use Rattle.hx_links.specs.declared.Node.{Node}
-use Rattle.hx_links.specs.Pool.{is_at, is_in, value_in, next_in, first_node}
 use Rattle.hx_ids.specs.Sessions.{is_session, is_live, session_at, no_later, beats_rise, without, with_beat, beaten}
 use Rattle.hx_sessions.specs.Sessions.{Sessions, AreSessions, new_live, opened, remaining}
-use Rattle.hx_sessions.proofs.Placing.{Entries, NodesOnce, SessionsOnce, nodes_rest, sessions_rest, session_alone, other_node}
+use Rattle.hx_sessions.proofs.Placing.{SessionsOnce, sessions_rest, session_alone}
 
 -- lists that are filtered, and lists with one item more
 pub count-filter : {X : Type 0} (p k : X → Bool) (xs : List X) → count p (filter k xs) ≤ count p xs
@@ -197,33 +195,6 @@ agree p (l ∷ live) once = by_test (p l) refl (agree p live (sessions_rest l li
 pub gone-expired : (live : List Live) (now timeout : ℕ) → SessionsOnce live → gone (expired live now timeout) live ≡ remaining live now timeout
 gone-expired live now timeout once =
     gone-filter (expired live now timeout) live ∙ agreed-filter (λ l. among l.session (expired live now timeout)) (is_expired now timeout) live (agree (is_expired now timeout) live once)
-
--- the entry at a place, and what comes next
-pub record StandsAt (es : Entries) (k : ℕ) (e : Node × Live) (rest : Entries) : Type 0 where
-  pub value : value_in e.0 es ≡ Some e.1
-  pub next : next_in e.0 es ≡ first_node rest
-  pub held : is_in e.0 es ≡ true
-  pub after : drop (k + 1) es ≡ rest
-  pub within : k < length es
-
-pub stands_at : (es : Entries) (k : ℕ) (e : Node × Live) (rest : Entries) → NodesOnce es → drop k es ≡ e ∷ rest → StandsAt es k e rest
-stands_at [] zero e rest once is = absurd (cc)
-stands_at [] (suc k) e rest once is = absurd (cc)
-stands_at (x ∷ es) zero e rest once is =
-    let self : is_at e.0 e ≡ true = grind (arith, nat_tests) in
-    let first : StandsAt (e ∷ rest) 0 e rest = record { value = rw self refl; next = rw self refl; held = rw self refl; after = refl; within = omega arith } in
-    subst (λ (ys : Entries). StandsAt ys 0 e rest) (sym is) first
-stands_at (x ∷ es) (suc k) e rest once is =
-    let there = stands_at es k e rest (nodes_rest x es once) is in
-    let held = there.held in
-    let other : is_at e.0 x ≡ false = other_node x es e.0 once held in
-    record {
-      value = rw other there.value;
-      next = rw other there.next;
-      held = rw other held;
-      after = let more : suc k + 1 ≡ suc (k + 1) = omega arith in rw more there.after;
-      within = omega (arith, there.within);
-    }
 
 none_expired : (beat : ℕ) (live : List Live) (now timeout : ℕ) → list_all (λ k. nat_le beat k.beat) live ≡ true → nat_le timeout (now - beat) ≡ false → filter (is_expired now timeout) live ≡ []
 none_expired beat [] now timeout later fresh = refl

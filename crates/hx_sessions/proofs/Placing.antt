@@ -7,19 +7,16 @@ use Rattle.hx_lists.specs.Lists.{count}
 use Rattle.hx_ids.specs.declared.SessionId.{SessionId}
 use Rattle.hx_ids.specs.declared.Live.{Live}
 use Rattle.hx_links.specs.declared.Node.{Node}
-use Rattle.hx_links.specs.Pool.{is_at, is_in, value_in, next_in, first_node, replaced, moved_back}
+use Rattle.hx_links.specs.Pool.{is_at, is_in, value_in, replaced, moved_back}
 use Rattle.hx_links.specs.Pool as links
 use Rattle.std.proofs.lemmas.List.{map-append}
 use Rattle.hx_links.proofs.Reading.{only_entry}
 use Rattle.hx_ids.specs.Sessions.{is_session, is_live, session_at, without}
 use Rattle.hx_sessions.specs.Places.{live_of, node_of}
+use Rattle.hx_links.proofs.Walking.{NodesOnce, nodes_rest, other_node}
 
 abbrev pub Entries : Type 0
 Entries = List (Node × Live)
-
--- distinct nodes
-abbrev pub NodesOnce : Entries → Type 0
-NodesOnce es = (n : Node) → count (is_at n) es ≤ 1
 
 -- distinct sessions
 abbrev pub SessionsOnce : List Live → Type 0
@@ -28,13 +25,6 @@ SessionsOnce live = (s : SessionId) → count (is_session s) live ≤ 1
 pub count-none : {X : Type 0} (p : X → Bool) (xs : List X) → count p xs ≡ 0 → list_any p xs ≡ false
 count-none p [] e = refl
 count-none p (x ∷ xs) e = grind (arith, count-none p xs)
-
-pub count-some : {X : Type 0} (p : X → Bool) (xs : List X) → list_any p xs ≡ true → 1 ≤ count p xs
-count-some p [] e = cc
-count-some p (x ∷ xs) e = grind (arith, count-some p xs)
-
-pub nodes_rest : (e : Node × Live) (es : Entries) → NodesOnce (e ∷ es) → NodesOnce es
-nodes_rest e es once n = let o = once n in grind arith
 
 pub sessions_rest : (l : Live) (live : List Live) → SessionsOnce (l ∷ live) → SessionsOnce live
 sessions_rest l live once s = let o = once s in grind arith
@@ -66,9 +56,6 @@ node_of-none s (x ∷ es) e = by_test (is_session s x.1) refl e (node_of-none s 
 pub session_at-none : (s : SessionId) (live : List Live) → is_live live s ≡ false → session_at live s ≡ None
 session_at-none s [] e = refl
 session_at-none s (l ∷ live) e = grind (arith, session_at-none s live)
-
-pub other_node : (x : Node × Live) (es : Entries) (n : Node) → NodesOnce (x ∷ es) → is_in n es ≡ true → is_at n x ≡ false
-other_node x es n once h = let o = once n in let some = count-some (is_at n) es h in grind arith
 
 -- the value at the node of a session is that session
 pub value_at-node : (s : SessionId) (n : Node) (es : Entries) → NodesOnce es → node_of s.0 es ≡ Some n → value_in n es ≡ session_at (live_of es) s

@@ -71,17 +71,3 @@ count-push p (y ∷ xs) x = grind (arith, count-push p xs x)
 pub load-push : (live : List (SessionId × InstanceId)) (mail : List Message) (m : Message) (r : Rule) (key : ℕ)
     → load_over live (mail ++ m ∷ []) r key ≡ load_over live mail r key + (if is_counted live r key m then 1 else 0)
 load-push live mail m r key = count-push (is_counted live r key) mail m
-
--- what a look-up past the end of a list gives
-abbrev pub no_message : Message
-no_message = record {
-  id = record { 0 = 0 };
-  session = record { 0 = 0 };
-  part = record { resource = record { 0 = 0 }; index = 0 };
-  from = record { 0 = 0 };
-  to = record { 0 = 0 };
-  initial = record { 0 = 0 };
-  epoch = record { 0 = 0 };
-  taken = false;
-  written = false;
-}

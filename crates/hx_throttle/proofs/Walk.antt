@@ -116,16 +116,6 @@ walked_held rules view accepted i sent held table d h lt some w =
 abbrev pub no_rule : Rule
 no_rule = record { scope = scopes.Cluster; transition = None; limit = 0 }
 
-abbrev pub no_candidate : Candidate
-no_candidate = record {
-  session = record { 0 = 0 };
-  instance = record { 0 = 0 };
-  part = record { resource = record { 0 = 0 }; index = 0 };
-  from = record { 0 = 0 };
-  to = record { 0 = 0 };
-  place = 0;
-}
-
 -- the same under other names
 pub walked_same : (rules : List Rule) (view : View) (accepted : List Candidate) (i : ℕ) (sent other_sent : List Candidate) (held other_held : List Held) (table other_table : Numbers)
     → sent ≡ other_sent → held ≡ other_held → table ≡ other_table → IsWalked rules view accepted i sent held table → IsWalked rules view accepted i other_sent other_held other_table

@@ -13,14 +13,7 @@ use Rattle.hx_xview.specs.Parts.{part_cmp, IsByPart}
 use Rattle.hx_xview.specs.Views.{seen_before, is_view, rows_of}
 use Rattle.hx_xview.proofs.Orders.{part_total, part_tied, part_less}
 use Rattle.hx_xview.proofs.Spans.{filter_none}
-
-and_left : (a b : Bool) → (a && b) ≡ true → a ≡ true
-and_left true b h = refl
-and_left false b h = h
-
-and_right : (a b : Bool) → (a && b) ≡ true → b ≡ true
-and_right true b h = h
-and_right false b h = cc
+use Rattle.hx_lists.proofs.Conditions.{and-first, and-second}
 
 -- ---- a view
 not_turned : (o : Ordering) (n : Bool) → (is_lt o || (is_eq o && n)) ≡ true → is_lt (ordering_reverse o) ≡ false
@@ -38,8 +31,8 @@ neighbours a b h =
 steps : (rows : List Seen) → is_view rows ≡ true → (k : ℕ) (d : Seen) → suc k < length rows → is_lt (part_cmp (get_or rows (suc k) d).part (get_or rows k d).part) ≡ false
 steps [] h k d lt = absurd (omega arith)
 steps (r ∷ []) h k d lt = absurd (omega arith)
-steps (r ∷ s ∷ rows) h zero d lt = neighbours r s (and_left (seen_before r s) _ (and_left _ (is_view (s ∷ rows)) h))
-steps (r ∷ s ∷ rows) h (suc k) d lt = steps (s ∷ rows) (and_right _ (is_view (s ∷ rows)) h) k d (omega arith)
+steps (r ∷ s ∷ rows) h zero d lt = neighbours r s (and-first (seen_before r s) _ (and-first _ (is_view (s ∷ rows)) h))
+steps (r ∷ s ∷ rows) h (suc k) d lt = steps (s ∷ rows) (and-second _ (is_view (s ∷ rows)) h) k d (omega arith)
 
 pub views_by_part : (rows : List Seen) → is_view rows ≡ true → IsByPart rows
 views_by_part rows h = λ k d low lt. rw add-one (steps rows h k d (omega arith))

@@ -1,5 +1,5 @@
 use Rattle.std.proofs.Common.{◌+◌, ◌*◌, ◌%◌, arith}
-use Rattle.hx_place.proofs.Numbers.{map-numbers_below_more}
+use Rattle.hx_lists.proofs.Numbers.{map-numbers_below_more}
 use Rattle.hx_place.proofs.list_of.Goals as goal
 
 pub loop-j-preserved : goal.loop-j-preserved

@@ -1,7 +1,7 @@
 use Rattle.std.proofs.Common.{refl}
 use Rattle.std.proofs.lemmas.List.{map-append}
 use Rattle.hx_place.specs.RoundRobin.{round_robin_list}
-use Rattle.hx_place.proofs.Numbers.{map-numbers_below_more}
+use Rattle.hx_lists.proofs.Numbers.{map-numbers_below_more}
 use Rattle.hx_place.proofs.round_robin.Goals as goal
 
 pub loop-part-preserved : goal.loop-part-preserved

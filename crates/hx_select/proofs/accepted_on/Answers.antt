@@ -5,9 +5,10 @@ use Rattle.hx_lists.specs.Choices.{with_chosen}
 use Rattle.hx_cluster.specs.declared.planning.Candidate.{Candidate}
 use Rattle.hx_select.specs.PartFillings.{ArePartFillings}
 use Rattle.hx_select.specs.Selection.{has_room}
-use Rattle.hx_select.proofs.Walk.{no_candidate, walked_more}
+use Rattle.hx_select.proofs.Walk.{walked_more}
 use Rattle.hx_select.proofs.accepted_on.Goals as goal
 use Rattle.hx_select.proofs.accepted_on.Goals.{then-branch+in_ok-push, else-branch}
+use Rattle.hx_cluster.proofs.Absent.{no_candidate}
 
 pub loop-candidate-init : goal.loop-candidate-init
 loop-candidate-init c =

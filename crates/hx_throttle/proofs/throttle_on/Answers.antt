@@ -1,7 +1,8 @@
 use Rattle.std.proofs.Common.{◌+◌, ◌∙◌, sym}
-use Rattle.hx_throttle.proofs.Walk.{walked_sent, walked_held, walked_same, no_candidate}
+use Rattle.hx_throttle.proofs.Walk.{walked_sent, walked_held, walked_same}
 use Rattle.hx_throttle.proofs.throttle_on.Goals as goal
 use Rattle.hx_throttle.proofs.throttle_on.Goals.{in-Some+in_ok-push-in-Some, in-None+in_ok-count-in-None+in_ok-push-in-None}
+use Rattle.hx_cluster.proofs.Absent.{no_candidate}
 
 pub loop-candidate-preserved : goal.loop-candidate-preserved
 loop-candidate-preserved c =

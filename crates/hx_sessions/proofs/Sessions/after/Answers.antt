@@ -4,8 +4,9 @@ use Rattle.hx_links.specs.Pool.{next_in, holds}
 use Rattle.hx_sessions.specs.Places.{entries_of}
 use Rattle.hx_sessions.proofs.Keeping.{Lists, stands_in, stands_nowhere, one_held}
 use Rattle.hx_sessions.proofs.Placing.{node_of-in}
-use Rattle.hx_sessions.proofs.Passing.{after_absent, after_none, after_value, next_held, next_of_one, value_of_one}
+use Rattle.hx_sessions.proofs.Passing.{after_absent, after_none, after_value, next_held}
 use Rattle.hx_sessions.proofs.Sessions.after.Goals as goal
+use Rattle.hx_links.proofs.Walking.{next_of_one, value_of_one}
 
 pub returns-in_err-node : goal.returns-in_err-node
 returns-in_err-node c =

@@ -3,8 +3,9 @@ use Rattle.hx_links.specs.Pool.{first_node}
 use Rattle.hx_sessions.specs.Sessions.{first_live}
 use Rattle.hx_sessions.specs.Places.{entries_of, live_of, IsOnlyList}
 use Rattle.hx_sessions.proofs.Keeping.{Lists}
-use Rattle.hx_sessions.proofs.Passing.{first_none, first_held, first_value, value_of_one}
+use Rattle.hx_sessions.proofs.Passing.{first_none, first_value}
 use Rattle.hx_sessions.proofs.Sessions.first.Goals as goal
+use Rattle.hx_links.proofs.Walking.{first_held, value_of_one}
 
 pub returns-in_err-self-clause-first : goal.returns-in_err-self-clause-first
 returns-in_err-self-clause-first c =

@@ -4,9 +4,10 @@ use Rattle.std.proofs.lemmas.Bool.Decides.{nat_tests}
 use Rattle.hx_counts.specs.Tally.{Numbers, loads_of}
 use Rattle.hx_cluster.specs.declared.state.Message.{Message}
 use Rattle.hx_cluster.specs.Ends.{load_over}
-use Rattle.hx_throttle.proofs.Counting.{load-push, no_message}
+use Rattle.hx_throttle.proofs.Counting.{load-push}
 use Rattle.hx_throttle.proofs.loads.shown_loads.Goals as goal
 use Rattle.hx_throttle.proofs.loads.shown_loads.Goals.{then-has+in_ok-count, else-has}
+use Rattle.hx_cluster.proofs.Absent.{no_message}
 
 pub loop-message-preserved : goal.loop-message-preserved
 loop-message-preserved c = λ n r key at.
