@@ -1,12 +1,13 @@
 -- Marks of where a part is wanted, one entry more.
-use Rattle.std.proofs.Common.{◌≡◌, ℕ, ◌+◌, ◌<◌, ◌==◌, ◌||◌, Bool, true, false, List, [], ◌∷◌, ◌++◌, length, map, take, get_or, Option, Some, None, refl, sym, ap, ◌∙◌, arith, find, not, cond, ◌≤◌}
+use Rattle.std.proofs.Common.{◌≡◌, ℕ, ◌+◌, ◌<◌, ◌==◌, Bool, true, false, List, [], ◌∷◌, ◌++◌, length, map, take, get_or, Option, Some, None, refl, sym, ap, ◌∙◌, arith, find, not, cond, ◌≤◌}
 use mir.Val.{bool_byte}
-use Rattle.std.specs.Prelude.{if◌then◌else◌, slice_get}
+use Rattle.std.specs.Prelude.{if◌then◌else◌, slice_get, is_some}
 use Rattle.std.specs.List.{list_any, position_or_len, filter_map}
 use Rattle.std.specs.Option.{option_or}
 use Rattle.std.proofs.lemmas.Bool.Decides.{nat_tests}
 use Rattle.std.proofs.lemmas.List.{take_more, take_all, take-append-le, length-take-le}
 use Rattle.std.proofs.lemmas.List.Sums.{prefix_len-le-length}
+use Rattle.std.proofs.lemmas.List.Folds.{list_any-append, find-append}
 use Rattle.std.proofs.lemmas.List.Filters.{length-filter_more}
 use Rattle.std.proofs.lemmas.Option.{slice_get-get_or}
 use Rattle.std.proofs.lemmas.List.Elements.{filter_map-append}
@@ -23,9 +24,9 @@ use Rattle.hx_best.specs.Visits.{mark_at, is_visited}
 use Rattle.hx_best.specs.declared.visits.Visit.{Visit}
 use Rattle.hx_best.proofs.Best.{map-numbers_below_more}
 
-any_more : {X : Type 0} (q : X → Bool) (xs : List X) (y : X) → list_any q (xs ++ y ∷ []) ≡ (list_any q xs || q y)
-any_more q [] y = grind arith
-any_more q (x ∷ xs) y = grind (arith, any_more q xs y)
+any_found : {X : Type 0} (q : X → Bool) (xs : List X) → list_any q xs ≡ is_some (find q xs)
+any_found q [] = refl
+any_found q (x ∷ xs) = grind (arith, any_found q xs)
 
 place_kept : {X : Type 0} (q : X → Bool) (xs ys : List X) → list_any q xs ≡ true → position_or_len q (xs ++ ys) ≡ position_or_len q xs
 place_kept q [] ys e = cc
@@ -41,14 +42,6 @@ front_kept q xs ys = take-append-le (position_or_len q xs) xs ys (prefix_len-le-
 front_all : {X : Type 0} (xs : List X) (y : X) → take (length xs) (xs ++ y ∷ []) ≡ xs
 front_all [] y = refl
 front_all (x ∷ xs) y = ap (λ (ys : List _). x ∷ ys) (front_all xs y)
-
-find_kept : {X : Type 0} (q : X → Bool) (xs ys : List X) → list_any q xs ≡ true → find q (xs ++ ys) ≡ find q xs
-find_kept q [] ys e = cc
-find_kept q (x ∷ xs) ys e = grind (arith, e, find_kept q xs ys)
-
-find_new : {X : Type 0} (q : X → Bool) (xs : List X) (y : X) → list_any q xs ≡ false → q y ≡ true → find q (xs ++ y ∷ []) ≡ Some y
-find_new q [] y e is = grind (arith, is)
-find_new q (x ∷ xs) y e is = grind (arith, e, is, find_new q xs y)
 
 turned : (a b : ℕ) → (a == b) ≡ (b == a)
 turned a b = grind (arith, nat_tests)
@@ -66,21 +59,21 @@ module _ (x : Placing) (p : PartId) where
 
       one : (a : Bool) → list_any q xs ≡ a → (b : Bool) → (y.0 == i.0) ≡ b
           → mark_of x p (Listed (xs ++ y ∷ [])) i ≡ option_or (mark_of x p (Listed xs) i) (if i.0 == y.0 then Some (next_mark xs) else None)
-      one true is b at = rw (any_more q xs y, is, place_kept q xs (y ∷ []) is, front_kept q xs (y ∷ [])) refl
-      one false is true at = rw (any_more q xs y, is, at, turned i.0 y.0, at, place_new q xs y is at, front_all xs y) refl
-      one false is false at = rw (any_more q xs y, is, at, turned i.0 y.0, at) refl
+      one true is b at = rw (list_any-append q xs (y ∷ []), is, place_kept q xs (y ∷ []) is, front_kept q xs (y ∷ [])) refl
+      one false is true at = rw (list_any-append q xs (y ∷ []), is, at, turned i.0 y.0, at, place_new q xs y is at, front_all xs y) refl
+      one false is false at = rw (list_any-append q xs (y ∷ []), is, at, turned i.0 y.0, at) refl
 
   pub mapped_more : (xs : List (InstanceId × StateId)) (y : InstanceId × StateId) (i : InstanceId) → mark_of x p (Mapped (xs ++ y ∷ [])) i ≡ option_or (mark_of x p (Mapped xs) i) (if i.0 == y.0.0 then Some (record { place = 0; goal = y.1 }) else None)
-  mapped_more xs y i = one (list_any q xs) refl (y.0.0 == i.0) refl
+  mapped_more xs y i = one (find q xs) refl (y.0.0 == i.0) refl
     where
       q : InstanceId × StateId → Bool
       q e = e.0.0 == i.0
 
-      one : (a : Bool) → list_any q xs ≡ a → (b : Bool) → (y.0.0 == i.0) ≡ b
+      one : (o : Option (InstanceId × StateId)) → find q xs ≡ o → (b : Bool) → (y.0.0 == i.0) ≡ b
           → mark_of x p (Mapped (xs ++ y ∷ [])) i ≡ option_or (mark_of x p (Mapped xs) i) (if i.0 == y.0.0 then Some (record { place = 0; goal = y.1 }) else None)
-      one true is b at = rw (any_more q xs y, is, find_kept q xs (y ∷ []) is) refl
-      one false is true at = rw (any_more q xs y, is, at, turned i.0 y.0.0, at, find_new q xs y is at) refl
-      one false is false at = rw (any_more q xs y, is, at, turned i.0 y.0.0, at) refl
+      one (Some e) is b at = rw (list_any-append q xs (y ∷ []), find-append q xs (y ∷ []), any_found q xs, is) refl
+      one None is true at = rw (list_any-append q xs (y ∷ []), find-append q xs (y ∷ []), any_found q xs, is, at, turned i.0 y.0.0, at) refl
+      one None is false at = rw (list_any-append q xs (y ∷ []), find-append q xs (y ∷ []), any_found q xs, is, at, turned i.0 y.0.0, at) refl
 
 -- an entry of a slice more
 byte_of : (b : Bool) → bool_byte b ≡ cond b 1 0

@@ -26,17 +26,7 @@ use Rattle.hx_best.specs.Goals.{is_in_error, is_eligible, eligible_before, best_
 use Rattle.hx_best.specs.Targets.{is_target, is_shown_as, target, targets_at}
 use Rattle.hx_best.specs.Places.{Placing, model_in, wants_at, rows_at}
 use Rattle.hx_best.specs.Still.{is_there, is_at_goal, goal_on, stands, list_stands, map_stands, is_on, list_covers, map_covers}
-
-first : (a b : Bool) → (a && b) ≡ true → a ≡ true
-first true b e = refl
-first false b e = cc
-
-second : (a b : Bool) → (a && b) ≡ true → b ≡ true
-second true b e = e
-second false b e = cc
-
-both : (a b : Bool) → a ≡ true → b ≡ true → (a && b) ≡ true
-both a b e f = grind (arith, e, f)
+use Rattle.hx_lists.proofs.Conditions.{and-first, and-second, and-both}
 
 same_number : (a b : ℕ) → (a == b) ≡ true → a ≡ b
 same_number a b e = grind (arith, nat_tests, e)
@@ -56,10 +46,10 @@ all-sort lt q (x ∷ xs) = all-insert lt q x (sort_by lt xs) ∙ ap (λ (b : Boo
 -- and of those that pass another one
 all-filtered : {X Y : Type 0} (q : Y → Bool) (f : X → Y) (t : X → Bool) (xs : List X) → list_all (λ x. not (t x) || q (f x)) xs ≡ true → list_all q (map f (filter t xs)) ≡ true
 all-filtered q f t [] e = refl
-all-filtered {X} {Y} q f t (x ∷ xs) e = one (t x) refl (all-filtered q f t xs (second (not (t x) || q (f x)) (list_all (λ x. not (t x) || q (f x)) xs) e)) (first (not (t x) || q (f x)) (list_all (λ x. not (t x) || q (f x)) xs) e)
+all-filtered {X} {Y} q f t (x ∷ xs) e = one (t x) refl (all-filtered q f t xs (and-second (not (t x) || q (f x)) (list_all (λ x. not (t x) || q (f x)) xs) e)) (and-first (not (t x) || q (f x)) (list_all (λ x. not (t x) || q (f x)) xs) e)
   where
     one : (b : Bool) → t x ≡ b → list_all q (map f (filter t xs)) ≡ true → (not (t x) || q (f x)) ≡ true → list_all q (map f (if b then x ∷ filter t xs else filter t xs)) ≡ true
-    one true is more here = both (q (f x)) (list_all q (map f (filter t xs))) (grind (arith, is, here)) more
+    one true is more here = and-both (q (f x)) (list_all q (map f (filter t xs))) (grind (arith, is, here)) more
     one false is more here = more
 
 -- who is shown on an instance is shown there
@@ -111,9 +101,9 @@ row_passes q s p (r ∷ rows) all some = one (r.session.0 == s.0) refl (part_eq 
         → is_some (if a && b then Some r else row_of rows s p) ≡ true
         → (list_all q (items_at (λ r. r.part) p rows) ≡ true → is_some (row_of rows s p) ≡ true → (r : Row) × ((q r ≡ true) × ((r.session.0 == s.0) ≡ true)))
         → (r : Row) × ((q r ≡ true) × ((r.session.0 == s.0) ≡ true))
-    one true is true of all some more = (r, (first (q r) _ all, is))
+    one true is true of all some more = (r, (and-first (q r) _ all, is))
     one true is false of all some more = more all some
-    one false is true of all some more = more (second (q r) _ all) some
+    one false is true of all some more = more (and-second (q r) _ all) some
     one false is false of all some more = more all some
 
 -- what the entries are to show of a part: the replica of each instance where one is wanted stands, and each row is of such an instance
@@ -164,9 +154,9 @@ module _ (x : Placing) (p : PartId) (expects : Row → Bool) (shows : Shows x p 
       → list_all (λ e. not (is_target x.view x.resource p e) || is_at_goal (model_in x) (target x.models x.view x.resource p e)) es ≡ true
   each_done [] own = refl
   each_done (e ∷ es) own =
-      both (not (is_target x.view x.resource p e) || is_at_goal (model_in x) (target x.models x.view x.resource p e)) _
-      (session_done e.0 e.1 (one (session_in x.view.live e.1) (first (option_map_or (λ s. s.0 == e.0.0) (session_in x.view.live e.1) false) _ own)))
-      (each_done es (second (option_map_or (λ s. s.0 == e.0.0) (session_in x.view.live e.1) false) _ own))
+      and-both (not (is_target x.view x.resource p e) || is_at_goal (model_in x) (target x.models x.view x.resource p e)) _
+      (session_done e.0 e.1 (one (session_in x.view.live e.1) (and-first (option_map_or (λ s. s.0 == e.0.0) (session_in x.view.live e.1) false) _ own)))
+      (each_done es (and-second (option_map_or (λ s. s.0 == e.0.0) (session_in x.view.live e.1) false) _ own))
     where
       one : (o : Option SessionId) → option_map_or (λ s. s.0 == e.0.0) o false ≡ true → o ≡ Some e.0
       one None h = cc
@@ -180,7 +170,7 @@ module _ (x : Placing) (p : PartId) (expects : Row → Bool) (shows : Shows x p 
 suc_behind : (a b : ℕ) → a + suc b ≡ a + 1 + b
 suc_behind a b = omega arith
 
--- what stands before the first that passes
+-- what stands before the and-first that passes
 before_here : {X : Type 0} (q : X → Bool) (x : X) (xs : List X) → q x ≡ true → before_first q (x ∷ xs) ≡ []
 before_here q x xs e = let none : position_or_len q (x ∷ xs) ≡ 0 = grind (arith, e) in ap (λ (n : ℕ). take n (x ∷ xs)) none
 
@@ -205,12 +195,12 @@ module _ (x : Placing) (p : PartId) (i : InstanceId) (s : SessionId) (on : Some 
   pub failed_eligible : (failed : Bool) → failed ≡ is_error state → failed ≡ true → not failed ≡ is_eligible x.view p i
   failed_eligible failed is fails = grind (arith, is, fails, eligible_is)
 
--- the first entry of an instance in a list
+-- the and-first entry of an instance in a list
 entry_stands : (x : Placing) (p : PartId) (list : List InstanceId) (rank : ℕ) (i : InstanceId) → list_stands x p list rank ≡ true → list_any (λ j. j.0 == i.0) list ≡ true
     → stands x p i (best_below (model_in x) x.resource.ideal.replicas (length x.view.live) (rank + eligible_before x.view p list i)) ≡ true
 entry_stands x p [] rank i stand any = cc
 entry_stands x p (j ∷ list) rank i stand any =
-    one (j.0 == i.0) refl (is_eligible x.view p j) refl any (first (stands x p j (below rank)) _ stand) (second (stands x p j (below rank)) _ stand) (λ n. entry_stands x p list n i)
+    one (j.0 == i.0) refl (is_eligible x.view p j) refl any (and-first (stands x p j (below rank)) _ stand) (and-second (stands x p j (below rank)) _ stand) (λ n. entry_stands x p list n i)
   where
     below : ℕ → StateId
     below n = best_below (model_in x) x.resource.ideal.replicas (length x.view.live) n
@@ -243,7 +233,7 @@ entry_stands x p (j ∷ list) rank i stand any =
 mapped_stands : (x : Placing) (p : PartId) (map : List (InstanceId × StateId)) (i : InstanceId) → map_stands x p map ≡ true → list_any (λ e. e.0.0 == i.0) map ≡ true
     → stands x p i (option_map_or (λ e. e.1) (find (λ e. e.0.0 == i.0) map) dropped) ≡ true
 mapped_stands x p [] i stand any = cc
-mapped_stands x p (e ∷ map) i stand any = one (e.0.0 == i.0) refl any (first (stands x p e.0 e.1) _ stand) (mapped_stands x p map i (second (stands x p e.0 e.1) _ stand))
+mapped_stands x p (e ∷ map) i stand any = one (e.0.0 == i.0) refl any (and-first (stands x p e.0 e.1) _ stand) (mapped_stands x p map i (and-second (stands x p e.0 e.1) _ stand))
   where
     one : (a : Bool) → (e.0.0 == i.0) ≡ a → (a || list_any (λ e. e.0.0 == i.0) map) ≡ true → stands x p e.0 e.1 ≡ true
         → (list_any (λ e. e.0.0 == i.0) map ≡ true → stands x p i (option_map_or (λ e. e.1) (find (λ e. e.0.0 == i.0) map) dropped) ≡ true)
@@ -320,4 +310,4 @@ dropped_still x p gone none = all-map (target x.models x.view x.resource p) each
 
     all-map : (f : SessionId × InstanceId → Target) → ((e : SessionId × InstanceId) → is_at_goal (model_in x) (f e) ≡ true) → (es : List (SessionId × InstanceId)) → list_all (is_at_goal (model_in x)) (map f es) ≡ true
     all-map f h [] = refl
-    all-map f h (e ∷ es) = both (is_at_goal (model_in x) (f e)) (list_all (is_at_goal (model_in x)) (map f es)) (h e) (all-map f h es)
+    all-map f h (e ∷ es) = and-both (is_at_goal (model_in x) (f e)) (list_all (is_at_goal (model_in x)) (map f es)) (h e) (all-map f h es)

@@ -1,5 +1,5 @@
 -- What is known of a call that nothing refuses.
-use Rattle.std.proofs.Common.{◌≡◌, ℕ, ◌+◌, ◌*◌, ◌≤◌, ◌==◌, not, Bool, true, false, List, length, Option, None, Some, refl, subst, arith}
+use Rattle.std.proofs.Common.{◌≡◌, ℕ, ◌+◌, ◌*◌, ◌≤◌, ◌==◌, not, Bool, true, false, List, length, Option, None, Some, refl, sym, subst, arith}
 use Rattle.std.specs.Prelude.{◌<◌, ◌^◌, if◌then◌else◌, nat_lt, option_map}
 use Rattle.std.specs.Option.{option_or}
 use Rattle.std.proofs.lemmas.Bool.Decides.{nat_tests}
@@ -43,8 +43,8 @@ pub record IsFreeStep (b : Held) (step : Admin) : Type 0 where
   pub free : refusal_of b.cluster step ≡ None
   pub fits : weight_at b + step_weight step ≤ b.limit
 
-pub step_free : (b : Held) (step : Admin) → step_refusal b step ≡ None → IsFreeStep b step
-step_free b step e = one (refusal_of b.cluster step) refl e
+pub step_free : (b v : Held) (step : Admin) → b ≡ v → step_refusal v step ≡ None → IsFreeStep b step
+step_free b v step view free = one (refusal_of b.cluster step) refl (subst (λ (w : Held). step_refusal w step ≡ None) (sym view) free)
   where
     one : (o : Option StepFault) → refusal_of b.cluster step ≡ o → option_or (option_map steps.Step o) (full b (step_weight step) steps.HistoryFull) ≡ None → IsFreeStep b step
     one None is f = record { free = is; fits = full_free b (step_weight step) steps.HistoryFull f }

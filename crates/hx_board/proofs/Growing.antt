@@ -1,7 +1,7 @@
 -- A board after one event more.
-use Rattle.std.proofs.Common.{◌≡◌, ℕ, zero, suc, ◌+◌, ◌*◌, ◌≤◌, ◌<◌, ◌^◌, ◌==◌, not, Bool, true, false, List, [], ◌∷◌, ◌++◌, length, filter, map, Option, Some, None, refl, sym, ap, ◌∙◌, subst, arith}
-use Rattle.std.specs.Prelude.{if◌then◌else◌, take, drop, nat_lt, nat_le, slice_get, is_none}
-use Rattle.std.specs.List.{list_any, list_all}
+use Rattle.std.proofs.Common.{◌≡◌, ℕ, zero, suc, ◌+◌, ◌-◌, ◌*◌, ◌≤◌, ◌<◌, ◌^◌, ◌==◌, not, Bool, true, false, List, [], ◌∷◌, ◌++◌, length, filter, map, Option, Some, None, refl, sym, ap, ◌∙◌, subst, arith}
+use Rattle.std.specs.Prelude.{if◌then◌else◌, drop, nat_lt, nat_le, slice_get, is_none}
+use Rattle.std.specs.List.{list_all}
 use Rattle.std.proofs.lemmas.Bool.Decides.{nat_tests}
 use Rattle.hx_ids.specs.declared.SessionId.{SessionId}
 use Rattle.hx_ids.specs.declared.MsgId.{MsgId}
@@ -9,7 +9,6 @@ use Rattle.hx_ids.specs.declared.PassNo.{PassNo}
 use Rattle.hx_ids.specs.declared.ResourceId.{ResourceId}
 use Rattle.hx_ids.specs.declared.ControllerId.{ControllerId}
 use Rattle.hx_ids.specs.declared.Live.{Live}
-use Rattle.hx_cluster.specs.declared.description.Spec.{Spec}
 use Rattle.hx_cluster.specs.declared.description.Resource.{Resource}
 use Rattle.hx_cluster.specs.declared.state.Message.{Message}
 use Rattle.hx_cluster.specs.declared.state.Cluster.{Cluster}
@@ -24,24 +23,29 @@ use Rattle.hx_cluster.specs.declared.happenings.Event.{Event}
 use Rattle.hx_cluster.specs.declared.happenings.Event.TheVariants as events
 use Rattle.hx_ideal.specs.IdealState.{put_list, put_map}
 use Rattle.hx_cluster.specs.Ends.{resource_at, is_live, is_session}
-use Rattle.hx_cluster.specs.Steps.{opening, after, live_of, without, without_all, ended_of, ended_by, beaten_of, changed_at, with_resource, asked_of, marked_down, with_down, is_leader, refusal_of, not_live, did_of, with_mode}
+use Rattle.hx_cluster.specs.Steps.{opening, after, live_of, without, without_all, ended_of, ended_by, beaten_of, changed_at, with_resource, asked_of, marked_down, with_down, is_leader, refusal_of, not_live, did_of, with_mode, has_controller}
 use Rattle.hx_cluster.specs.declared.happenings.WriteRefusal.TheVariants as writes
 use Rattle.hx_cluster.specs.Messages.{placed_of, after_placed, after_proposal, after_proposals, raised_pass, next_pass, after_dispatch, pending_of, as_written, after_take, written_of, after_write, after_ack}
 use Rattle.hx_cluster.specs.Marks.{take_refusal, write_fault, write_refusal, ack_refusal}
-use Rattle.hx_cluster.specs.Events.{next, replay, is_later, IsStep, IsLegal}
+use Rattle.hx_cluster.specs.Events.{next, replay, is_later, is_pass, IsStep, IsLegal}
 use Rattle.hx_cluster.specs.Weight.{step_weight, weight_of, weight_of_all, owed_in, owed_of}
 use Rattle.hx_cluster.specs.Numbered.{is_end}
 use Rattle.hx_cluster.specs.Room.{half, HasRoom}
 use Rattle.hx_safe.specs.Weighed.{IsWeighed}
 use Rattle.hx_cluster.specs.Ranged.{IsRanged}
-use Rattle.hx_cluster.specs.Valid.{is_within, IsValid}
+use Rattle.hx_cluster.specs.Valid.{is_within}
 use Rattle.hx_same.proofs.Front.{take-get}
 use Rattle.hx_safe.specs.Ordered.{rises}
 use Rattle.hx_safe.proofs.Counting.{all-le}
 use Rattle.hx_safe.proofs.Whole.{reached_ranged}
 use Rattle.hx_safe.proofs.Weighing.{reached_weighed, found-live, owed_proposals, paid_without, paid_take, paid_write, paid_ack}
+use Rattle.hx_history.specs.declared.entries.History.{History}
 use Rattle.hx_board.specs.declared.board.Board.TheInside.{Inside}
-use Rattle.hx_board.specs.Board.{lines_in, opens, IsBoard}
+use Rattle.hx_board.specs.Board.{Held, held, weight_at, lines_in, opens, IsBoard}
+use Rattle.hx_board.specs.Refusals.{read_refusal}
+use Rattle.hx_board.proofs.Free.{read_free}
+use Rattle.hx_safe.proofs.Weighing.{length-filter, length-removed}
+use Rattle.hx_same.proofs.Alike.{tail-same}
 
 -- histories with one event more
 pub replay-more : (c : Cluster) (h : List Event) (e : Event) → replay c (h ++ e ∷ []) ≡ next (replay c h) e
@@ -225,21 +229,9 @@ owed_end c (steps.End i) e free = one (live_of c.live i) refl free
 owed_end c _ e free = cc
 
 -- other steps owe no more than before, but for the end of the session that a join opens
-length-filter : {X : Type 0} (k : X → Bool) (xs : List X) → length (filter k xs) ≤ length xs
-length-filter k [] = omega arith
-length-filter k (x ∷ xs) = grind (arith, length-filter k xs)
-
-length-removed : {X : Type 0} (q : X → Bool) (xs : List X) → list_any q xs ≡ true → length (filter (λ y. not (q y)) xs) + 1 ≤ length xs
-length-removed q [] e = cc
-length-removed q (x ∷ xs) e = grind (arith, e, length-removed q xs, length-filter (λ y. not (q y)) xs)
-
 owed-filter : (k : Message → Bool) (ms : List Message) → owed_in (filter k ms) ≤ owed_in ms
 owed-filter k [] = omega arith
-owed-filter k (m ∷ ms) = one (k m) (owed-filter k ms)
-  where
-    one : (b : Bool) → owed_in (filter k ms) ≤ owed_in ms → owed_in (if b then m ∷ filter k ms else filter k ms) ≤ owed_in (m ∷ ms)
-    one true less = omega (arith, less)
-    one false less = omega (arith, less)
+owed-filter k (m ∷ ms) = grind (arith, owed-filter k ms)
 
 owed_without : (c : Cluster) (s : SessionId) → owed_of (without c s) ≤ owed_of c
 owed_without c s = omega (arith, length-filter (λ l. not (l.session.0 == s.0)) c.live, owed-filter (λ m. not (m.session.0 == s.0)) c.mail)
@@ -335,79 +327,120 @@ room_of a b =
     low : (n w : ℕ) → w ≤ 2 ^ 40 → nat_le n w ≡ true → nat_lt n half ≡ true
     low n w small e = let le : n ≤ w = grind (arith, nat_tests, e) in let less : n < half = omega (arith, le, small) in grind (arith, nat_tests, less)
 
--- what a call that records an event does to a board
-pub record IsGrown (a b : Inside) (e : Event) : Type 0 where
+-- what a call that records an event leaves of a board: the cluster, the history, what it weighs and what is owed; the rest stays
+pub record IsGrown (a : Inside) (after : Cluster) (past : History) (weight owed : ℕ) (e : Event) : Type 0 where
   pub step : IsStep a.records e
   pub other : lines_in (e ∷ []) ≡ []
-  pub spec : b.spec ≡ a.spec
-  pub records : b.records ≡ next a.records e
-  pub history : b.history.entries.items ≡ a.history.entries.items ++ e ∷ []
-  pub lines : b.lines.items ≡ a.lines.items
-  pub taken : b.taken ≡ a.taken
-  pub limit : b.limit ≡ a.limit
-  pub charges : b.charges ≡ a.charges
-  pub weight : b.weight ≡ a.weight + weight_of e
-  pub within : b.weight ≤ a.limit
-  pub owed : owed_of (next a.records e) ≤ b.owed
-  pub few : b.owed ≤ b.weight
-  pub room : b.owed ≤ b.history.entries.spare
+  pub records : after ≡ next a.records e
+  pub history : past.entries.items ≡ a.history.entries.items ++ e ∷ []
+  pub weighs : weight ≡ a.weight + weight_of e
+  pub within : weight ≤ a.limit
+  pub pays : owed_of (next a.records e) ≤ owed
+  pub few : owed ≤ weight
+  pub room : owed ≤ past.entries.spare
 
-pub grown : (a b : Inside) (e : Event) → IsBoard a → IsGrown a b e → IsBoard b
-grown a b e h g =
+pub grown : (a : Inside) (after : Cluster) (past : History) (weight owed : ℕ) (e : Event) → IsBoard a → IsGrown a after past weight owed e
+    → IsBoard (record a { records = after; history = past; weight = weight; owed = owed })
+grown a after past weight owed e h g =
     let from = opening a.spec in
-    let past = a.history.entries.items in
-    let step : IsStep (replay from past) e = subst (λ (c : Cluster). IsStep c e) (sym h.replays) g.step in
-    let legal : IsLegal from (past ++ e ∷ []) = legal-more from past e h.legal step in
-    let replays : replay from (past ++ e ∷ []) ≡ next a.records e = replay-more from past e ∙ ap (λ (c : Cluster). next c e) h.replays in
-    let same : lines_in (past ++ e ∷ []) ≡ lines_in past = lines-more past e ∙ ap (λ (ns : List ℕ). lines_in past ++ ns) g.other ∙ append-none (lines_in past) in
-    let now : lines_in b.history.entries.items ≡ lines_in past = ap lines_in g.history ∙ same in
-    let line : b.records.line ≡ a.records.line = ap (λ (c : Cluster). c.line) g.records ∙ line_next a.records e g.other in
-    let taken : a.taken ≡ b.taken = sym g.taken in
-    let lines : a.lines.items ≡ b.lines.items = sym g.lines in
-    let left : list_all (is_later b.records.line) (drop b.taken b.lines.items) ≡ list_all (is_later a.records.line) (drop a.taken a.lines.items) =
-    (λ i. list_all (is_later (line i)) (drop (g.taken i) (g.lines i))) in
+    let before = a.history.entries.items in
+    let step : IsStep (replay from before) e = subst (λ (c : Cluster). IsStep c e) (sym h.replays) g.step in
+    let legal : IsLegal from (before ++ e ∷ []) = legal-more from before e h.legal step in
+    let replays : replay from (before ++ e ∷ []) ≡ next a.records e = replay-more from before e ∙ ap (λ (c : Cluster). next c e) h.replays in
+    let same : lines_in (before ++ e ∷ []) ≡ lines_in before = lines-more before e ∙ ap (λ (ns : List ℕ). lines_in before ++ ns) g.other ∙ append-none (lines_in before) in
+    let now : lines_in past.entries.items ≡ lines_in before = ap lines_in g.history ∙ same in
+    let line : after.line ≡ a.records.line = ap (λ (c : Cluster). c.line) g.records ∙ line_next a.records e g.other in
     record {
-      valid = subst (λ (s : Spec). IsValid s) (sym g.spec) h.valid;
-      legal = subst (λ (s : Spec). IsLegal (opening s) b.history.entries.items) (sym g.spec) (subst (λ (es : List Event). IsLegal from es) (sym g.history) legal);
-      replays = ap (λ (s : Spec). replay (opening s) b.history.entries.items) g.spec ∙ ap (λ (es : List Event). replay from es) g.history ∙ replays ∙ sym g.records;
-      taken = ap length now ∙ h.taken ∙ taken;
-      front = now ∙ h.front ∙ (λ i. take (taken i) (lines i));
-      later = left ∙ h.later;
-      rising = subst (λ (ns : List ℕ). rises nat_lt ns ≡ true) lines h.rising;
-      weighs = omega (arith, ap weight_of_all g.history, weight-more past e, g.charges, g.weight, h.weighs);
-      within = omega (arith, g.within, g.limit);
-      limited = omega (arith, h.limited, g.limit);
-      owed = omega (arith, ap owed_of g.records, g.owed);
+      valid = h.valid;
+      legal = subst (λ (es : List Event). IsLegal from es) (sym g.history) legal;
+      replays = ap (λ (es : List Event). replay from es) g.history ∙ replays ∙ sym g.records;
+      taken = ap length now ∙ h.taken;
+      front = now ∙ h.front;
+      later = (λ i. list_all (is_later (line i)) (drop a.taken a.lines.items)) ∙ h.later;
+      rising = h.rising;
+      weighs = omega (arith, ap weight_of_all g.history, weight-more before e, g.weighs, h.weighs);
+      within = g.within;
+      limited = h.limited;
+      owed = omega (arith, ap owed_of g.records, g.pays);
       few = g.few;
       room = g.room;
     }
 
--- a board after a line that is taken
-pub record IsLined (a b : Inside) (n : ℕ) : Type 0 where
+-- room was made for so many events more
+abbrev pub IsRoomy : ℕ → ℕ → History → History → Type 0
+IsRoomy owed more before made = record {
+  items : made.entries.items ≡ before.entries.items;
+  spare : before.entries.spare ≤ made.entries.spare;
+  room : owed + more ≤ made.entries.spare;
+}
+
+-- an event was recorded
+abbrev pub IsRecorded : History → History → Event → Type 0
+IsRecorded made past e = record {
+  items : past.entries.items ≡ made.entries.items ++ e ∷ [];
+  spare : past.entries.spare + 1 ≡ made.entries.spare;
+}
+
+-- an event that owes nothing more is recorded in room that was made for it
+pub recorded : (a : Inside) (seen : Held) (after : Cluster) (made past : History) (weight : ℕ) (x e : Event) → IsBoard a → held a ≡ seen → IsStep seen.cluster e → lines_in (e ∷ []) ≡ [] → after ≡ next a.records e
+    → owed_of (next a.records e) ≡ owed_of a.records → weight ≡ a.weight + weight_of e → weight_at seen + weight_of e ≤ seen.limit → IsRoomy a.owed 1 a.history made → IsRecorded made past x → x ≡ e
+    → IsBoard (record a { records = after; history = past; weight = weight })
+recorded a seen after made past weight x e h view step other records pays weighs fits roomy told same =
+    let room : weight_at (held a) + weight_of e ≤ a.limit = subst (λ (v : Held). weight_at v + weight_of e ≤ v.limit) (sym view) fits in
+    grown a after past weight a.owed e h (record {
+      step = subst (λ (v : Held). IsStep v.cluster e) (sym view) step;
+      other = other;
+      records = records;
+      history = told.items ∙ (λ i. roomy.items i ++ same i ∷ []);
+      weighs = weighs;
+      within = omega (arith, room, h.weighs, weighs);
+      pays = omega (arith, pays, h.owed);
+      few = omega (arith, h.few, weighs);
+      room = omega (arith, roomy.room, told.spare);
+    })
+
+-- a read of a controller's pass changes nothing else
+pub shown : (a : Inside) (seen : Held) (made past : History) (k : ControllerId) (pass : PassNo) (e : Event) → IsBoard a → held a ≡ seen → has_controller seen.cluster k ≡ true → read_refusal seen k pass ≡ None
+    → (is_pass seen.cluster k pass ≡ true → IsStep seen.cluster e) → lines_in (e ∷ []) ≡ [] → next a.records e ≡ a.records → weight_of e ≡ 1 → IsRoomy a.owed 1 a.history made → IsRecorded made past e
+    → IsBoard (record a { history = past; weight = a.weight + 1 })
+shown a seen made past k pass e h view there free step other stays weight roomy told =
+    let may = read_free seen k pass free in
+    let now : is_pass seen.cluster k pass ≡ true = grind (arith, there, may.now) in
+    let weighs : a.weight + 1 ≡ a.weight + weight_of e = omega (arith, weight) in
+    let fits : weight_at seen + weight_of e ≤ seen.limit = omega (arith, may.fits, weight) in
+    recorded a seen a.records made past (a.weight + 1) e e h view (step now) other (sym stays) (ap owed_of stays) weighs fits roomy told refl
+
+-- an event that was owed finds room, weighs nothing, and is paid
+pub paid_room : (a : Inside) (left : ℕ) → IsBoard a → left + 1 ≤ owed_of a.records → 1 ≤ a.history.entries.spare
+paid_room a left h pays = omega (arith, pays, h.owed, h.room)
+
+pub paid : (a : Inside) (after : Cluster) (past : History) (e : Event) → IsBoard a → IsStep a.records e → lines_in (e ∷ []) ≡ [] → weight_of e ≡ 0 → after ≡ next a.records e → owed_of (next a.records e) + 1 ≤ owed_of a.records
+    → IsRecorded a.history past e → IsBoard (record a { records = after; history = past; owed = a.owed - 1 })
+paid a after past e h step other weight records pays told =
+    grown a after past a.weight (a.owed - 1) e h (record {
+      step = step;
+      other = other;
+      records = records;
+      history = told.items;
+      weighs = omega (arith, weight);
+      within = h.within;
+      pays = omega (arith, pays, h.owed);
+      few = omega (arith, h.few);
+      room = omega (arith, pays, h.owed, h.room, told.spare);
+    })
+
+-- what a call that takes a line leaves of a board
+pub record IsLined (a : Inside) (after : Cluster) (past : History) (n : ℕ) : Type 0 where
   pub follows : slice_get a.lines.items a.taken ≡ Some n
-  pub spec : b.spec ≡ a.spec
-  pub records : b.records ≡ next a.records (events.Line n)
-  pub history : b.history.entries.items ≡ a.history.entries.items ++ events.Line n ∷ []
-  pub lines : b.lines.items ≡ a.lines.items
-  pub taken : b.taken ≡ a.taken + 1
-  pub limit : b.limit ≡ a.limit
-  pub charges : b.charges ≡ a.charges
-  pub weight : b.weight ≡ a.weight + 1
-  pub within : b.weight ≤ a.limit
-  pub owed : b.owed ≡ a.owed
-  pub room : b.owed ≤ b.history.entries.spare
+  pub records : after ≡ next a.records (events.Line n)
+  pub history : past.entries.items ≡ a.history.entries.items ++ events.Line n ∷ []
+  pub within : a.weight + 1 ≤ a.limit
+  pub room : a.owed ≤ past.entries.spare
 
 drop-get : {X : Type 0} (xs : List X) (k : ℕ) (x : X) → slice_get xs k ≡ Some x → drop k xs ≡ x ∷ drop (k + 1) xs
 drop-get [] k x e = cc
 drop-get (y ∷ xs) zero x e = grind (arith, e)
 drop-get (y ∷ xs) (suc k) x e = grind (arith, drop-get xs k x e)
-
-tail-same : {X : Type 0} {x y : X} {xs ys : List X} → x ∷ xs ≡ y ∷ ys → xs ≡ ys
-tail-same {X} {x} {y} {xs} {ys} e = ap rest e
-  where
-    rest : List X → List X
-    rest [] = []
-    rest (z ∷ zs) = zs
 
 rises-get : (xs : List ℕ) (k : ℕ) (x : ℕ) → rises nat_lt xs ≡ true → slice_get xs k ≡ Some x → list_all (nat_lt x) (drop (k + 1) xs) ≡ true
 rises-get [] k x up e = cc
@@ -417,35 +450,30 @@ rises-get (y ∷ xs) (suc k) x up e =
     let same : drop (suc k + 1) (y ∷ xs) ≡ drop (k + 1) xs = tail-same (sym here ∙ drop-get xs k x e) in
     ap (list_all (nat_lt x)) same ∙ rises-get xs k x (grind (arith, up)) e
 
-pub lined : (a b : Inside) (n : ℕ) → IsBoard a → IsLined a b n → IsBoard b
-lined a b n h g =
+pub lined : (a : Inside) (after : Cluster) (past : History) (n : ℕ) → IsBoard a → IsLined a after past n → IsBoard (record a { records = after; history = past; taken = a.taken + 1; weight = a.weight + 1 })
+lined a after past n h g =
     let from = opening a.spec in
-    let past = a.history.entries.items in
+    let before = a.history.entries.items in
     let e = events.Line n in
     let left : list_all (is_later a.records.line) (n ∷ drop (a.taken + 1) a.lines.items) ≡ true = subst (λ (ns : List ℕ). list_all (is_later a.records.line) ns ≡ true) (drop-get a.lines.items a.taken n g.follows) h.later in
-    let step : IsStep (replay from past) e = subst (λ (c : Cluster). IsStep c e) (sym h.replays) (let now : is_later a.records.line n ≡ true = grind (arith, left) in now) in
-    let legal : IsLegal from (past ++ e ∷ []) = legal-more from past e h.legal step in
-    let replays : replay from (past ++ e ∷ []) ≡ next a.records e = replay-more from past e ∙ ap (λ (c : Cluster). next c e) h.replays in
-    let now : lines_in b.history.entries.items ≡ lines_in past ++ n ∷ [] = ap lines_in g.history ∙ lines-more past e in
-    let front : lines_in b.history.entries.items ≡ take (a.taken + 1) a.lines.items = now ∙ ap (λ (ns : List ℕ). ns ++ n ∷ []) h.front ∙ sym (take-get a.lines.items a.taken n g.follows) in
-    let taken : a.taken + 1 ≡ b.taken = sym g.taken in
-    let lines : a.lines.items ≡ b.lines.items = sym g.lines in
-    let line : b.records.line ≡ Some n = ap (λ (c : Cluster). c.line) g.records in
-    let more : list_all (is_later b.records.line) (drop b.taken b.lines.items) ≡ list_all (nat_lt n) (drop (a.taken + 1) a.lines.items) =
-    (λ i. list_all (is_later (line i)) (drop (g.taken i) (g.lines i))) in
+    let step : IsStep (replay from before) e = subst (λ (c : Cluster). IsStep c e) (sym h.replays) (let now : is_later a.records.line n ≡ true = grind (arith, left) in now) in
+    let legal : IsLegal from (before ++ e ∷ []) = legal-more from before e h.legal step in
+    let replays : replay from (before ++ e ∷ []) ≡ next a.records e = replay-more from before e ∙ ap (λ (c : Cluster). next c e) h.replays in
+    let now : lines_in past.entries.items ≡ lines_in before ++ n ∷ [] = ap lines_in g.history ∙ lines-more before e in
+    let line : after.line ≡ Some n = ap (λ (c : Cluster). c.line) g.records in
     record {
-      valid = subst (λ (s : Spec). IsValid s) (sym g.spec) h.valid;
-      legal = subst (λ (s : Spec). IsLegal (opening s) b.history.entries.items) (sym g.spec) (subst (λ (es : List Event). IsLegal from es) (sym g.history) legal);
-      replays = ap (λ (s : Spec). replay (opening s) b.history.entries.items) g.spec ∙ ap (λ (es : List Event). replay from es) g.history ∙ replays ∙ sym g.records;
-      taken = ap length now ∙ push-length (lines_in past) n ∙ (let same : length (lines_in past) + 1 ≡ b.taken = omega (arith, h.taken, g.taken) in same);
-      front = front ∙ (λ i. take (taken i) (lines i));
-      later = more ∙ rises-get a.lines.items a.taken n h.rising g.follows;
-      rising = subst (λ (ns : List ℕ). rises nat_lt ns ≡ true) lines h.rising;
-      weighs = omega (arith, ap weight_of_all g.history, weight-more past e, g.charges, g.weight, h.weighs);
-      within = omega (arith, g.within, g.limit);
-      limited = omega (arith, h.limited, g.limit);
-      owed = omega (arith, ap owed_of g.records, h.owed, g.owed);
-      few = omega (arith, h.few, g.owed, g.weight);
+      valid = h.valid;
+      legal = subst (λ (es : List Event). IsLegal from es) (sym g.history) legal;
+      replays = ap (λ (es : List Event). replay from es) g.history ∙ replays ∙ sym g.records;
+      taken = ap length now ∙ push-length (lines_in before) n ∙ ap (λ (k : ℕ). k + 1) h.taken;
+      front = now ∙ ap (λ (ns : List ℕ). ns ++ n ∷ []) h.front ∙ sym (take-get a.lines.items a.taken n g.follows);
+      later = (λ i. list_all (is_later (line i)) (drop (a.taken + 1) a.lines.items)) ∙ rises-get a.lines.items a.taken n h.rising g.follows;
+      rising = h.rising;
+      weighs = omega (arith, ap weight_of_all g.history, weight-more before e, h.weighs);
+      within = g.within;
+      limited = h.limited;
+      owed = omega (arith, ap owed_of g.records, h.owed);
+      few = omega (arith, h.few);
       room = g.room;
     }
 

@@ -28,15 +28,10 @@ fn throttle(cluster: &Cluster, proposal: &Proposal) -> Result<Placed, AllocError
     ensures { IfOk result (λ placed.
         placed ≡ throttled_from cluster.now proposal.now 0 cluster.now.rules) }
 {
-    let Proposal {
-        session,
-        part,
-        from,
-        to,
-    } = *proposal;
     for (place, rule) in cluster.rules.as_slice().iter().enumerate() {
-        if rule.matches(from, to) {
-            let load = cluster.load_of(rule, cluster.key_of(rule.scope, session, part));
+        if rule.matches(proposal.from, proposal.to) {
+            let key = cluster.key_of(rule.scope, proposal.session, proposal.part);
+            let load = cluster.load_of(rule, key);
             if rule.limit as usize <= load {
                 return Ok(Placed::OverThrottle {
                     rule: number(place)?,

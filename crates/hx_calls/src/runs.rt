@@ -26,26 +26,18 @@ use std::alloc::AllocError;
 fn as_taken(message: Message, session: SessionId, id: MsgId) -> Message
     ensures { result ≡ as_taken_of session id message }
 {
-    if message.has_id(session, id) {
-        Message {
-            taken: true,
-            ..message
-        }
-    } else {
-        message
+    Message {
+        taken: message.taken || message.has_id(session, id),
+        ..message
     }
 }
 
 fn as_written(message: Message, session: SessionId, id: MsgId) -> Message
     ensures { result ≡ as_written_of session id message }
 {
-    if message.has_id(session, id) {
-        Message {
-            written: true,
-            ..message
-        }
-    } else {
-        message
+    Message {
+        written: message.written || message.has_id(session, id),
+        ..message
     }
 }
 
@@ -146,7 +138,7 @@ fn clear_flag(flags: &mut Seq<(SessionId, PartId)>, session: SessionId, part: Pa
 }
 
 /// Which flags stand once an outcome has come.
-fn settle_flags(flags: &mut Seq<(SessionId, PartId)>, message: &Message, outcome: Outcome)
+pub fn settle_flags(flags: &mut Seq<(SessionId, PartId)>, message: &Message, outcome: Outcome)
     ensures { flags.new ≡ flags_after flags.old message.now outcome }
 {
     match outcome {

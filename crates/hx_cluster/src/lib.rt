@@ -30,3 +30,4 @@ pub use planning::{
 pub use readers::{message_on, state_on};
 pub use refusals::{MOST_RESOURCES, is_flag_of, refuses_on};
 pub use state::{Cluster, Message, Row};
+pub use steps::add_flag;

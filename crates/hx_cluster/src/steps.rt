@@ -222,7 +222,8 @@ fn is_flag_before(flag: &(SessionId, PartId), other: (SessionId, PartId)) -> boo
     *flag < other
 }
 
-fn add_flag(
+/// Puts a flag in its place.
+pub fn add_flag(
     flags: &mut Seq<(SessionId, PartId)>,
     flag: (SessionId, PartId),
 ) -> Result<(), AllocError>

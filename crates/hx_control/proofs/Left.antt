@@ -60,31 +60,16 @@ calls_left nexts.Send live = refl
 calls_left nexts.Post live = refl
 
 mails_few : (k : Next) (n : ℕ) → mails_at k n ≤ n
-mails_few nexts.Begin n = omega arith
-mails_few nexts.Live n = omega arith
 mails_few (nexts.Mail m) n = omega arith
-mails_few (nexts.States m) n = omega arith
-mails_few nexts.Ideals n = omega arith
-mails_few nexts.Send n = omega arith
-mails_few nexts.Post n = omega arith
+mails_few _ n = omega arith
 
 states_few : (k : Next) (n : ℕ) → states_at k n ≤ n
-states_few nexts.Begin n = omega arith
-states_few nexts.Live n = omega arith
-states_few (nexts.Mail m) n = omega arith
 states_few (nexts.States m) n = omega arith
-states_few nexts.Ideals n = omega arith
-states_few nexts.Send n = omega arith
-states_few nexts.Post n = omega arith
+states_few _ n = omega arith
 
 others_few : (k : Next) → others_at k ≤ 3
 others_few nexts.Begin = omega arith
-others_few nexts.Live = omega arith
-others_few (nexts.Mail m) = omega arith
-others_few (nexts.States m) = omega arith
-others_few nexts.Ideals = omega arith
-others_few nexts.Send = omega arith
-others_few nexts.Post = omega arith
+others_few _ = omega arith
 
 -- they are few
 pub record AreFew (mails states others : ℕ) : Type 0 where

@@ -153,25 +153,24 @@ all_three : {X : Type 0} (p q r t : X → Bool) → ((x : X) → p x ≡ true �
 all_three p q r t h xs a b c =
     all_with (λ x. p x && q x) r t (λ x ab c'. let ps = both (p x) (q x) ab in h x ps.0 ps.1 c') xs (all_with p q (λ x. p x && q x) (λ x a' b'. grind (arith, a', b')) xs a b) c
 
+items_good : {X : Type 0} (session_of : X → SessionId) (part_of : X → PartId) (there good : X → Bool) (live : List (SessionId × InstanceId)) (xs : List X)
+    → ((x : X) → is_shown live (session_of x) ≡ true → there x ≡ true → single session_of part_of xs x ≡ true → good x ≡ true)
+    → are_distinct live ≡ true → are_read session_of part_of there live (Some xs) ≡ true → list_all good xs ≡ true
+items_good session_of part_of there good live xs each d e =
+    let h = read session_of part_of there live xs d e in
+    all_three (shown_in session_of live) there (single session_of part_of xs) good each xs h.fit h.good h.once
+
 pub rows_good : (models : List ModelParts) (view : View) → are_distinct view.live ≡ true
     → are_read (λ (r : Row). r.session) (λ (r : Row). r.part) (is_row_there models view.ideals.resources) view.live (Some view.rows) ≡ true
     → list_all (is_good_row models view) view.rows ≡ true
 rows_good models view d e =
-    let session_of : Row → SessionId = λ r. r.session in
-    let part_of : Row → PartId = λ r. r.part in
-    let h = read session_of part_of (is_row_there models view.ideals.resources) view.live view.rows d e in
-    all_three (shown_in session_of view.live) (is_row_there models view.ideals.resources) (single session_of part_of view.rows) (is_good_row models view)
-    (λ r a b c. grind (arith, a, b, c)) view.rows h.fit h.good h.once
+    items_good (λ (r : Row). r.session) (λ (r : Row). r.part) (is_row_there models view.ideals.resources) (is_good_row models view) view.live view.rows (λ r a b c. grind (arith, a, b, c)) d e
 
 pub mail_good : (models : List ModelParts) (view : View) → are_distinct view.live ≡ true
     → are_read (λ (m : Message). m.session) (λ (m : Message). m.part) (is_message_there models view.ideals.resources) view.live (Some view.mail) ≡ true
     → list_all (is_good_message models view) view.mail ≡ true
 mail_good models view d e =
-    let session_of : Message → SessionId = λ m. m.session in
-    let part_of : Message → PartId = λ m. m.part in
-    let h = read session_of part_of (is_message_there models view.ideals.resources) view.live view.mail d e in
-    all_three (shown_in session_of view.live) (is_message_there models view.ideals.resources) (single session_of part_of view.mail) (is_good_message models view)
-    (λ m a b c. grind (arith, a, b, c)) view.mail h.fit h.good h.once
+    items_good (λ (m : Message). m.session) (λ (m : Message). m.part) (is_message_there models view.ideals.resources) (is_good_message models view) view.live view.mail (λ m a b c. grind (arith, a, b, c)) d e
 
 -- what is behind items that aren't read, and behind the last session
 pub nothing_read : {X : Type 0} (session_of : X → SessionId) (part_of : X → PartId) (good : X → Bool) (live : List (SessionId × InstanceId)) → are_read session_of part_of good live None ≡ false

@@ -12,6 +12,7 @@ ghost use Rattle.hx_formed.specs.Wanted.{are_good_ideals};
 mod formed;
 mod mail;
 mod places;
+mod reads;
 mod rows;
 mod sessions;
 

@@ -1,82 +1,34 @@
 //! Whether rows are good ones.
-ghost use Rattle.std.specs.Prelude.{◌≡◌, ◌&&◌, ◌==◌, ◌||◌, not, true, false, None, Some, nat_lt};
-ghost use Rattle.std.specs.Prelude.{MatchOption, IfOk};
+ghost use Rattle.std.specs.Prelude.{◌≡◌, true, IfOk};
 ghost use Rattle.std.specs.List.{list_all};
 ghost use Rattle.hx_lists.specs.Lists.{count};
 ghost use Rattle.hx_cluster.specs.Ends.{is_row};
 ghost use Rattle.hx_cluster.specs.Views.{is_good_row};
 ghost use Rattle.hx_parts.specs.Parts.{HasSameAt};
-ghost use Rattle.hx_formed.specs.Reads.{first_part, is_row_there, behind, are_read};
+ghost use Rattle.hx_formed.specs.Reads.{is_row_there};
 ghost use Rattle.hx_formed.specs.Sessions.{are_distinct};
 
 use crate::places::Place;
+use crate::reads::{Shown, are_read};
 use crate::{is_good_part, is_good_state};
 use hx_cluster::{Resource, Row, View};
-use hx_ids::{InstanceId, PartId, SessionId};
+use hx_ids::{PartId, SessionId};
 use hx_model::Model;
 use hx_parts::ByPart;
 use std::alloc::{AllocError, Global};
 
-/// What stands behind the rows of a session at the front, where those rise in part and are in
-/// place.
-fn behind<'a>(
-    models: &[Model],
-    resources: &[Resource],
-    session: SessionId,
-    rows: &'a [Row],
-) -> Option<&'a [Row]>
-    ensures { let after = behind (λ (r : Row). r.session) (λ (r : Row). r.part)
-        (is_row_there models.now resources.now) session first_part rows.now in
-        MatchOption result (after ≡ None) (λ rest. after ≡ Some rest.now) }
-{
-    let mut at = Place::first(models, resources);
-    for (place, row) in rows.iter().enumerate() {
-        if row.session != session {
-            return Some(&rows[place..]);
-        }
-        at = at.next(models, resources, row.part, row.state)?;
-    }
-    Some(&rows[rows.len()..])
-}
+impl Shown for Row {
+    ghost session_of = { λ row. row.session };
 
-/// Whether rows are those of these sessions one after another, which rise in part and are in
-/// place.
-#[tactic(auto, using(crate::proofs::Read::nothing_read, crate::proofs::Read::all_read))]
-fn are_of(
-    models: &[Model],
-    resources: &[Resource],
-    live: &[(SessionId, InstanceId)],
-    rows: &[Row],
-) -> bool
-    ensures { result
-        ≡ are_read (λ (r : Row). r.session) (λ (r : Row). r.part)
-        (is_row_there models.now resources.now) live.now (Some rows.now) }
-{
-    let mut rest = rows;
-    for shown in live {
-        match behind(models, resources, shown.0, rest) {
-            Some(behind) => rest = behind,
-            None => return false,
-        }
-    }
-    rest.is_empty()
-}
+    ghost is_there = { is_row_there };
 
-/// Whether the rows are those of the live sessions one after another, which rise in part and are
-/// in place.
-fn are_read(models: &[Model], view: &View) -> bool
-    ensures { result
-        ≡ are_read (λ (r : Row). r.session) (λ (r : Row). r.part)
-        (is_row_there models.now view.now.ideals.resources) view.now.live
-        (Some view.now.rows) }
-{
-    let resources = view.ideals.resources.as_slice();
-    are_of(
-        models,
-        resources,
-        view.live.as_slice(),
-        view.rows.as_slice(),
-    )
+    fn session(&self) -> SessionId {
+        self.session
+    }
+
+    fn place_behind(&self, models: &[Model], resources: &[Resource], at: Place) -> Option<Place> {
+        at.next(models, resources, self.part, self.state)
+    }
 }
 
 fn rows_on(rows: &[Row], session: SessionId, part: PartId) -> usize
@@ -117,7 +69,13 @@ pub fn has_good_rows(alloc: Global, models: &[Model], view: &View) -> Result<boo
     requires { are_distinct view.now.live ≡ true }
     ensures { IfOk result (λ is. is ≡ list_all (is_good_row models.now view.now) view.now.rows) }
 {
-    if are_read(models, view) {
+    let resources = view.ideals.resources.as_slice();
+    if are_read(
+        models,
+        resources,
+        view.live.as_slice(),
+        view.rows.as_slice(),
+    ) {
         return Ok(true);
     }
     let kept = ByPart::new(alloc, view.rows.as_slice())?;

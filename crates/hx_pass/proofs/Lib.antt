@@ -1,7 +1,8 @@
-mod Examples
+pub mod Examples
 mod PreferenceList
 mod BoundReached
 mod ThrottledParts
 mod FirstPass
+pub mod Longer
 pub mod Made
 pub mod Posting

@@ -1,7 +1,7 @@
 -- What is known of a view again, by what was known of an earlier one.
-use Rattle.std.proofs.Common.{◌≡◌, ◌∙◌, ℕ, Bool, true, false, List, [], ◌∷◌, refl, sym, ap, subst, arith}
-use Rattle.std.specs.Prelude.{filter, if◌then◌else◌}
-use Rattle.std.specs.List.{list_any, list_all}
+use Rattle.std.proofs.Common.{◌≡◌, ◌∙◌, ℕ, Bool, true, List, sym, ap, subst}
+use Rattle.std.specs.Prelude.{if◌then◌else◌}
+use Rattle.std.specs.List.{list_any}
 use Rattle.hx_ids.specs.declared.PartId.{PartId}
 use Rattle.hx_cluster.specs.Ends.{part_eq}
 use Rattle.hx_model.specs.declared.ModelParts.{ModelParts}
@@ -28,14 +28,6 @@ spliced_as {X} part_of parts marked same old old_one new new_one out old_is new_
       by_part = is.by_part;
       at = λ p. is.at p ∙ ap (λ (b : Bool). if b then items_at part_of p new else items_at part_of p old) (same p);
     }))
-
-pub all-filter : {X : Type 0} (t u : X → Bool) (xs : List X) → list_all t xs ≡ true → list_all t (filter u xs) ≡ true
-all-filter t u [] h = refl
-all-filter t u (x ∷ xs) h = one (u x) refl (all-filter t u xs (grind (arith, h)))
-  where
-    one : (b : Bool) → u x ≡ b → list_all t (filter u xs) ≡ true → list_all t (filter u (x ∷ xs)) ≡ true
-    one true e more = grind (arith, e, h, more)
-    one false e more = grind (arith, e, h, more)
 
 -- what is known of a view, and another one that differs from it in the marked parts alone
 module _ (k : Knowing) (accepted : List Candidate) (posted : List Seen) (known : IsKnown k.models k.instances k.view accepted posted) (marked : PartId → Bool) (w : View) (differ : DifferWithin marked k.view w) where

@@ -5,6 +5,8 @@ use Rattle.std.proofs.lemmas.List.{drop_all}
 use Rattle.std.proofs.lemmas.Option.{slice_get-get_or}
 use Rattle.hx_lists.specs.Lists.{count}
 use Rattle.hx_ids.specs.declared.SessionId.{SessionId}
+use Rattle.hx_ids.specs.declared.MsgId.{MsgId}
+use Rattle.hx_ids.specs.declared.PartId.{PartId}
 use Rattle.hx_ids.specs.declared.Live.{Live}
 use Rattle.hx_ids.specs.Expiry.{is_expired, expired}
 use Rattle.hx_cluster.specs.declared.state.Row.{Row}
@@ -58,71 +60,62 @@ fewer p k (y ∷ xs) x e out = one (p y) refl (λ later. fewer p k xs x later ou
         either true at less = grind (arith, at, less)
         either false at less = grind (arith, at, less)
 
--- a session's messages go
-pub record IsMailEnding (old : Cluster) (s : SessionId) (c : Cluster) : Type 0 where
+-- the rows or the messages of a cluster: a list beside the rest, of which some may go
+pub record Part (X : Type 0) : Type 0 where
+  pub items : Cluster → List X
+  pub put : Cluster → List X → Cluster
+  pub over : (c : Cluster) (xs ys : List X) → put (put c xs) ys ≡ put c ys
+  pub here : (c : Cluster) (xs : List X) → items (put c xs) ≡ xs
+  pub stays : (c : Cluster) (k : X → Bool) → IsListed c → IsListed (put c (filter k (items c)))
+
+abbrev pub the_mail : Part Message
+the_mail = record { items = λ c. c.mail; put = λ c ms. record c { mail = ms }; over = λ c xs ys. refl; here = λ c xs. refl; stays = λ c k h. listed_unsent c k h }
+
+abbrev pub the_rows : Part Row
+the_rows = record { items = λ c. c.rows; put = λ c rs. record c { rows = rs }; over = λ c xs ys. refl; here = λ c xs. refl; stays = λ c k h. listed_row_gone c k h }
+
+-- a message by its number, and a row by its part, is the session's
+pub id_within : (s : SessionId) (id : MsgId) (m : Message) → has_id s id m ≡ true → of_message s m ≡ true
+id_within s id m e = grind (arith, e)
+
+pub id_own : (s : SessionId) (m : Message) → of_message s m ≡ true → has_id s m.id m ≡ true
+id_own s m e = grind (arith, e, same-self m.id.0)
+
+pub row_within : (s : SessionId) (p : PartId) (r : Row) → is_row s p r ≡ true → of_row s r ≡ true
+row_within s p r e = grind (arith, e)
+
+pub row_own : (s : SessionId) (r : Row) → of_row s r ≡ true → is_row s r.part r ≡ true
+row_own s r e = grind (arith, e, part_eq-self r.part)
+
+-- a session's own go one at a time
+pub record IsPartEnding {X : Type 0} (p : Part X) (own : X → Bool) (old c : Cluster) : Type 0 where
   pub listed : IsListed c
-  pub same : c ≡ record old { mail = c.mail }
-  pub rest : filter (λ m. not (of_message s m)) c.mail ≡ filter (λ m. not (of_message s m)) old.mail
+  pub same : c ≡ p.put old (p.items c)
+  pub rest : filter (λ x. not (own x)) (p.items c) ≡ filter (λ x. not (own x)) (p.items old)
 
-pub mail_begins : (c : Cluster) (s : SessionId) → IsListed c → IsMailEnding c s c
-mail_begins c s listed = record { listed = listed; same = refl; rest = refl }
-
-pub mail_goes : (old c d : Cluster) (s : SessionId) (m : Message) → IsMailEnding old s c → find (of_message s) c.mail ≡ Some m
-    → d ≡ record c { mail = filter (λ x. not (has_id s m.id x)) c.mail } → IsMailEnding old s d
-mail_goes old c d s m e found is = subst (IsMailEnding old s) (sym is) (record {
-  listed = listed_unsent c (λ x. not (has_id s m.id x)) e.listed;
-  same = ap (λ (x : Cluster). record x { mail = filter (λ y. not (has_id s m.id y)) c.mail }) e.same;
-  rest = filter-filter (λ x. not (of_message s x)) (λ x. not (has_id s m.id x)) (λ x w. other x (of_message s x) refl w) c.mail ∙ e.rest;
+pub part_goes : {X : Type 0} (p : Part X) (own gone : X → Bool) (old c d : Cluster) → ((x : X) → gone x ≡ true → own x ≡ true) → IsPartEnding p own old c → d ≡ p.put c (filter (λ x. not (gone x)) (p.items c))
+    → IsPartEnding p own old d
+part_goes {X} p own gone old c d within e is = subst (IsPartEnding p own old) (sym is) (record {
+  listed = p.stays c (λ x. not (gone x)) e.listed;
+  same = ap (λ (x : Cluster). p.put x left) e.same ∙ p.over old (p.items c) left ∙ ap (p.put old) (sym (p.here c left));
+  rest = ap (filter (λ x. not (own x))) (p.here c left) ∙ filter-filter (λ x. not (own x)) (λ x. not (gone x)) (λ x w. other x (gone x) refl w) (p.items c) ∙ e.rest;
 })
   where
-    other : (x : Message) (b : Bool) → of_message s x ≡ b → not b ≡ true → not (has_id s m.id x) ≡ true
-    other x true at w = cc
-    other x false at w = grind (arith, at)
+    left : List X
+    left = filter (λ x. not (gone x)) (p.items c)
 
-pub mail_fewer : (c d : Cluster) (s : SessionId) (m : Message) → find (of_message s) c.mail ≡ Some m
-    → d ≡ record c { mail = filter (λ x. not (has_id s m.id x)) c.mail } → length d.mail < length c.mail
-mail_fewer c d s m found is =
-    let here = find-passes (of_message s) c.mail m found in
-    let gone : not (has_id s m.id m) ≡ false = grind (arith, here, same-self m.id.0) in
-    subst (λ (x : Cluster). length x.mail < length c.mail) (sym is) (fewer (of_message s) (λ x. not (has_id s m.id x)) c.mail m found gone)
+    other : (x : X) (b : Bool) → gone x ≡ b → not (own x) ≡ true → not b ≡ true
+    other x true at w = let its : own x ≡ true = within x at in grind (arith, its, w)
+    other x false at w = refl
 
-pub mail_ended : (old c : Cluster) (s : SessionId) → IsMailEnding old s c → find (of_message s) c.mail ≡ None → c ≡ record old { mail = filter (λ m. not (of_message s m)) old.mail }
-mail_ended old c s e none =
-    let all : c.mail ≡ filter (λ m. not (of_message s m)) old.mail = sym (filter-all (of_message s) c.mail (none-find (of_message s) c.mail none)) ∙ e.rest in
-    e.same ∙ ap (λ (ms : List Message). record old { mail = ms }) all
+pub part_fewer : {X : Type 0} (p : Part X) (own gone : X → Bool) (c d : Cluster) (x : X) → (own x ≡ true → gone x ≡ true) → find own (p.items c) ≡ Some x → d ≡ p.put c (filter (λ x. not (gone x)) (p.items c))
+    → length (p.items d) < length (p.items c)
+part_fewer {X} p own gone c d x at found is =
+    let less = fewer own (λ y. not (gone y)) (p.items c) x found (ap not (at (find-passes own (p.items c) x found))) in
+    subst (λ (ys : List X). length ys < length (p.items c)) (sym (ap p.items is ∙ p.here c (filter (λ y. not (gone y)) (p.items c)))) less
 
--- and its rows
-pub record IsRowEnding (old : Cluster) (s : SessionId) (c : Cluster) : Type 0 where
-  pub listed : IsListed c
-  pub same : c ≡ record old { rows = c.rows }
-  pub rest : filter (λ r. not (of_row s r)) c.rows ≡ filter (λ r. not (of_row s r)) old.rows
-
-pub rows_begin : (c : Cluster) (s : SessionId) → IsListed c → IsRowEnding c s c
-rows_begin c s listed = record { listed = listed; same = refl; rest = refl }
-
-pub row_goes : (old c d : Cluster) (s : SessionId) (r : Row) → IsRowEnding old s c → find (of_row s) c.rows ≡ Some r
-    → d ≡ record c { rows = filter (λ x. not (is_row s r.part x)) c.rows } → IsRowEnding old s d
-row_goes old c d s r e found is = subst (IsRowEnding old s) (sym is) (record {
-  listed = listed_row_gone c (λ x. not (is_row s r.part x)) e.listed;
-  same = ap (λ (x : Cluster). record x { rows = filter (λ y. not (is_row s r.part y)) c.rows }) e.same;
-  rest = filter-filter (λ x. not (of_row s x)) (λ x. not (is_row s r.part x)) (λ x w. other x (of_row s x) refl w) c.rows ∙ e.rest;
-})
-  where
-    other : (x : Row) (b : Bool) → of_row s x ≡ b → not b ≡ true → not (is_row s r.part x) ≡ true
-    other x true at w = cc
-    other x false at w = grind (arith, at)
-
-pub rows_fewer : (c d : Cluster) (s : SessionId) (r : Row) → find (of_row s) c.rows ≡ Some r
-    → d ≡ record c { rows = filter (λ x. not (is_row s r.part x)) c.rows } → length d.rows < length c.rows
-rows_fewer c d s r found is =
-    let here = find-passes (of_row s) c.rows r found in
-    let gone : not (is_row s r.part r) ≡ false = grind (arith, here, part_eq-self r.part) in
-    subst (λ (x : Cluster). length x.rows < length c.rows) (sym is) (fewer (of_row s) (λ x. not (is_row s r.part x)) c.rows r found gone)
-
-pub rows_ended : (old c : Cluster) (s : SessionId) → IsRowEnding old s c → find (of_row s) c.rows ≡ None → c ≡ record old { rows = filter (λ r. not (of_row s r)) old.rows }
-rows_ended old c s e none =
-    let all : c.rows ≡ filter (λ r. not (of_row s r)) old.rows = sym (filter-all (of_row s) c.rows (none-find (of_row s) c.rows none)) ∙ e.rest in
-    e.same ∙ ap (λ (rs : List Row). record old { rows = rs }) all
+pub part_ended : {X : Type 0} (p : Part X) (own : X → Bool) (old c : Cluster) → IsPartEnding p own old c → find own (p.items c) ≡ None → c ≡ p.put old (filter (λ x. not (own x)) (p.items old))
+part_ended p own old c e none = e.same ∙ ap (p.put old) (sym (filter-all own (p.items c) (none-find own (p.items c) none)) ∙ e.rest)
 
 -- so none is left
 pub none_left : {X : Type 0} (p : X → Bool) (xs : List X) → list_all (λ x. not (p x)) (filter (λ x. not (p x)) xs) ≡ true

@@ -6,6 +6,7 @@ use Rattle.hx_lists.specs.Lists.{count}
 use Rattle.hx_ids.specs.declared.InstanceId.{InstanceId}
 use Rattle.hx_ids.specs.declared.ResourceId.{ResourceId}
 use Rattle.hx_ids.specs.declared.SessionId.{SessionId}
+use Rattle.hx_ids.specs.declared.PartId.{PartId}
 use Rattle.hx_ids.specs.declared.Live.{Live}
 use Rattle.hx_cluster.specs.declared.state.Row.{Row}
 use Rattle.hx_cluster.specs.declared.state.Message.{Message}
@@ -73,6 +74,17 @@ live-sits c seats p s sit one live here =
     let seat : seat_at seats l.instance ≡ Some s = sit l.instance ∙ ap (λ (o : Option Live). option_map (λ x. x.session) o) at ∙ ap (λ (u : SessionId). Some u) its in
     at-any p seats l.instance.0 s seat here
 
+-- the live session of a row or a message that is found of a resource sits at a place that holds it
+holder-sits : {X : Type 0} (c : Cluster) (r : ResourceId) (seats : Seats) (part_of : X → PartId) (session_of : X → SessionId) (xs : List X) (x : X) → SitAt seats c.live → ((i : InstanceId) → count (is_of i) c.live ≤ 1)
+    → (list_any (λ y. ((part_of y).resource.0 == r.0) && ((session_of y).0 == (session_of x).0)) xs ≡ true → seat_holds c r (Some (session_of x)) ≡ true)
+    → find (λ y. ((part_of y).resource.0 == r.0) && is_live c.live (session_of y)) xs ≡ Some x → list_any (seat_holds c r) seats ≡ true
+holder-sits {X} c r seats part_of session_of xs x sit one holds is =
+    let on : X → Bool = λ y. ((part_of y).resource.0 == r.0) && is_live c.live (session_of y) in
+    let its : X → Bool = λ y. ((part_of y).resource.0 == r.0) && ((session_of y).0 == (session_of x).0) in
+    let w = find-passes on xs x is in
+    let any : list_any its xs ≡ true = find-any on its xs x is (and-both _ _ (and-first ((part_of x).resource.0 == r.0) (is_live c.live (session_of x)) w) (same-self (session_of x).0)) in
+    live-sits c seats (seat_holds c r) (session_of x) sit one (and-second ((part_of x).resource.0 == r.0) (is_live c.live (session_of x)) w) (holds any)
+
 pub seats_hold : (c : Cluster) (r : ResourceId) (seats : Seats) → SitAt seats c.live → ((i : InstanceId) → count (is_of i) c.live ≤ 1)
     → list_any (seat_holds c r) seats ≡ is_held c r
 seats_hold c r seats sit one = same-tests _ _ there back
@@ -89,20 +101,10 @@ seats_hold c r seats sit one = same-tests _ _ there back
         turn i (Some l) is w = holds-live c r l.session (find-any (is_of i) (is_session l.session) c.live l is (same-self l.session.0)) w
 
     row : (x : Row) → find (λ x. (x.part.resource.0 == r.0) && is_live c.live x.session) c.rows ≡ Some x → list_any (seat_holds c r) seats ≡ true
-    row x is =
-        let w = find-passes (λ (x : Row). (x.part.resource.0 == r.0) && is_live c.live x.session) c.rows x is in
-        let its : list_any (λ (y : Row). (y.part.resource.0 == r.0) && (y.session.0 == x.session.0)) c.rows ≡ true =
-        find-any (λ (x : Row). (x.part.resource.0 == r.0) && is_live c.live x.session) (λ (y : Row). (y.part.resource.0 == r.0) && (y.session.0 == x.session.0)) c.rows x is
-        (and-both _ _ (and-first (x.part.resource.0 == r.0) (is_live c.live x.session) w) (same-self x.session.0)) in
-        live-sits c seats (seat_holds c r) x.session sit one (and-second (x.part.resource.0 == r.0) (is_live c.live x.session) w) (grind (arith, its))
+    row x = holder-sits c r seats (λ (x : Row). x.part) (λ (x : Row). x.session) c.rows x sit one (λ its. grind (arith, its))
 
     message : (m : Message) → find (λ m. (m.part.resource.0 == r.0) && is_live c.live m.session) c.mail ≡ Some m → list_any (seat_holds c r) seats ≡ true
-    message m is =
-        let w = find-passes (λ (m : Message). (m.part.resource.0 == r.0) && is_live c.live m.session) c.mail m is in
-        let its : list_any (λ (y : Message). (y.part.resource.0 == r.0) && (y.session.0 == m.session.0)) c.mail ≡ true =
-        find-any (λ (m : Message). (m.part.resource.0 == r.0) && is_live c.live m.session) (λ (y : Message). (y.part.resource.0 == r.0) && (y.session.0 == m.session.0)) c.mail m is
-        (and-both _ _ (and-first (m.part.resource.0 == r.0) (is_live c.live m.session) w) (same-self m.session.0)) in
-        live-sits c seats (seat_holds c r) m.session sit one (and-second (m.part.resource.0 == r.0) (is_live c.live m.session) w) (grind (arith, its))
+    message m = holder-sits c r seats (λ (x : Message). x.part) (λ (x : Message). x.session) c.mail m sit one (λ its. grind (arith, its))
 
     either : (b : Bool) → list_any (λ (x : Row). (x.part.resource.0 == r.0) && is_live c.live x.session) c.rows ≡ b
         → (b || list_any (λ (m : Message). (m.part.resource.0 == r.0) && is_live c.live m.session) c.mail) ≡ true → list_any (seat_holds c r) seats ≡ true

@@ -65,6 +65,21 @@ with-lists a r1 r2 m1 m2 rows mail =
     ap (λ (rs : List Row). record a.rest { live = a.sessions.live; rows = rs; mail = m1 }) rows
     ∙ ap (λ (ms : List Message). record a.rest { live = a.sessions.live; rows = r2; mail = ms }) mail
 
+-- other rows, messages and numbers that fit them
+pub with_slots : (a : Inside) (slots : Kept) (counts : Numbers) (resets : List (SessionId × PartId)) (next_msg change : ℕ) → AreRecords a
+    → IsCounted (record (seen a) { rows = slots.rows; mail = slots.mail }) counts
+    → AreRecords (record a { rest = record a.rest { resets = resets; next_msg = next_msg; change = change }; slots = slots; counts = counts })
+with_slots a slots counts resets next_msg change h counted = record {
+  live = h.live;
+  rows = h.rows;
+  mail = h.mail;
+  count = h.count;
+  next = h.next;
+  places = h.places;
+  seats = h.seats;
+  counted = record { ends = counted.ends; loads = counted.loads };
+}
+
 -- a message is taken out
 pub seen_popped : (a : Inside) (slots : Kept) (counts : Numbers) (s : SessionId) (id : MsgId) → slots.rows ≡ a.slots.rows → slots.mail ≡ filter (λ x. not (has_id s id x)) a.slots.mail
     → seen (record a { slots = slots; counts = counts }) ≡ record (seen a) { mail = filter (λ x. not (has_id s id x)) a.slots.mail }
@@ -75,17 +90,9 @@ pub popped : (a : Inside) (slots : Kept) (counts : Numbers) (s : SessionId) (i :
     → slots.rows ≡ a.slots.rows → slots.mail ≡ filter (λ x. not (has_id s m.id x)) a.slots.mail
     → has ≡ state_of slots.rows s m.part → IsLowered a.rest i has m a.counts counts
     → AreRecords (record a { slots = slots; counts = counts })
-popped a slots counts s i m has old listed at found rows mail is lowered = record {
-  live = old.live;
-  rows = old.rows;
-  mail = old.mail;
-  count = old.count;
-  next = old.next;
-  places = old.places;
-  seats = old.seats;
-  counted = subst (λ (c : Cluster). IsCounted c counts) (sym (seen_popped a slots counts s m.id rows mail))
-      (counted_unsent (seen a) s m.id m i a.counts counts listed old.counted pending (sym (on-instance a.sessions.live s) ∙ at) (record { ends = fits.ends; loads = fits.loads }));
-}
+popped a slots counts s i m has old listed at found rows mail is lowered =
+    with_slots a slots counts a.rest.resets a.rest.next_msg a.rest.change old
+    (subst (λ (c : Cluster). IsCounted c counts) (sym (seen_popped a slots counts s m.id rows mail)) (counted_unsent (seen a) s m.id m i a.counts counts listed old.counted pending (sym (on-instance a.sessions.live s) ∙ at) (record { ends = fits.ends; loads = fits.loads })))
   where
     pending : find (has_id s m.id) a.slots.mail ≡ Some m
     pending =
@@ -105,17 +112,9 @@ pub unrowed : (a : Inside) (slots : Kept) (counts : Numbers) (s : SessionId) (r 
     → slots.mail ≡ a.slots.mail → slots.rows ≡ filter (λ x. not (is_row s r.part x)) a.slots.rows
     → IsRowLowered a.rest r.part r.state a.counts counts
     → AreRecords (record a { slots = slots; counts = counts })
-unrowed a slots counts s r old listed none found mail rows lowered = record {
-  live = old.live;
-  rows = old.rows;
-  mail = old.mail;
-  count = old.count;
-  next = old.next;
-  places = old.places;
-  seats = old.seats;
-  counted = subst (λ (c : Cluster). IsCounted c counts) (sym (seen_unrowed a slots counts s r.part mail rows))
-      (counted_row_gone (seen a) s r.part r.state a.counts counts listed old.counted idle state (record { ends = lowered.ends; loads = lowered.loads }));
-}
+unrowed a slots counts s r old listed none found mail rows lowered =
+    with_slots a slots counts a.rest.resets a.rest.next_msg a.rest.change old
+    (subst (λ (c : Cluster). IsCounted c counts) (sym (seen_unrowed a slots counts s r.part mail rows)) (counted_row_gone (seen a) s r.part r.state a.counts counts listed old.counted idle state (record { ends = lowered.ends; loads = lowered.loads })))
   where
     idle : message_of a.slots.mail s r.part ≡ None
     idle = none-narrow (of_message s) (is_message s r.part) (λ x e. grind (arith, e)) a.slots.mail none
@@ -127,31 +126,14 @@ unrowed a slots counts s r old listed none found mail rows lowered = record {
         (find-narrow (of_row s) (is_row s r.part) (λ x e. grind (arith, e)) a.slots.rows r found (grind (arith, here, part_eq-self r.part)))
 
 -- a session leaves
-length-kept : {X : Type 0} (q : X → Bool) (xs : List X) → count q xs ≤ 0 → length (filter (λ y. not (q y)) xs) ≡ length xs
-length-kept q [] none = refl
-length-kept q (z ∷ xs) none = grind (arith, none, length-kept q xs)
+length-apart : {X : Type 0} (q : X → Bool) (xs : List X) → length (filter (λ y. not (q y)) xs) + count q xs ≡ length xs
+length-apart q [] = refl
+length-apart q (z ∷ xs) = grind (arith, length-apart q xs)
 
 pub length-without : {X : Type 0} (p q : X → Bool) (xs : List X) (x : X) → find p xs ≡ Some x → q x ≡ true → count q xs ≤ 1 → length (filter (λ y. not (q y)) xs) + 1 ≡ length xs
-length-without p q [] x e here one = cc
-length-without p q (y ∷ xs) x e here once = one (p y) refl (q y) refl (λ later few. length-without p q xs x later here few)
-  where
-    one : (a : Bool) → p y ≡ a → (b : Bool) → q y ≡ b
-        → (find p xs ≡ Some x → count q xs ≤ 1 → length (filter (λ z. not (q z)) xs) + 1 ≡ length xs)
-        → length (filter (λ z. not (q z)) (y ∷ xs)) + 1 ≡ length (y ∷ xs)
-    one true is true at again =
-        let few : count q xs ≤ 0 = grind (arith, at, once) in
-        let all = length-kept q xs few in
-        grind (arith, at, all)
-    one true is false at again = let same : y ≡ x = grind (arith, e, is) in let both : false ≡ true = sym at ∙ ap q same ∙ here in cc
-    one false is true at again =
-        let later : find p xs ≡ Some x = grind (arith, e, is) in
-        let more = any-count q xs (find-any p q xs x later here) in
-        grind (arith, at, once, more)
-    one false is false at again =
-        let later : find p xs ≡ Some x = grind (arith, e, is) in
-        let few : count q xs ≤ 1 = grind (arith, at, once) in
-        let rest = again later few in
-        grind (arith, at, rest)
+length-without p q xs x e here once =
+    let some = any-count q xs (find-any p q xs x e here) in
+    omega (arith, length-apart q xs, some, once)
 
 -- the live session of an instance, and that it is live
 pub record IsIn (live : List Live) (i : InstanceId) (s : SessionId) : Type 0 where

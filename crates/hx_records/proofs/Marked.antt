@@ -1,5 +1,5 @@
 -- How the invariant is kept as messages are sent, marked and removed.
-use Rattle.std.proofs.Common.{◌≡◌, ℕ, ◌+◌, ◌-◌, ◌==◌, ◌&&◌, not, Bool, true, false, List, [], ◌∷◌, ◌++◌, filter, map, find, Option, Some, None, refl, sym, ap, ◌∙◌, subst, arith}
+use Rattle.std.proofs.Common.{◌≡◌, ℕ, ◌+◌, ◌==◌, ◌&&◌, not, Bool, true, false, List, [], ◌∷◌, ◌++◌, filter, map, find, Option, Some, None, refl, sym, ap, ◌∙◌, subst, arith}
 use Rattle.std.specs.Prelude.{if◌then◌else◌, nat_lt, Result, Ok, Err, OnOk, is_err, is_some, is_none}
 use Rattle.std.specs.List.{list_any, list_all}
 use Rattle.std.specs.Option.{option_map}
@@ -15,11 +15,10 @@ use Rattle.hx_cluster.specs.declared.state.Row.{Row}
 use Rattle.hx_cluster.specs.declared.state.Message.{Message}
 use Rattle.hx_cluster.specs.declared.state.Cluster.{Cluster}
 use Rattle.hx_cluster.specs.declared.happenings.Proposal.{Proposal}
-use Rattle.hx_cluster.specs.declared.happenings.Placed.{Placed}
 use Rattle.hx_cluster.specs.declared.happenings.Placed.TheVariants as placings
 use Rattle.hx_cluster.specs.declared.happenings.Outcome.{Outcome}
 use Rattle.hx_cluster.specs.Ends.{is_session, is_live, state_of, message_of, message_at, instance_in, shown_of}
-use Rattle.hx_cluster.specs.Messages.{has_id, pending_of, as_taken, as_written, row_put, state_after, flags_after, written_of, after_take, after_write, message_from, placed_of, placed_idle, after_placed, after_proposal, initial_of}
+use Rattle.hx_cluster.specs.Messages.{has_id, pending_of, as_taken, as_written, row_put, state_after, flags_after, written_of, after_take, after_write, message_from, placed_of, placed_idle, after_placed, after_proposal}
 use Rattle.hx_cluster.specs.Steps.{is_dropped}
 use Rattle.hx_cluster.specs.Safe.{is_pending}
 use Rattle.hx_cluster.proofs.Shown.{instance_in_shown}
@@ -35,6 +34,7 @@ use Rattle.hx_tallies.proofs.Put.{counted_put, outcome_covered}
 use Rattle.hx_slots.specs.Kept.{Kept}
 use Rattle.hx_records.specs.declared.Records.TheInside.{Inside}
 use Rattle.hx_records.specs.Records.{seen, AreRecords}
+use Rattle.hx_records.proofs.Insides.{with_slots}
 
 pub on_ok : {T E : Type 0} (r : Result T E) {P : Type 0} → is_err r ≡ false → OnOk r P → P
 on_ok (Ok x) e p = p
@@ -47,11 +47,14 @@ message_same a b e = let same : a.0 ≡ b.0 = grind (arith, nat_tests, e) in ap 
 pub own_session : (c : Cluster) (s : SessionId) (id : MsgId) (m : Message) → pending_of c s id ≡ Some m → m.session ≡ s
 own_session c s id m e = let passes = find-passes (has_id s id) c.mail m e in session_same m.session s (grind (arith, passes))
 
-pub own_number : (c : Cluster) (s : SessionId) (id : MsgId) (m : Message) → pending_of c s id ≡ Some m → m.id ≡ id
+own_number : (c : Cluster) (s : SessionId) (id : MsgId) (m : Message) → pending_of c s id ≡ Some m → m.id ≡ id
 own_number c s id m e = let passes = find-passes (has_id s id) c.mail m e in message_same m.id id (grind (arith, passes))
 
+pub own_named : {X : Type 0} (f : SessionId → MsgId → X) (c : Cluster) (s : SessionId) (id : MsgId) (m : Message) → pending_of c s id ≡ Some m → f m.session m.id ≡ f s id
+own_named f c s id m e = (λ i. f (own_session c s id m e i) (own_number c s id m e i))
+
 pub pending_own : (c : Cluster) (s : SessionId) (id : MsgId) (m : Message) → pending_of c s id ≡ Some m → pending_of c m.session m.id ≡ Some m
-pending_own c s id m e = (λ i. pending_of c (own_session c s id m e i) (own_number c s id m e i)) ∙ e
+pending_own c s id m e = own_named (pending_of c) c s id m e ∙ e
 
 -- what is found is there
 pub some-any : {X : Type 0} (p : X → Bool) (xs : List X) → is_some (find p xs) ≡ list_any p xs
@@ -113,20 +116,6 @@ pub kept_counts : (a : Inside) (slots : Kept) (counts : Numbers) (rows : List Ro
 kept_counts a slots counts rows mail h same_rows same_mail counted =
     subst (λ (rs : List Row). IsCounted (record (seen a) { rows = rs; mail = slots.mail }) counts) (sym same_rows)
     (subst (λ (ms : List Message). IsCounted (record (seen a) { rows = rows; mail = ms }) counts) (sym same_mail) counted)
-
-pub with_slots : (a : Inside) (slots : Kept) (counts : Numbers) (resets : List (SessionId × PartId)) (next_msg change : ℕ) → AreRecords a
-    → IsCounted (record (seen a) { rows = slots.rows; mail = slots.mail }) counts
-    → AreRecords (record a { rest = record a.rest { resets = resets; next_msg = next_msg; change = change }; slots = slots; counts = counts })
-with_slots a slots counts resets next_msg change h counted = record {
-  live = h.live;
-  rows = h.rows;
-  mail = h.mail;
-  count = h.count;
-  next = h.next;
-  places = h.places;
-  seats = h.seats;
-  counted = record { ends = counted.ends; loads = counted.loads };
-}
 
 -- what the rest says of numbers, the whole cluster says
 raised_seen : (a : Inside) (i : InstanceId) (has : Option StateId) (m : Message) (k new : Numbers) → IsRaised a.rest i has m k new → IsRaised (seen a) i has m k new

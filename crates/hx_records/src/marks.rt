@@ -4,8 +4,7 @@ ghost use Rattle.std.specs.Prelude.{◌≡◌, ◌+◌, ◌^◌, ◌<◌, false,
 ghost use Rattle.std.specs.Prelude.{OnOk, OnErr};
 ghost use Rattle.hx_lists.specs.Answers.{RefusedAs};
 ghost use Rattle.hx_cluster.specs.Ends.{instance_in, shown_of};
-ghost use Rattle.hx_cluster.specs.Steps.{is_flag};
-ghost use Rattle.hx_cluster.specs.Messages.{pending_of, flags_after, has_id, after_take};
+ghost use Rattle.hx_cluster.specs.Messages.{pending_of, has_id, after_take};
 ghost use Rattle.hx_cluster.specs.Messages.{after_write};
 ghost use Rattle.hx_tallies.specs.Tallies.{IsPut};
 ghost use Rattle.hx_cluster.specs.Marks.{take_refusal, write_refusal, ack_refusal};
@@ -15,27 +14,11 @@ ghost use Rattle.hx_safe.proofs.Kept.{IsKept};
 ghost use Rattle.hx_records.specs.Reached.{IsReached};
 
 use crate::Records;
-use hx_cluster::{AckFault, Cluster, Event, Message, Outcome, TakeFault, WriteRefusal, is_flag_of};
+use hx_calls::settle_flags;
+use hx_cluster::{AckFault, Cluster, Event, Message, Outcome, TakeFault, WriteRefusal};
 use hx_counts::Counts;
 use hx_ids::{InstanceId, MsgId, PartId, SessionId, StateId};
-use hx_lists::Seq;
 use hx_tallies::{lower, lower_row};
-
-fn clear_flag(flags: &mut Seq<(SessionId, PartId)>, session: SessionId, part: PartId)
-    ensures { flags.new ≡ filter (λ f. not (is_flag session part f)) flags.old }
-{
-    flags.retain(|f| !is_flag_of(f, session, part));
-}
-
-/// Which flags stand once an outcome has come.
-fn settle_flags(flags: &mut Seq<(SessionId, PartId)>, message: &Message, outcome: Outcome)
-    ensures { flags.new ≡ flags_after flags.old message.now outcome }
-{
-    match outcome {
-        Outcome::Ok => clear_flag(flags, message.session, message.part),
-        Outcome::Failed => {}
-    }
-}
 
 /// Counts no longer the state that a replica leaves as the outcome of a message comes, where it is
 /// no end of the message.

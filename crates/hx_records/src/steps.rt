@@ -1,7 +1,6 @@
 //! The steps that an operator, a session or a controller asks for.
 ghost use Rattle.std.specs.Prelude.{◌≡◌, None, false, true, IfOk, OnOk, OnErr};
-ghost use Rattle.hx_cluster.specs.Steps.{refusal_of, after, did_of, is_in_range, with_flag};
-ghost use Rattle.hx_cluster.specs.Steps.{flag_before};
+ghost use Rattle.hx_cluster.specs.Steps.{refusal_of, after, did_of, is_in_range};
 ghost use Rattle.hx_cluster.specs.Numbered.{is_end};
 ghost use Rattle.hx_cluster.specs.Room.{HasRoom};
 ghost use Rattle.hx_safe.proofs.Beside.{is_aside};
@@ -9,29 +8,13 @@ ghost use Rattle.hx_safe.proofs.Whole.{IsWhole};
 ghost use Rattle.hx_records.specs.Reached.{IsReached};
 
 use crate::Records;
-use hx_cluster::{Admin, Did, make_on};
+use hx_cluster::{Admin, Did, add_flag, make_on};
 use hx_ids::{InstanceId, PartId, ResourceId, SessionId};
 use hx_lists::Seq;
 use std::alloc::AllocError;
 
 /// The most sessions that are live at once.
 const MOST_LIVE: u32 = 1 << 31;
-
-fn is_flag_before(flag: &(SessionId, PartId), other: (SessionId, PartId)) -> bool
-    ensures { result ≡ flag_before flag.now other }
-{
-    *flag < other
-}
-
-fn add_flag(
-    flags: &mut Seq<(SessionId, PartId)>,
-    flag: (SessionId, PartId),
-) -> Result<(), AllocError>
-    ensures ok { OnOk result (flags.new ≡ with_flag flags.old flag) }
-    ensures err { OnErr result (flags.new ≡ flags.old) }
-{
-    flags.insert_by(flag, |f| is_flag_before(f, flag))
-}
 
 impl Records {
     /// What a step answers that nothing refuses. That of an end takes no memory.

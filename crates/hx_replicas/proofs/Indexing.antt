@@ -24,8 +24,9 @@ use Rattle.hx_replicas.specs.Participants.{accepted_of, has_accepted}
 use Rattle.hx_replicas.specs.Layout.{has_part, has_number, taken, fresh, sent_out, wiped}
 use Rattle.hx_replicas.specs.Indexes.{alter, waits_in, waits_of, is_of, is_waiting, number_eq, Tells, noted, forgotten, AreWaiting, IsIndexed, HasRoom}
 use Rattle.hx_replicas.proofs.Parts.{part_same}
-use Rattle.hx_replicas.proofs.Queues.{Entries, NodesOnce, count-none}
+use Rattle.hx_replicas.proofs.Queues.{Entries, count-none}
 use Rattle.hx_replicas.proofs.Altering.{only-one, stands-some, past, length-alter, get-alter, count-alter, get-push, get-map, count-push, count-le, position-none, position-only, position-alter, position-map, position-push_other, position-push}
+use Rattle.hx_links.proofs.Walking.{NodesOnce}
 
 length-snoc : (es : Entries) (e : Node × Waiting) → length (es ++ e ∷ []) ≡ length es + 1
 length-snoc [] e = refl

@@ -1,6 +1,6 @@
 -- What calls do to the slots and the messages together.
 use Rattle.std.proofs.Common.{◌≡◌, ℕ, ◌<◌, ◌≤◌, ◌+◌, Bool, true, false, not, List, [], ◌∷◌, ◌++◌, map, filter, find, Some, None, Option, Result, Ok, Err, refl, sym, ap, ◌∙◌, subst, arith}
-use Rattle.std.specs.Prelude.{◌==◌, ◌&&◌, nat_lt, nat_le, IsSome, option_map, MatchOption, OnErr, length}
+use Rattle.std.specs.Prelude.{if◌then◌else◌, ◌==◌, ◌&&◌, nat_lt, nat_le, IsSome, option_map, MatchOption, OnErr, length}
 use Rattle.std.specs.List.{list_any, list_all, filter_map, cons_option, AllByRecursion}
 use Rattle.std.specs.List.Sorted.{IsStrictlySortedBy}
 use Rattle.std.specs.Ordering.{nat_cmp}
@@ -14,7 +14,7 @@ use Rattle.hx_ids.specs.declared.PartId.{PartId}
 use Rattle.hx_cluster.specs.declared.state.Row.{Row}
 use Rattle.hx_cluster.specs.declared.state.Message.{Message}
 use Rattle.hx_cluster.specs.Ends.{is_row, is_message, message_of, part_eq}
-use Rattle.hx_cluster.specs.Messages.{has_id, as_taken, as_written, row_put}
+use Rattle.hx_cluster.specs.Messages.{has_id, as_written, row_put}
 use Rattle.hx_cluster.specs.Weight.{one_unless}
 use Rattle.hx_store.specs.declared.Record.{Record}
 use Rattle.hx_store.specs.Records.{record_at, is_before, set_to, created, first_record, deleted, owned_from, owns, is_owned_by}
@@ -26,7 +26,7 @@ use Rattle.hx_slots.specs.Slots.{IsPlaced, IsSlot, IsSlotOf, IsKept, AreSlots, I
 use Rattle.hx_slots.proofs.Keys.{both}
 use Rattle.hx_slots.proofs.Entries.{any-filter, all-insert, all-filter, all-at, all-set, only_at, some_is, value_of, entry_of, find-first, first_of, first_passes, filter-none, none_any}
 use Rattle.hx_slots.proofs.RowsOf.{EachSlot, slots-sent, slots-put, rows-taken, rows-untaken, rows-owned}
-use Rattle.hx_slots.proofs.Mail.{EachKept, kept-sent, sent-here, kept-put, kept-removed, kept-taken, kept-written, messages-sent, messages-marked, messages-removed, mail-owned, message_is, found_at, unwritten-append, unwritten-filter, unwritten-taken, unwritten-written}
+use Rattle.hx_slots.proofs.Mail.{EachKept, kept-sent, sent-here, kept-put, kept-removed, kept-taken, kept-written, messages-sent, messages-marked, messages-removed, mail-owned, message_is, found_at, pending_there, unwritten-append, unwritten-filter, unwritten-taken, unwritten-written}
 
 -- versions have room
 pub slot_room : (slots : List (ℕ × Record Slot)) (mail : List (ℕ × Record Message)) (changes paid k : ℕ) → AreSlots slots mail changes paid → CanChange (record_at slots k)
@@ -113,11 +113,22 @@ only_own slots mail m ordered all found =
     let r = found_at slots m.session m.id m mail ordered all found in
     only_at (λ (x : Record Message). x.value ≡ m) m.id.0 mail ordered (rw r.1 r.2)
 
--- a message is taken
-pub taken_mail : (slots : List (ℕ × Record Slot)) (mail after : List (ℕ × Record Message)) (m : Message) → IsStrictlySortedBy nat_cmp (keys_of mail) → EachKept slots mail → find (has_id m.session m.id) (messages_of mail) ≡ Some m
-    → after ≡ set_to mail m.id.0 (record m { taken = true }) → messages_of after ≡ map (as_taken m.session m.id) (messages_of mail)
-taken_mail slots mail after m ordered all found is = rw is (messages-marked slots (λ x. record x { taken = true }) m (record m { taken = true }) mail all (only_own slots mail m ordered all found) refl)
+-- a pending message may be marked
+pub may_mark : (slots : List (ℕ × Record Slot)) (mail : List (ℕ × Record Message)) (seen : List Message) (m : Message) → EachKept slots mail → messages_of mail ≡ seen → find (has_id m.session m.id) seen ≡ Some m
+    → record { there : IsSome (record_at mail m.id.0); room : CanChange (record_at mail m.id.0) }
+may_mark slots mail seen m all view found = record {
+  there = pending_there slots m.session m.id m mail all (ap (λ (ms : List Message). find (has_id m.session m.id) ms) view ∙ found);
+  room = mail_room slots mail m.id.0 all;
+}
 
+-- a pending message is marked
+pub marked_mail : (slots : List (ℕ × Record Slot)) (mail after : List (ℕ × Record Message)) (seen : List Message) (mark : Message → Message) (m : Message) → IsStrictlySortedBy nat_cmp (keys_of mail) → EachKept slots mail
+    → messages_of mail ≡ seen → find (has_id m.session m.id) seen ≡ Some m → after ≡ set_to mail m.id.0 (mark m) → messages_of after ≡ map (λ x. if has_id m.session m.id x then mark x else x) seen
+marked_mail slots mail after seen mark m ordered all view found is =
+    let own = only_own slots mail m ordered all (ap (λ (ms : List Message). find (has_id m.session m.id) ms) view ∙ found) in
+    rw (is, messages-marked slots mark m (mark m) mail all own refl, view) refl
+
+-- a message is taken
 pub taken_kept : (slots : List (ℕ × Record Slot)) (mail after : List (ℕ × Record Message)) (changes paid : ℕ) (m : Message) → IsStrictlySortedBy nat_cmp (keys_of mail) → AreSlots slots mail changes paid
     → find (has_id m.session m.id) (messages_of mail) ≡ Some m → m.taken ≡ false → after ≡ set_to mail m.id.0 (record m { taken = true }) → AreSlots slots after changes paid
 taken_kept slots mail after changes paid m ordered are found free is =
@@ -125,15 +136,11 @@ taken_kept slots mail after changes paid m ordered are found free is =
     let kept : EachKept slots (set_to mail m.id.0 (record m { taken = true })) =
     all-set (IsKept slots) m.id.0 (record m { taken = true }) r.0 mail ordered are.each_message r.1 (kept-taken slots m.id.0 r.0 m (all-at (IsKept slots) m.id.0 r.0 mail are.each_message r.1) r.2 free)
     in
-    let counted : unwritten_in (messages_of after) ≡ unwritten_in (messages_of mail) = ap unwritten_in (taken_mail slots mail after m ordered are.each_message found is) ∙ unwritten-taken m.session m.id (messages_of mail) in
+    let counted : unwritten_in (messages_of after) ≡ unwritten_in (messages_of mail) = ap unwritten_in (marked_mail slots mail after (messages_of mail) (λ x. record x { taken = true }) m ordered are.each_message refl found is) ∙ unwritten-taken m.session m.id (messages_of mail) in
     let w : changes + unwritten_in (messages_of mail) ≤ paid = are.room in
     record { each_slot = are.each_slot; each_message = subst (λ (x : List (ℕ × Record Message)). EachKept slots x) (sym is) kept; room = omega arith; fits = are.fits }
 
 -- an outcome is written
-pub written_mail : (slots : List (ℕ × Record Slot)) (mail after : List (ℕ × Record Message)) (m : Message) → IsStrictlySortedBy nat_cmp (keys_of mail) → EachKept slots mail → find (has_id m.session m.id) (messages_of mail) ≡ Some m
-    → after ≡ set_to mail m.id.0 (record m { written = true }) → messages_of after ≡ map (as_written m.session m.id) (messages_of mail)
-written_mail slots mail after m ordered all found is = rw is (messages-marked slots (λ x. record x { written = true }) m (record m { written = true }) mail all (only_own slots mail m ordered all found) refl)
-
 -- the slot's record
 slot_record : (o : Option (Record Slot)) → IsSome o → (r : Record Slot) × (o ≡ Some r)
 slot_record None h = cc
@@ -155,7 +162,7 @@ written_kept slots after mail later changes paid m t ordered in_order are found 
     all-set (IsKept slots) m.id.0 (record m { written = true }) r.0 mail in_order are.each_message r.1 (kept-written slots m.id.0 r.0 m (all-at (IsKept slots) m.id.0 r.0 mail are.each_message r.1) r.2 free)
     in
     let along : EachKept slots later = subst (λ (x : List (ℕ × Record Message)). EachKept slots x) (sym made) kept in
-    let counted : unwritten_in (messages_of later) ≡ unwritten_in (map (as_written m.session m.id) (messages_of mail)) = ap unwritten_in (written_mail slots mail later m in_order are.each_message found made) in
+    let counted : unwritten_in (messages_of later) ≡ unwritten_in (map (as_written m.session m.id) (messages_of mail)) = ap unwritten_in (marked_mail slots mail later (messages_of mail) (λ x. record x { written = true }) m in_order are.each_message refl found made) in
     let less = unwritten-written m.session m.id (messages_of mail) m found free in
     let w : changes + unwritten_in (messages_of mail) ≤ paid = are.room in
     record {

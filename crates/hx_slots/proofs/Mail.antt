@@ -250,20 +250,19 @@ message_absent slots s p (e ∷ es) all absent = one (is_message s p e.1.value) 
     one true i rest = absurd (no i)
     one false i rest = rest
 
--- marks
-pub kept-taken : (slots : List (ℕ × Record Slot)) (k : ℕ) (r : Record Message) (m : Message) → IsKept slots (k, r) → r.value ≡ m → m.taken ≡ false → IsKept slots (k, changed r (record m { taken = true }))
-kept-taken slots k r m kept same free =
+-- a message with one mark more
+kept-marked : (slots : List (ℕ × Record Slot)) (k : ℕ) (r : Record Message) (m : Message) (taken written : Bool) → IsKept slots (k, r) → r.value ≡ m → one_unless taken + one_unless written + 1 ≡ one_unless m.taken + one_unless m.written
+    → IsKept slots (k, changed r (record m { taken = taken; written = written }))
+kept-marked slots k r m taken written kept same one =
     let is : IsKept slots (k, record r { value = m }) = subst (λ (x : Message). IsKept slots (k, record r { value = x })) same kept in
     let marks : r.version + one_unless m.taken + one_unless m.written ≤ 3 = is.marks in
-    let one : one_unless m.taken ≡ 1 = rw free refl in
     record { key = is.key; owner = is.owner; placed = is.placed; slot = is.slot; marks = omega arith }
 
+pub kept-taken : (slots : List (ℕ × Record Slot)) (k : ℕ) (r : Record Message) (m : Message) → IsKept slots (k, r) → r.value ≡ m → m.taken ≡ false → IsKept slots (k, changed r (record m { taken = true }))
+kept-taken slots k r m kept same free = kept-marked slots k r m true m.written kept same (rw free (omega arith))
+
 pub kept-written : (slots : List (ℕ × Record Slot)) (k : ℕ) (r : Record Message) (m : Message) → IsKept slots (k, r) → r.value ≡ m → m.written ≡ false → IsKept slots (k, changed r (record m { written = true }))
-kept-written slots k r m kept same free =
-    let is : IsKept slots (k, record r { value = m }) = subst (λ (x : Message). IsKept slots (k, record r { value = x })) same kept in
-    let marks : r.version + one_unless m.taken + one_unless m.written ≤ 3 = is.marks in
-    let one : one_unless m.written ≡ 1 = rw free refl in
-    record { key = is.key; owner = is.owner; placed = is.placed; slot = is.slot; marks = omega arith }
+kept-written slots k r m kept same free = kept-marked slots k r m m.taken true kept same (rw free (omega arith))
 
 -- outcomes that may come
 pub unwritten-append : (ms : List Message) (m : Message) → unwritten_in (ms ++ m ∷ []) ≡ unwritten_in ms + one_unless m.written
@@ -272,11 +271,7 @@ unwritten-append (x ∷ ms) m = omega (arith, unwritten-append ms m)
 
 pub unwritten-filter : (k : Message → Bool) (ms : List Message) → unwritten_in (filter k ms) ≤ unwritten_in ms
 unwritten-filter k [] = omega arith
-unwritten-filter k (m ∷ ms) = one (k m) (unwritten-filter k ms)
-  where
-    one : (b : Bool) → unwritten_in (filter k ms) ≤ unwritten_in ms → unwritten_in (if b then m ∷ filter k ms else filter k ms) ≤ unwritten_in (m ∷ ms)
-    one true less = omega (arith, less)
-    one false less = omega (arith, less)
+unwritten-filter k (m ∷ ms) = grind (arith, unwritten-filter k ms)
 
 pub unwritten-taken : (s : SessionId) (id : MsgId) (ms : List Message) → unwritten_in (map (as_taken s id) ms) ≡ unwritten_in ms
 unwritten-taken s id [] = refl

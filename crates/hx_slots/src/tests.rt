@@ -25,16 +25,6 @@ const SENT: Message = Message {
     written: false,
 };
 
-// A message that comes later, to a part that stands before that one.
-const LATER: Message = Message {
-    id: MsgId(2),
-    part: PartId {
-        resource: ResourceId(1),
-        index: 1,
-    },
-    ..SENT
-};
-
 // Slots with a message that was sent and written.
 fn with_row(alloc: Global) -> Result<Slots, AllocError> {
     let mut slots = Slots::new(alloc);
@@ -94,37 +84,5 @@ fn the_first_row_of_a_session_goes(rt: HostRuntime) -> Result<(), Fail> {
     let first = slots.pop_row(SESSION).map(|r| (r.part, r.state));
     assert_eq!(rt; first, Some((PART, STATE)));
     assert_eq!(rt; slots.state(SESSION, PART), None);
-    Ok(())
-}
-
-// Slots with two rows, the later one before the other.
-fn with_two_rows(alloc: Global) -> Result<Slots, AllocError>
-    ensures { IfOk result (λ slots. slots.mail ≡ []) }
-{
-    let mut slots = with_row_alone(alloc)?;
-    slots.send(LATER)?;
-    slots.write(&LATER, STATE);
-    slots.acknowledge(SESSION, MsgId(2));
-    Ok(slots)
-}
-
-#[test]
-fn rows_stand_in_order_of_part(rt: HostRuntime) -> Result<(), Fail> {
-    let slots = with_two_rows(rt.alloc())?;
-    let mut rows = Seq::new(rt.alloc());
-    slots.push_rows_of(SESSION, &mut rows)?;
-    assert_eq!(rt; rows.first().map(|r| r.part), Some(LATER.part));
-    assert_eq!(rt; rows.last().map(|r| r.part), Some(PART));
-    Ok(())
-}
-
-#[test]
-fn rows_that_are_left_are_read(rt: HostRuntime) -> Result<(), Fail> {
-    let mut slots = with_two_rows(rt.alloc())?;
-    slots.pop_row(SESSION);
-    let mut rows = Seq::new(rt.alloc());
-    slots.push_rows_of(SESSION, &mut rows)?;
-    assert_eq!(rt; rows.first().map(|r| r.part), Some(PART));
-    assert_eq!(rt; rows.len(), 1);
     Ok(())
 }

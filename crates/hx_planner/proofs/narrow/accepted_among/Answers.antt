@@ -13,7 +13,7 @@ use Rattle.hx_gen.proofs.Moving.{candidates_same}
 use Rattle.hx_select.specs.Selection.{accepted_of}
 use Rattle.hx_marks.specs.Marks.{is_marked}
 use Rattle.hx_local.specs.Local.{marked_targets}
-use Rattle.hx_planner.proofs.Again.{all-filter}
+use Rattle.hx_lists.proofs.Conditions.{all-filter}
 use Rattle.hx_planner.proofs.narrow.accepted_among.Goals as goal
 use Rattle.hx_planner.proofs.narrow.accepted_among.Goals.{After-as_slice}
 

@@ -1,8 +1,8 @@
-use Rattle.std.proofs.Common.{◌≡◌, not, filter, Some, None, sym, ap, ◌∙◌, subst, refl}
+use Rattle.std.proofs.Common.{◌≡◌, not, filter, Some, None, sym, ap, ◌∙◌, subst}
 use Rattle.hx_cluster.specs.declared.state.Cluster.{Cluster}
 use Rattle.hx_cluster.specs.Ends.{instance_in, shown_of, is_live}
 use Rattle.hx_cluster.specs.Messages.{pending_of, has_id}
-use Rattle.hx_records.proofs.Marked.{own_session, own_number, pending_own, instance_found, dead_found, none_dead, nothing_gone}
+use Rattle.hx_records.proofs.Marked.{own_session, own_named, pending_own, instance_found, dead_found, none_dead, nothing_gone}
 use Rattle.hx_records.proofs.Records.discard.Goals as goal
 
 pub remove_message-requires-clause-instance : goal.remove_message-requires-clause-instance
@@ -24,9 +24,7 @@ returns c =
     let found : pending_of c.args.self.now c.args.session c.args.id ≡ Some c.in-Some-pending.message =
     subst (λ (v : Cluster). pending_of v c.args.session c.args.id ≡ Some c.in-Some-pending.message) c.self.view_is (sym c.pending.ensures ∙ c.in-Some-pending.is) in
     c.remove_message.ensures
-    ∙ (λ i. record c.args.self.now {
-      mail = filter (λ m. not (has_id (own_session c.args.self.now c.args.session c.args.id c.in-Some-pending.message found i) (own_number c.args.self.now c.args.session c.args.id c.in-Some-pending.message found i) m)) c.args.self.now.mail;
-    })
+    ∙ own_named (λ s id. record c.args.self.now { mail = filter (λ m. not (has_id s id m)) c.args.self.now.mail }) c.args.self.now c.args.session c.args.id c.in-Some-pending.message found
 
 pub returns-in_default : goal.returns-in_default
 returns-in_default c =

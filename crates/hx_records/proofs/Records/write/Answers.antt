@@ -1,7 +1,7 @@
 use Rattle.std.proofs.Common.{◌∙◌}
 use Rattle.hx_cluster.specs.Messages.{after_write}
 use Rattle.hx_records.proofs.Reaching.{whole_reached}
-use Rattle.hx_records.proofs.Marked.{own_session, own_number, pending_own}
+use Rattle.hx_records.proofs.Marked.{own_named, pending_own}
 use Rattle.hx_records.proofs.Records.write.Goals as goal
 
 pub bring-requires-clause-kept : goal.bring-requires-clause-kept
@@ -11,8 +11,4 @@ pub bring-requires-clause-pending : goal.bring-requires-clause-pending
 bring-requires-clause-pending c = pending_own c.args.self.now c.args.session c.args.id c.in_ok-message.message c.in_ok-message.ensures.message
 
 pub returns-clause-ok : goal.returns-clause-ok
-returns-clause-ok c =
-    let found = c.in_ok-message.ensures.message in
-    let now = c.args.self.now in
-    let m = c.in_ok-message.message in
-    c.bring.ensures ∙ (λ i. after_write now (own_session now c.args.session c.args.id m found i) (own_number now c.args.session c.args.id m found i) c.args.outcome)
+returns-clause-ok c = c.bring.ensures ∙ own_named (λ s id. after_write c.args.self.now s id c.args.outcome) c.args.self.now c.args.session c.args.id c.in_ok-message.message c.in_ok-message.ensures.message

@@ -1,9 +1,8 @@
-use Rattle.std.proofs.Common.{find, map, ap, ◌∙◌}
+use Rattle.std.proofs.Common.{true, find, ap, ◌∙◌}
 use Rattle.hx_slots.specs.Kept.{Kept}
 use Rattle.hx_slots.specs.Slots.{slot_key}
-use Rattle.hx_cluster.specs.Messages.{has_id, as_written, row_put}
-use Rattle.hx_slots.proofs.Mail.{pending_there}
-use Rattle.hx_slots.proofs.Calls.{slot_room, mail_room, message_placed, message_slot, written_kept, written_rows, written_mail}
+use Rattle.hx_cluster.specs.Messages.{has_id, row_put}
+use Rattle.hx_slots.proofs.Calls.{slot_room, message_placed, message_slot, may_mark, marked_mail, written_kept, written_rows}
 use Rattle.hx_slots.proofs.Slots.write.Goals as goal
 
 pub put_at-requires-clause-slots : goal.put_at-requires-clause-slots
@@ -24,13 +23,8 @@ put_at-requires-clause-room c =
     let m = c.args.message.now in
     slot_room c.self.inside.slots c.self.inside.mail c.self.inside.changes c.self.inside.paid (slot_key m.session m.part) c.self.invariant.0
 
-pub mark-requires-clause-there : goal.mark-requires-clause-there
-mark-requires-clause-there c =
-    let m = c.args.message.now in
-    pending_there c.self.inside.slots m.session m.id m c.self.inside.mail c.self.invariant.0.each_message (ap (λ (x : Kept). find (has_id m.session m.id) x.mail) c.self.view_is ∙ c.requires.pending)
-
-pub mark-requires-clause-room : goal.mark-requires-clause-room
-mark-requires-clause-room c = mail_room c.self.inside.slots c.self.inside.mail c.args.message.now.id.0 c.self.invariant.0.each_message
+pub mark-requires : goal.mark-requires
+mark-requires c = may_mark _ _ _ c.args.message.now c.self.invariant.0.each_message (ap (λ (x : Kept). x.mail) c.self.view_is) c.requires.pending
 
 pub invariant_of-self : goal.invariant_of-self
 invariant_of-self c =
@@ -48,8 +42,4 @@ returns-clause-rows c =
     ∙ ap (λ (x : Kept). row_put x.rows m.session m.part c.args.state) c.self.view_is
 
 pub returns-clause-mail : goal.returns-clause-mail
-returns-clause-mail c =
-    let m = c.args.message.now in
-    written_mail c.self.inside.slots c.self.inside.mail c.mark.new.mail m c.mark.ensures.ordered c.self.invariant.0.each_message
-    (ap (λ (x : Kept). find (has_id m.session m.id) x.mail) c.self.view_is ∙ c.requires.pending) c.mark.ensures.mail
-    ∙ ap (λ (x : Kept). map (as_written m.session m.id) x.mail) c.self.view_is
+returns-clause-mail c = marked_mail _ _ _ _ (λ m. record m { written = true }) c.args.message.now c.mark.ensures.ordered c.self.invariant.0.each_message (ap (λ (x : Kept). x.mail) c.self.view_is) c.requires.pending c.mark.ensures.mail

@@ -1,8 +1,7 @@
-use Rattle.std.proofs.Common.{◌≡◌, ℕ, ◌+◌, true, None, refl, sym, ap, ◌∙◌, ◌∷◌, [], ◌++◌, subst, arith}
+use Rattle.std.proofs.Common.{◌≡◌, ℕ, ◌+◌, true, refl, sym, ap, ◌∙◌, ◌∷◌, [], ◌++◌, subst, arith}
 use Rattle.hx_cluster.specs.declared.happenings.Event.TheVariants as events
 use Rattle.hx_cluster.specs.Steps.{did_of, is_in_range}
 use Rattle.hx_board.specs.Board.{Held, held, happened}
-use Rattle.hx_board.specs.Refusals.{step_refusal}
 use Rattle.hx_board.proofs.Free.{step_free}
 use Rattle.hx_board.proofs.Growing.{room_of, opens_paid, opens_one, owed_step, grown}
 use Rattle.hx_board.proofs.Reaching.{reached_of}
@@ -10,27 +9,23 @@ use Rattle.hx_board.proofs.board.Board.admin.Goals as goal
 
 pub answer_to-requires : goal.answer_to-requires
 answer_to-requires c =
-    let Q : Held → Type 0 = λ v. step_refusal v c.args.step.now ≡ None in
-    let free = step_free (held c.self.inside) c.args.step.now (subst Q (sym c.self.view_is) c.in_ok-weight.ensures.refused) in
+    let free = step_free _ _ c.args.step.now c.self.view_is c.in_ok-weight.ensures.refused in
     record { may = free.free; room = room_of c.self.inside c.self.invariant }
 
 pub answer_to-requires-2 : goal.answer_to-requires-2
 answer_to-requires-2 c =
-    let Q : Held → Type 0 = λ v. step_refusal v c.args.step.now ≡ None in
-    let free = step_free (held c.self.inside) c.args.step.now (subst Q (sym c.self.view_is) c.in_ok-weight.ensures.refused) in
+    let free = step_free _ _ c.args.step.now c.self.view_is c.in_ok-weight.ensures.refused in
     record { may = free.free; room = room_of c.self.inside c.self.invariant }
 
 pub make-requires : goal.make-requires
 make-requires c =
     let P : Held → Type 0 = λ v. is_in_range v.cluster c.args.step.now ≡ true in
-    let Q : Held → Type 0 = λ v. step_refusal v c.args.step.now ≡ None in
-    let free = step_free (held c.self.inside) c.args.step.now (subst Q (sym c.self.view_is) c.in_ok-weight.ensures.refused) in
+    let free = step_free _ _ c.args.step.now c.self.view_is c.in_ok-weight.ensures.refused in
     record { may = free.free; did = c.in_ok-did.ensures.did; range = subst P (sym c.self.view_is) c.requires; reached = reached_of c.self.inside c.self.invariant; room = room_of c.self.inside c.self.invariant }
 
 pub overflow_add-self : goal.overflow_add-self
 overflow_add-self c =
-    let Q : Held → Type 0 = λ v. step_refusal v c.args.step.now ≡ None in
-    let free = step_free (held c.self.inside) c.args.step.now (subst Q (sym c.self.view_is) c.in_ok-weight.ensures.refused) in
+    let free = step_free _ _ c.args.step.now c.self.view_is c.in_ok-weight.ensures.refused in
     omega (arith, free.fits, c.self.invariant.weighs, c.self.invariant.limited, c.in_ok-weight.ensures.weight)
 
 pub invariant_of-self-2 : goal.invariant_of-self-2
@@ -38,26 +33,20 @@ invariant_of-self-2 c =
     let a = c.self.inside in
     let step = c.args.step.now in
     let P : Held → Type 0 = λ v. is_in_range v.cluster step ≡ true in
-    let Q : Held → Type 0 = λ v. step_refusal v step ≡ None in
     let range : is_in_range a.records step ≡ true = subst P (sym c.self.view_is) c.requires in
-    let free = step_free (held a) step (subst Q (sym c.self.view_is) c.in_ok-weight.ensures.refused) in
+    let free = step_free _ _ step c.self.view_is c.in_ok-weight.ensures.refused in
     let did = did_of a.records step in
     let cloned : c.in_ok-copied.field-0 ≡ step = c.in_ok-copied.ensures in
     let event : events.Admin c.in_ok-copied.field-0 c.in_ok-answer_to.field-0 ≡ events.Admin step did = (λ i. events.Admin (cloned i) (c.in_ok-answer_to.ensures.did i)) in
-    grown a _ (events.Admin step did) c.self.invariant
+    grown a _ _ _ _ (events.Admin step did) c.self.invariant
     (record {
       step = (range, free.free, refl);
       other = refl;
-      spec = refl;
       records = c.in_ok-make.ensures.ok;
       history = c.record.ensures.items ∙ (λ i. c.in_ok-make_room.ensures.items i ++ event i ∷ []);
-      lines = refl;
-      taken = refl;
-      limit = refl;
-      charges = refl;
-      weight = ap (λ (n : ℕ). a.weight + n) c.in_ok-weight.ensures.weight;
+      weighs = ap (λ (n : ℕ). a.weight + n) c.in_ok-weight.ensures.weight;
       within = omega (arith, free.fits, c.self.invariant.weighs, c.in_ok-weight.ensures.weight);
-      owed = omega (arith, owed_step a.records step, c.opens.ensures, c.self.invariant.owed);
+      pays = omega (arith, owed_step a.records step, c.opens.ensures, c.self.invariant.owed);
       few = omega (arith, c.self.invariant.few, opens_paid step, c.opens.ensures, c.in_ok-weight.ensures.weight);
       room = omega (arith, c.in_ok-make_room.ensures.room, c.record.ensures.spare, opens_one step, c.opens.ensures);
     })

@@ -36,20 +36,15 @@ invariant_of-self-2 c =
     let answer : c.copied_into-told.result ≡ dispatched_of a.records k qs = c.copied_into-told.ensures ∙ c.in_ok-answer.ensures.answer in
     let event : events.Dispatch k epoch pass c.in_ok-copy.copy c.copied_into-told.result ≡ events.Dispatch k epoch pass qs (dispatched_of a.records k qs) =
     (λ i. events.Dispatch k epoch pass (c.in_ok-copy.ensures i) (answer i)) in
-    grown a _ (events.Dispatch k epoch pass qs (dispatched_of a.records k qs)) c.self.invariant
+    grown a _ _ _ _ (events.Dispatch k epoch pass qs (dispatched_of a.records k qs)) c.self.invariant
     (record {
       step = (each, free.stands, now, refl);
       other = refl;
-      spec = refl;
       records = c.in_ok-answer.ensures.after;
       history = c.record.ensures.items ∙ (λ i. c.in_ok-make_room.ensures.items i ++ event i ∷ []);
-      lines = refl;
-      taken = refl;
-      limit = refl;
-      charges = refl;
-      weight = ap (λ (n : ℕ). a.weight + n) c.in_ok-weight.ensures.weight;
+      weighs = ap (λ (n : ℕ). a.weight + n) c.in_ok-weight.ensures.weight;
       within = omega (arith, free.fits, c.self.invariant.weighs, c.in_ok-weight.ensures.weight);
-      owed = omega (arith, owed_dispatch a.records k qs, c.self.invariant.owed, c.in_ok-weight.ensures.weight);
+      pays = omega (arith, owed_dispatch a.records k qs, c.self.invariant.owed, c.in_ok-weight.ensures.weight);
       few = omega (arith, c.self.invariant.few, c.in_ok-weight.ensures.weight);
       room = omega (arith, c.in_ok-make_room.ensures.room, c.record.ensures.spare, c.in_ok-weight.ensures.weight);
     })

@@ -1,11 +1,10 @@
-use Rattle.std.proofs.Common.{◌≡◌, true, None, refl, sym, subst, arith}
+use Rattle.std.proofs.Common.{◌≡◌, true, refl, sym, subst}
 use Rattle.hx_cluster.specs.declared.happenings.Event.TheVariants as events
 use Rattle.hx_cluster.specs.declared.happenings.Did.TheVariants as dids
 use Rattle.hx_cluster.specs.Steps.{is_in_range}
-use Rattle.hx_board.specs.Board.{Held, held}
-use Rattle.hx_board.specs.Refusals.{step_refusal}
+use Rattle.hx_board.specs.Board.{Held}
 use Rattle.hx_board.proofs.Free.{step_free}
-use Rattle.hx_board.proofs.Growing.{room_of, end_did, end_weight, owed_end, grown}
+use Rattle.hx_board.proofs.Growing.{room_of, end_did, end_weight, owed_end, paid}
 use Rattle.hx_board.proofs.Reaching.{reached_of}
 use Rattle.hx_board.proofs.board.Board.end.Goals as goal
 
@@ -20,24 +19,7 @@ invariant_of-self c =
     let a = c.self.inside in
     let step = c.args.step in
     let P : Held → Type 0 = λ v. is_in_range v.cluster step ≡ true in
-    let Q : Held → Type 0 = λ v. step_refusal v step ≡ None in
     let range : is_in_range a.records step ≡ true = subst P (sym c.self.view_is) c.requires.range in
-    let free = step_free (held a) step (subst Q (sym c.self.view_is) c.requires.free) in
+    let free = step_free _ _ step c.self.view_is c.requires.free in
     let owed = owed_end a.records step c.requires.end free.free in
-    grown a _ (events.Admin step dids.Done) c.self.invariant
-    (record {
-      step = (range, free.free, sym (end_did a.records step c.requires.end));
-      other = refl;
-      spec = refl;
-      records = c.in-Ok.ensures.ok;
-      history = c.record.ensures.items;
-      lines = refl;
-      taken = refl;
-      limit = refl;
-      charges = refl;
-      weight = omega (arith, end_weight step c.requires.end);
-      within = c.self.invariant.within;
-      owed = omega (arith, owed, c.self.invariant.owed);
-      few = omega (arith, c.self.invariant.few);
-      room = omega (arith, owed, c.self.invariant.owed, c.self.invariant.room, c.record.ensures.spare);
-    })
+    paid a _ _ (events.Admin step dids.Done) c.self.invariant (range, free.free, sym (end_did a.records step c.requires.end)) refl (end_weight step c.requires.end) c.in-Ok.ensures.ok owed c.record.ensures

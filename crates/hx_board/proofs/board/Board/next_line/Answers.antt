@@ -1,4 +1,4 @@
-use Rattle.std.proofs.Common.{◌≡◌, None, Some, refl, sym, ap, ◌∙◌, ◌∷◌, [], ◌++◌, List, subst, arith}
+use Rattle.std.proofs.Common.{◌≡◌, None, Some, sym, ap, ◌∙◌, ◌∷◌, [], ◌++◌, List, subst, arith}
 use Rattle.std.specs.Prelude.{slice_get}
 use Rattle.hx_cluster.specs.declared.happenings.Event.{Event}
 use Rattle.hx_cluster.specs.declared.happenings.Event.TheVariants as events
@@ -17,18 +17,11 @@ invariant_of-self-2 c =
     let follows : next_line_of (held a) ≡ Some n = subst Q (sym c.self.view_is) (sym c.following.ensures ∙ c.in-Some-following.is) in
     let none : line_refusal (held a) ≡ None = subst R (sym c.self.view_is) (sym c.line_fault.ensures ∙ c.in_default.is) in
     let next : slice_get a.lines.items a.taken ≡ Some n = ap (slice_get a.lines.items) (sym c.self.invariant.taken) ∙ follows in
-    lined a _ n c.self.invariant
+    lined a _ _ n c.self.invariant
     (record {
       follows = next;
-      spec = refl;
       records = c.take_line.ensures;
       history = c.record.ensures.items ∙ ap (λ (es : List Event). es ++ events.Line n ∷ []) c.in_ok-make_room.ensures.items;
-      lines = refl;
-      taken = refl;
-      limit = refl;
-      charges = refl;
-      weight = refl;
       within = omega (arith, line_free (held a) n follows none, c.self.invariant.weighs);
-      owed = refl;
       room = omega (arith, c.in_ok-make_room.ensures.room, c.record.ensures.spare);
     })

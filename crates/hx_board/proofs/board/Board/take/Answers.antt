@@ -1,38 +1,13 @@
-use Rattle.std.proofs.Common.{◌≡◌, ◌+◌, ◌≤◌, None, refl, arith}
+use Rattle.std.proofs.Common.{refl}
 use Rattle.hx_cluster.specs.declared.happenings.Event.TheVariants as events
-use Rattle.hx_cluster.specs.Marks.{take_refusal}
-use Rattle.hx_cluster.specs.Events.{next}
-use Rattle.hx_cluster.specs.Weight.{owed_of}
-use Rattle.hx_board.proofs.Growing.{room_of, none-is, owed_take, grown}
+use Rattle.hx_board.proofs.Growing.{room_of, none-is, owed_take, paid_room, paid}
 use Rattle.hx_board.proofs.board.Board.take.Goals as goal
 
 pub take-requires : goal.take-requires
 take-requires c = room_of c.self.inside c.self.invariant
 
 pub record-requires : goal.record-requires
-record-requires c =
-    let free : take_refusal c.self.inside.records c.args.session c.args.id ≡ None = c.in_ok-take.ensures.refused in
-    omega (arith, owed_take c.self.inside.records c.args.session c.args.id free, c.self.invariant.owed, c.self.invariant.room)
+record-requires c = paid_room c.self.inside _ c.self.invariant (owed_take c.self.inside.records c.args.session c.args.id c.in_ok-take.ensures.refused)
 
 pub invariant_of-self-2 : goal.invariant_of-self-2
-invariant_of-self-2 c =
-    let a = c.self.inside in
-    let free : take_refusal a.records c.args.session c.args.id ≡ None = c.in_ok-take.ensures.refused in
-    let owed : owed_of (next a.records (events.Take c.args.session c.args.id)) + 1 ≤ owed_of a.records = owed_take a.records c.args.session c.args.id free in
-    grown a _ (events.Take c.args.session c.args.id) c.self.invariant
-    (record {
-      step = none-is (take_refusal a.records c.args.session c.args.id) free;
-      other = refl;
-      spec = refl;
-      records = c.in_ok-take.ensures.ok;
-      history = c.record.ensures.items;
-      lines = refl;
-      taken = refl;
-      limit = refl;
-      charges = refl;
-      weight = omega arith;
-      within = c.self.invariant.within;
-      owed = omega (arith, owed, c.self.invariant.owed);
-      few = omega (arith, c.self.invariant.few);
-      room = omega (arith, owed, c.self.invariant.owed, c.self.invariant.room, c.record.ensures.spare);
-    })
+invariant_of-self-2 c = paid c.self.inside _ _ (events.Take c.args.session c.args.id) c.self.invariant (none-is _ c.in_ok-take.ensures.refused) refl refl c.in_ok-take.ensures.ok (owed_take c.self.inside.records c.args.session c.args.id c.in_ok-take.ensures.refused) c.record.ensures

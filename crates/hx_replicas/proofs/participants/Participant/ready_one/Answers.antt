@@ -2,7 +2,10 @@ use Rattle.std.proofs.Common.{◌≡◌, set, arith, rules, refl, ap, is_none}
 use Rattle.std.proofs.lemmas.Grind.{common_steps}
 use Rattle.std.proofs.lemmas.Result.{err_from_is_err_and}
 use Rattle.hx_replicas.specs.Participants.{made_ready}
-use Rattle.hx_replicas.specs.Layout.{plain_slot}
+use Rattle.std.specs.Vec.{with_item}
+use Rattle.hx_replicas.specs.Layout.{IsLaidOut, plain_slot}
+use Rattle.hx_replicas.specs.Indexes.{IsIndexed, HasRoom}
+use Rattle.hx_replicas.specs.declared.indexed.Indexed.{Indexed}
 use Rattle.hx_replicas.proofs.Ledgers.{ledger}
 use Rattle.hx_replicas.proofs.Handing.{accepted-found, slot-held, slot-taken, is_none-map, IsLaidOut-ready, slot-set, readied-plain}
 use Rattle.hx_replicas.specs.declared.slots.Slot.{Slot}
@@ -10,6 +13,8 @@ use Rattle.hx_replicas.specs.Participants.{accepted_of}
 use Rattle.hx_replicas.proofs.Altering.{stands-in, set-alter}
 use Rattle.hx_replicas.proofs.Indexing.{indexed-same}
 use Rattle.hx_replicas.proofs.participants.Participant.ready_one.Goals as goal
+use Rattle.hx_replicas.proofs.participants.Participant.ready_one.Given.{Over}
+use Rattle.hx_replicas.proofs.participants.Participant.ready_one.Goals.{After-ready}
 
 pub unreachable-requires : goal.unreachable-requires
 unreachable-requires g c = accepted-found g.F.H.Handler c.self.inside.slots.items.items c.args.message.now (rw (← c.self.view_is) at c.requires) (cc)
@@ -22,8 +27,13 @@ pub ready-requires-clause-accepted : goal.ready-requires-clause-accepted
 ready-requires-clause-accepted g c κs within =
     (slot-held c.self.invariant.0 c.args.message.now c.in-Some.place c.index_mut.result.now (cc) c.index_mut.ensures.value (rw (← c.self.view_is) at c.requires)).work
 
-pub invariant_of-self : goal.invariant_of-self
-invariant_of-self g c =
+-- the slots are laid out and indexed with the readied one among them, whether or not its handler could be made
+kept : (g : Over) (c : After-ready g)
+    → let slots : Indexed g.row.F-H.Denot = record c.self.inside.slots { items = with_item c.self.inside.slots.items c.in-Some.place c.ready.new.slot } in
+    IsLaidOut g.F.H.Handler (g.F.Factory.listed c.ready.new.factory) slots.items.items (g.F.Factory.made c.ready.new.factory) (g.F.Factory.retired c.ready.new.factory)
+    × IsIndexed slots
+    × HasRoom c.self.inside.spare slots
+kept g c =
     let now = c.ready.ensures in
     let x = c.index_mut.result.now in
     let y = c.ready.new.slot in
@@ -35,18 +45,11 @@ invariant_of-self g c =
       record { items = c.self.invariant.2.items; queue = c.self.invariant.2.queue; places = c.self.invariant.2.places; numbers = c.self.invariant.2.numbers },
     )
 
+pub invariant_of-self : goal.invariant_of-self
+invariant_of-self g c = kept g (goal.at.invariant_of-self g c).After-ready
+
 pub invariant_of-self-2 : goal.invariant_of-self-2
-invariant_of-self-2 g c =
-    let now = c.ready.ensures in
-    let x = c.index_mut.result.now in
-    let y = c.ready.new.slot in
-    let xs = c.self.inside.slots.items.items in
-    let i = c.in-Some.place in
-    let t = slot-held c.self.invariant.0 c.args.message.now i x (cc) c.index_mut.ensures.value (rw (← c.self.view_is) at c.requires) in (
-      rw (now.listed, now.retired) (IsLaidOut-ready t y now.slot now.fits now.made c.self.invariant.0),
-      indexed-same c.self.inside.slots _ c.self.invariant.1 i x y (stands-in xs i x t.lt t.at_i) (ap (λ (s : Slot g.row.F-H.Denot). s.part) now.slot) (ap (λ (s : Slot g.row.F-H.Denot). s.node) now.slot) (ap (λ (s : Slot g.row.F-H.Denot). accepted_of s.work) now.slot) (set-alter xs i y x t.lt t.at_i) refl (λ p. refl) (λ q. refl),
-      record { items = c.self.invariant.2.items; queue = c.self.invariant.2.queue; places = c.self.invariant.2.places; numbers = c.self.invariant.2.numbers },
-    )
+invariant_of-self-2 g c = kept g (goal.at.invariant_of-self-2 g c).After-ready
 
 pub returns-in_err-ready : goal.returns-in_err-ready
 returns-in_err-ready g c =

@@ -1,6 +1,7 @@
 use Rattle.std.proofs.Common.{sym, ◌∙◌}
-use Rattle.hx_replicas.proofs.Queues.{fewer, first_held}
+use Rattle.hx_replicas.proofs.Queues.{fewer}
 use Rattle.hx_replicas.proofs.queue.Queue.clear.Goals as goal
+use Rattle.hx_links.proofs.Walking.{first_held}
 
 pub loop-node-smaller : goal.loop-node-smaller
 loop-node-smaller c =
