@@ -3,6 +3,7 @@ use Rattle.std.proofs.Common.{◌≡◌, ℕ, ◌<◌, ◌||◌, ◌==◌, not, 
 use Rattle.std.specs.Prelude.{if◌then◌else◌, is_none, slice_set}
 use Rattle.std.specs.List.{list_any}
 use Rattle.std.specs.Option.{option_map}
+use Rattle.std.proofs.lemmas.Bool.{cond_both}
 use Rattle.std.proofs.lemmas.Bool.Decides.{nat_tests}
 use Rattle.hx_ids.specs.declared.InstanceId.{InstanceId}
 use Rattle.hx_ids.specs.declared.SessionId.{SessionId}
@@ -30,31 +31,16 @@ use Rattle.hx_agreed.specs.InStep.{Each, of_instance, IsHeldJob}
 use Rattle.hx_agreed.proofs.Frames.{same_is}
 use Rattle.hx_agreed.proofs.Changes.{instance_same}
 use Rattle.hx_agreed.proofs.Replicas.{here_put}
-use Rattle.hx_agreed.proofs.Marks.{marked, written_message, pending_found}
+use Rattle.hx_agreed.proofs.Marks.{marked, taken_message, written_message, pending_found}
 use Rattle.hx_bounded.proofs.Ends
 use Rattle.hx_bounded.proofs.Later.{IsLater, later_self, later_both, finished_later, IsFrom}
 
 -- what is pending after an event of work was pending before
-is_taken_as : (s : SessionId) (id : MsgId) (u : SessionId) (p : PartId) (m : Message) → is_message u p (as_taken s id m) ≡ is_message u p m
-is_taken_as s id u p m = one (has_id s id m)
-  where
-    one : (b : Bool) → is_message u p (if b then record m { taken = true } else m) ≡ is_message u p m
-    one true = refl
-    one false = refl
-
 taken_number : (s : SessionId) (id : MsgId) (m : Message) → (as_taken s id m).id ≡ m.id
-taken_number s id m = one (has_id s id m)
-  where
-    one : (b : Bool) → (if b then record m { taken = true } else m).id ≡ m.id
-    one true = refl
-    one false = refl
+taken_number s id m = cond_both (has_id s id m) (record m { taken = true }) m (λ (x : Message). x.id ≡ m.id) (λ e. refl) (λ e. refl)
 
 written_number : (s : SessionId) (id : MsgId) (m : Message) → (as_written s id m).id ≡ m.id
-written_number s id m = one (has_id s id m)
-  where
-    one : (b : Bool) → (if b then record m { written = true } else m).id ≡ m.id
-    one true = refl
-    one false = refl
+written_number s id m = cond_both (has_id s id m) (record m { written = true }) m (λ (x : Message). x.id ≡ m.id) (λ e. refl) (λ e. refl)
 
 from_map : (f : Message → Message) (o : Option Message) (m : Message) → ((n : Message) → (f n).id ≡ n.id) → option_map f o ≡ Some m → (n : Message) × (o ≡ Some n) × (n.id ≡ m.id)
 from_map f None m number e = cc
@@ -64,7 +50,7 @@ from_map f (Some n) m number e = (n, refl, sym (number n) ∙ ap (λ (x : Messag
     one a b e = cc
 
 pub from_take : (c : Cluster) (s : SessionId) (id : MsgId) → IsFrom c (after_take c s id)
-from_take c s id u p m is = from_map (as_taken s id) (message_of c.mail u p) m (taken_number s id) (sym (marked (as_taken s id) u p (is_taken_as s id u p) c.mail) ∙ is)
+from_take c s id u p m is = from_map (as_taken s id) (message_of c.mail u p) m (taken_number s id) (sym (marked (as_taken s id) u p (taken_message s id u p) c.mail) ∙ is)
 
 pub from_write : (c : Cluster) (s : SessionId) (id : MsgId) (o : Outcome) → IsFrom c (after_write c s id o)
 from_write c s id o = one (pending_of c s id)
@@ -168,11 +154,7 @@ gone_filtered p [] = refl
 gone_filtered p (j ∷ js) = grind (arith, gone_filtered p js)
 
 marked_job : (i : InstanceId) (id : MsgId) (k : InstanceId) (n : MsgId) (j : Job) → Jobs.is_job i id (Jobs.as_written_job k n j) ≡ Jobs.is_job i id j
-marked_job i id k n j = one (Jobs.is_job k n j)
-  where
-    one : (b : Bool) → Jobs.is_job i id (if b then record j { is_written = true } else j) ≡ Jobs.is_job i id j
-    one true = refl
-    one false = refl
+marked_job i id k n j = cond_both (Jobs.is_job k n j) (record j { is_written = true }) j (λ (x : Job). Jobs.is_job i id x ≡ Jobs.is_job i id j) (λ e. refl) (λ e. refl)
 
 any_marked : (i : InstanceId) (id : MsgId) (k : InstanceId) (n : MsgId) (js : List Job) → list_any (Jobs.is_job i id) (map (Jobs.as_written_job k n) js) ≡ list_any (Jobs.is_job i id) js
 any_marked i id k n [] = refl
@@ -227,15 +209,15 @@ module _ (i : InstanceId) (id : MsgId) (w v : World) (low : i.0 < length w.parti
   never o j e f = cc
 
   pub write_carries : Ends.Writes i id w v → IsCarried i w v × WrittenIs i id v
-  write_carries (Ends.NoneToWrite t) = (carried_same i w v t.same, subst (WrittenIs i id) (sym t.same) (λ j e. absurd (never (find (Jobs.is_job i id) w.jobs) j t.none e)))
-  write_carries (Ends.WasWritten t) = (
+  write_carries (Ends.HasNone t) = (carried_same i w v t.same, subst (WrittenIs i id) (sym t.same) (λ j e. absurd (never (find (Jobs.is_job i id) w.jobs) j t.none e)))
+  write_carries (Ends.WasMarked t) = (
     carried_same i w v t.same,
     subst (WrittenIs i id) (sym t.same) (λ j e. let same : t.job ≡ j = job_is t.job j (sym t.found ∙ e) in ap (λ (x : Job). x.is_written) (sym same) ∙ t.marked),
   )
     where
       job_is : (a b : Job) → Some a ≡ Some b → a ≡ b
       job_is a b e = cc
-  write_carries (Ends.IsNowWritten t) = (
+  write_carries (Ends.WasMade t) = (
     record {
       none_more = λ n none. ap (list_any (Jobs.is_job i n)) t.jobs ∙ any_marked i n t.job.instance t.job.message.id w.jobs ∙ none;
       later = subst (IsLater (participant_of w i)) (ap (λ (ps : List Participant). of_instance ps i) (sym t.participants)) (later_self (participant_of w i));
@@ -258,15 +240,15 @@ module _ (i : InstanceId) (id : MsgId) (w v : World) (low : i.0 < length w.parti
           one : (b : Bool) → b ≡ true → (if b then record j { is_written = true } else j).is_written ≡ true
           one true e = refl
           one false e = cc
-  write_carries (Ends.WriteCutOff t) = (
+  write_carries (Ends.WasCutOff t) = (
     record { none_more = ended_none i id w v t.job low t.found t.ended; later = ended_later i id w v t.job low t.found t.ended; from = from_same w.cluster v.cluster t.cluster },
     λ j e. absurd (never (find (Jobs.is_job i id) v.jobs) j (find-none (Jobs.is_job i id) v.jobs (ended_here i id w v t.job low t.found t.ended)) e),
   )
 
   pub ack_carries : IsKept w.cluster → WrittenIs i id w → Ends.Acks i id w v → IsCarried i w v × (list_any (Jobs.is_job i id) v.jobs ≡ false)
-  ack_carries k written (Ends.NoneToAck t) = (carried_same i w v t.same, subst (λ (u : World). list_any (Jobs.is_job i id) u.jobs ≡ false) (sym t.same) (none-find (Jobs.is_job i id) w.jobs t.none))
-  ack_carries k written (Ends.WasUnwritten t) = absurd (let no : true ≡ false = sym (written t.job t.found) ∙ t.marked in cc)
-  ack_carries k written (Ends.IsNowAcked t) = (
+  ack_carries k written (Ends.HasNone t) = (carried_same i w v t.same, subst (λ (u : World). list_any (Jobs.is_job i id) u.jobs ≡ false) (sym t.same) (none-find (Jobs.is_job i id) w.jobs t.none))
+  ack_carries k written (Ends.WasMarked t) = absurd (let no : true ≡ false = sym (written t.job t.found) ∙ t.marked in cc)
+  ack_carries k written (Ends.WasMade t) = (
     record {
       none_more = ended_none i id w v t.job low t.found t.ended;
       later = ended_later i id w v t.job low t.found t.ended;
@@ -274,7 +256,7 @@ module _ (i : InstanceId) (id : MsgId) (w v : World) (low : i.0 < length w.parti
     },
     ended_here i id w v t.job low t.found t.ended,
   )
-  ack_carries k written (Ends.AckCutOff t) = (
+  ack_carries k written (Ends.WasCutOff t) = (
     record { none_more = ended_none i id w v t.job low t.found t.ended; later = ended_later i id w v t.job low t.found t.ended; from = from_same w.cluster v.cluster t.cluster },
     ended_here i id w v t.job low t.found t.ended,
   )

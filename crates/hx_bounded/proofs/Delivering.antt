@@ -36,7 +36,8 @@ use Rattle.hx_scripted.proofs.Standing.{Last}
 use Rattle.hx_agreed.proofs.Frames.{one_number, found_part}
 use Rattle.hx_agreed.proofs.Replicas.{here_put, acceptable}
 use Rattle.hx_agreed.proofs.Fetching.{bagged_now}
-use Rattle.hx_agreed.proofs.DoingLines.{AreReady, IsTaken, fetched_now, mail_fetched, fetched_history, accepted_now}
+use Rattle.hx_scripted.proofs.DoingLines.{fetched_history, mail_fetched}
+use Rattle.hx_agreed.proofs.DoingLines.{AreReady, IsTaken, fetched_now, accepted_now}
 use Rattle.hx_bounded.specs.Ending.{IfGoesOn}
 use Rattle.hx_bounded.proofs.Going.{goes_so, goes_each, goes_fetched}
 use Rattle.hx_bounded.proofs.Later.{le_both, accepted_last, accepted_here}
@@ -242,4 +243,4 @@ module _ (spec : Spec) (valid : IsValid spec) (last : Last) (P : Cluster → Typ
         let z = Jobs.fetched_as i mail y in
         all_delivered mail.messages z
         (begun b refl z (fetch_is i mail y none) (fetched_now spec valid last i x there a.stands room)
-        (subst (λ (h : List Event). list_all (is_fetched spec h) mail.messages ≡ true) (sym (fetched_history b i mail y)) (mail_fetched spec valid last i x a.stands))))
+        (subst (λ (h : List Event). list_all (is_fetched spec h) mail.messages ≡ true) (sym (fetched_history b i mail y)) (mail_fetched spec valid last i x a.stands.scripted))))

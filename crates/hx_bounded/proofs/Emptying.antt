@@ -33,7 +33,8 @@ use Rattle.hx_scripted.proofs.Standing.{Last}
 use Rattle.hx_agreed.specs.InStep.{of_instance, IsUntaken, IsAcceptedHere, IsOutHere, HasWork, IsAlong, IsPlaced, is_lent_as}
 use Rattle.hx_agreed.proofs.Slots.{is_mine}
 use Rattle.hx_agreed.proofs.Placed.{placed_work}
-use Rattle.hx_agreed.proofs.Frames.{same_is, found_pending, found_session, found_part, session_live}
+use Rattle.hx_safe.proofs.Sessions.{session_live}
+use Rattle.hx_agreed.proofs.Frames.{same_is, found_pending, found_session, found_part}
 use Rattle.hx_agreed.proofs.Going.{whole_there}
 use Rattle.hx_bounded.proofs.Carrying.{IsClosed}
 use Rattle.hx_bounded.proofs.Working.{IsAtWork}

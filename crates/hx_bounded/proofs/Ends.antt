@@ -1,16 +1,17 @@
 -- What takes, writes and acknowledgements in a world come to.
-use Rattle.std.proofs.Common.{◌≡◌, ℕ, not, Bool, true, false, [], ◌∷◌, ◌++◌, map, filter, find, Option, Some, None, refl, sym, ap, ◌∙◌}
-use Rattle.std.specs.Prelude.{slice_set}
+use Rattle.std.proofs.Common.{◌≡◌, ℕ, not, Bool, true, false, [], ◌∷◌, ◌++◌, map, filter, find, Option, Some, None, refl, sym, ap, ◌∙◌, subst, arith}
+use Rattle.std.specs.Prelude.{if◌then◌else◌, slice_set}
 use Rattle.hx_ids.specs.declared.InstanceId.{InstanceId}
 use Rattle.hx_ids.specs.declared.MsgId.{MsgId}
 use Rattle.hx_cluster.specs.declared.state.Message.{Message}
+use Rattle.hx_cluster.specs.declared.happenings.Event.{Event}
 use Rattle.hx_cluster.specs.declared.happenings.Event.TheVariants as events
 use Rattle.hx_cluster.specs.Messages.{after_take, after_write, after_ack}
 use Rattle.hx_cluster.specs.Events.{can_take, can_write, can_ack}
 use Rattle.hx_replicas.specs.Participants.{accepted_by, makes, slot_of, hand_out, finish}
 use Rattle.hx_worlds.specs.World.{World, State, Job, participant_of, with_participant}
 use Rattle.hx_worlds.specs.declared.Voice.TheVariants.{Quiet}
-use Rattle.hx_worlds.specs.Runs.{done, happened}
+use Rattle.hx_worlds.specs.Runs.{Deed, and_then, make, done, happened}
 use Rattle.hx_worlds.specs.Jobs as Jobs
 use Rattle.hx_bounded.specs.Ending.{IfGoesOn}
 use Rattle.hx_bounded.proofs.Going.{goes_made, goes_chosen}
@@ -110,16 +111,6 @@ pub record IsEnded (w v : World) (j : Job) : Type 0 where
   pub jobs : v.jobs ≡ filter (λ x. not (Jobs.is_job j.instance j.message.id x)) w.jobs
   pub controllers : v.controllers ≡ w.controllers
 
--- a write: there is no job, or it was written before, or now; or the job is ended
-pub record IsWritten (i : InstanceId) (id : MsgId) (w v : World) : Type 0 where
-  pub job : Job
-  pub found : find (Jobs.is_job i id) w.jobs ≡ Some job
-  pub can : can_write w.cluster job.message.session job.message.id ≡ true
-  pub cluster : v.cluster ≡ after_write w.cluster job.message.session job.message.id job.outcome
-  pub participants : v.participants ≡ w.participants
-  pub jobs : v.jobs ≡ map (Jobs.as_written_job job.instance job.message.id) w.jobs
-  pub controllers : v.controllers ≡ w.controllers
-
 pub record IsCutOff (i : InstanceId) (id : MsgId) (w v : World) : Type 0 where
   pub job : Job
   pub found : find (Jobs.is_job i id) w.jobs ≡ Some job
@@ -136,27 +127,51 @@ pub record HasMarkedJob (i : InstanceId) (id : MsgId) (mark : Bool) (w v : World
   pub marked : job.is_written ≡ mark
   pub same : v ≡ w
 
-pub data Writes (i : InstanceId) (id : MsgId) (w v : World) : Type 0 where
-  NoneToWrite : HasNoJob i id w v → Writes i id w v
-  WasWritten : HasMarkedJob i id true w v → Writes i id w v
-  IsNowWritten : IsWritten i id w v → Writes i id w v
-  WriteCutOff : IsCutOff i id w v → Writes i id w v
+-- a call for a job: there is none, or it was marked so before; or the call is made, or the job is ended
+pub data Calls (mark : Bool) (IsMade : World → World → Type 0) (i : InstanceId) (id : MsgId) (w v : World) : Type 0 where
+  HasNone : HasNoJob i id w v → Calls mark IsMade i id w v
+  WasMarked : HasMarkedJob i id mark w v → Calls mark IsMade i id w v
+  WasMade : IsMade w v → Calls mark IsMade i id w v
+  WasCutOff : IsCutOff i id w v → Calls mark IsMade i id w v
+
+call_ends : (mark : Bool) (IsMade : World → World → Type 0) (i : InstanceId) (id : MsgId) (x : State) (call : Option Job → Deed) (skips can : Job → Bool) (e : Job → Event) (f : Job → State → State)
+    → call None ≡ done x
+    → ((j : Job) → call (Some j) ≡ (if skips j then done x else if can j then and_then (make (e j) x) (λ y. done (f j y)) else done (Jobs.end_job j x)))
+    → ((j : Job) → skips j ≡ true → j.is_written ≡ mark)
+    → ((j : Job) → find (Jobs.is_job i id) x.world.jobs ≡ Some j → can j ≡ true → IsMade x.world (f j (happened (e j) x)).world)
+    → IfGoesOn (λ _ z. Calls mark IsMade i id x.world z.world) (call (find (Jobs.is_job i id) x.world.jobs))
+call_ends mark IsMade i id x call skips can e f nothing by marked made = one (find (Jobs.is_job i id) x.world.jobs) refl
+  where
+    one : (o : Option Job) → find (Jobs.is_job i id) x.world.jobs ≡ o → IfGoesOn (λ _ z. Calls mark IsMade i id x.world z.world) (call o)
+    one None is = subst (IfGoesOn (λ _ z. Calls mark IsMade i id x.world z.world)) (sym nothing) (record { to = HasNone (record { none = is; same = refl }) })
+    one (Some j) is =
+        subst (IfGoesOn (λ _ z. Calls mark IsMade i id x.world z.world)) (sym (by j))
+        (goes_chosen (λ _ z. Calls mark IsMade i id x.world z.world) (skips j) _ _
+        (λ skip. record { to = WasMarked (record { job = j; found = is; marked = marked j skip; same = refl }) })
+        (λ on. goes_chosen (λ _ z. Calls mark IsMade i id x.world z.world) (can j) _ _
+        (λ yes. goes_made (λ _ z. Calls mark IsMade i id x.world z.world) (e j) x (λ y. done (f j y)) (record { to = WasMade (made j is yes) }))
+        (λ no. record { to = WasCutOff (record { job = j; found = is; cluster = refl; ended = record { participants = refl; jobs = refl; controllers = refl } }) })))
+
+-- a write
+pub record IsWritten (i : InstanceId) (id : MsgId) (w v : World) : Type 0 where
+  pub job : Job
+  pub found : find (Jobs.is_job i id) w.jobs ≡ Some job
+  pub can : can_write w.cluster job.message.session job.message.id ≡ true
+  pub cluster : v.cluster ≡ after_write w.cluster job.message.session job.message.id job.outcome
+  pub participants : v.participants ≡ w.participants
+  pub jobs : v.jobs ≡ map (Jobs.as_written_job job.instance job.message.id) w.jobs
+  pub controllers : v.controllers ≡ w.controllers
+
+abbrev pub Writes : InstanceId → MsgId → World → World → Type 0
+Writes i id = Calls true (IsWritten i id) i id
 
 pub write_ends : (i : InstanceId) (id : MsgId) (x : State) → IfGoesOn (λ _ z. Writes i id x.world z.world) (Jobs.do_write Quiet i id x)
-write_ends i id x = one (find (Jobs.is_job i id) x.world.jobs) refl
-  where
-    one : (o : Option Job) → find (Jobs.is_job i id) x.world.jobs ≡ o → IfGoesOn (λ _ z. Writes i id x.world z.world) (Jobs.write_job Quiet o x)
-    one None is = record { to = NoneToWrite (record { none = is; same = refl }) }
-    one (Some j) is =
-        goes_chosen (λ _ z. Writes i id x.world z.world) j.is_written _ _
-        (λ marked. record { to = WasWritten (record { job = j; found = is; marked = marked; same = refl }) })
-        (λ unmarked. goes_chosen (λ _ z. Writes i id x.world z.world) (can_write x.world.cluster j.message.session j.message.id) _ _
-        (λ can. goes_made (λ _ z. Writes i id x.world z.world) (events.Write j.message.session j.message.id j.outcome) x (λ z. done (Jobs.with_written j.instance j.message.id z)) (record {
-          to = IsNowWritten (record { job = j; found = is; can = can; cluster = refl; participants = refl; jobs = refl; controllers = refl });
-        }))
-        (λ can. record { to = WriteCutOff (record { job = j; found = is; cluster = refl; ended = record { participants = refl; jobs = refl; controllers = refl } }) }))
+write_ends i id x =
+    call_ends true (IsWritten i id) i id x (λ o. Jobs.write_job Quiet o x) (λ j. j.is_written) (λ j. can_write x.world.cluster j.message.session j.message.id)
+    (λ j. events.Write j.message.session j.message.id j.outcome) (λ j. Jobs.with_written j.instance j.message.id) refl (λ j. refl) (λ j e. e)
+    (λ j is can. record { job = j; found = is; can = can; cluster = refl; participants = refl; jobs = refl; controllers = refl })
 
--- an acknowledgement: there is no job, or it isn't written; or it is ended, with the message or without
+-- an acknowledgement, with which the job ends
 pub record IsAcked (i : InstanceId) (id : MsgId) (w v : World) : Type 0 where
   pub job : Job
   pub found : find (Jobs.is_job i id) w.jobs ≡ Some job
@@ -164,26 +179,11 @@ pub record IsAcked (i : InstanceId) (id : MsgId) (w v : World) : Type 0 where
   pub cluster : v.cluster ≡ after_ack w.cluster job.message.session job.message.id
   pub ended : IsEnded w v job
 
-pub data Acks (i : InstanceId) (id : MsgId) (w v : World) : Type 0 where
-  NoneToAck : HasNoJob i id w v → Acks i id w v
-  WasUnwritten : HasMarkedJob i id false w v → Acks i id w v
-  IsNowAcked : IsAcked i id w v → Acks i id w v
-  AckCutOff : IsCutOff i id w v → Acks i id w v
+abbrev pub Acks : InstanceId → MsgId → World → World → Type 0
+Acks i id = Calls false (IsAcked i id) i id
 
 pub ack_ends : (i : InstanceId) (id : MsgId) (x : State) → IfGoesOn (λ _ z. Acks i id x.world z.world) (Jobs.do_ack Quiet i id x)
-ack_ends i id x = one (find (Jobs.is_job i id) x.world.jobs) refl
-  where
-    unset : (b : Bool) → not b ≡ true → b ≡ false
-    unset true e = sym e
-    unset false e = refl
-
-    one : (o : Option Job) → find (Jobs.is_job i id) x.world.jobs ≡ o → IfGoesOn (λ _ z. Acks i id x.world z.world) (Jobs.ack_job Quiet o x)
-    one None is = record { to = NoneToAck (record { none = is; same = refl }) }
-    one (Some j) is =
-        goes_chosen (λ _ z. Acks i id x.world z.world) (not j.is_written) _ _
-        (λ unmarked. record { to = WasUnwritten (record { job = j; found = is; marked = unset j.is_written unmarked; same = refl }) })
-        (λ marked. goes_chosen (λ _ z. Acks i id x.world z.world) (can_ack x.world.cluster j.message.session j.message.id) _ _
-        (λ can. goes_made (λ _ z. Acks i id x.world z.world) (events.Ack j.message.session j.message.id) x (λ z. done (Jobs.end_job j z)) (record {
-          to = IsNowAcked (record { job = j; found = is; can = can; cluster = refl; ended = record { participants = refl; jobs = refl; controllers = refl } });
-        }))
-        (λ can. record { to = AckCutOff (record { job = j; found = is; cluster = refl; ended = record { participants = refl; jobs = refl; controllers = refl } }) }))
+ack_ends i id x =
+    call_ends false (IsAcked i id) i id x (λ o. Jobs.ack_job Quiet o x) (λ j. not j.is_written) (λ j. can_ack x.world.cluster j.message.session j.message.id)
+    (λ j. events.Ack j.message.session j.message.id) (λ j. Jobs.end_job j) refl (λ j. refl) (λ j e. grind (arith, e))
+    (λ j is can. record { job = j; found = is; can = can; cluster = refl; ended = record { participants = refl; jobs = refl; controllers = refl } })

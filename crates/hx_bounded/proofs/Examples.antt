@@ -1,10 +1,7 @@
 -- Settles of one instance and one partition that it is to lead: two rounds send, and the third settles; or its replica fails.
-use Rattle.std.proofs.Common.{◌≡◌, ℕ, false, [], ◌∷◌, refl}
-use Rattle.std.specs.Prelude.{Option, Some, codes}
-use Rattle.hx_ids.specs.Words.{instance, model, controller}
-use Rattle.hx_model.specs.Builtin.{builtin_states, builtin_names, builtin_models}
-use Rattle.hx_ideal.specs.declared.Mode.TheVariants as modes
-use Rattle.hx_cluster.specs.declared.description.Spec.{Spec}
+use Rattle.std.proofs.Common.{◌≡◌, ℕ, [], ◌∷◌, refl}
+use Rattle.std.specs.Prelude.{Option, Some}
+use Rattle.hx_ids.specs.Words.{instance, controller}
 use Rattle.hx_cluster.specs.declared.happenings.Admin.{Admin}
 use Rattle.hx_cluster.specs.declared.happenings.Admin.TheVariants as steps
 use Rattle.hx_cluster.specs.declared.happenings.Outcome.TheVariants as outcomes
@@ -14,20 +11,7 @@ use Rattle.hx_worlds.specs.declared.Settled.{Settled}
 use Rattle.hx_worlds.specs.World.{State, Answered, opening_world, told_by}
 use Rattle.hx_worlds.specs.Runs.{Run, GoesOn, happened}
 use Rattle.hx_worlds.specs.Settles.{enough_rounds, settle}
-
-abbrev spec : Spec
-spec = record {
-  instances = codes "n1" ∷ [];
-  states = builtin_states;
-  resource_names = codes "db" ∷ [];
-  model_names = builtin_names;
-  models = builtin_models;
-  controllers = 1;
-  timeout = 30;
-  rules = [];
-  resources = record { name = 0; model = model 0; ideal = record { replicas = 1; parts = 1; mode = modes.Semi ((instance 0 ∷ []) ∷ []) }; dropped = false } ∷ [];
-  failures = [];
-}
+use Rattle.hx_worlds.proofs.Examples.{spec}
 
 abbrev after_step : Admin → State → State
 after_step step x = happened (events.Admin step (did_of x.world.cluster step)) x

@@ -3,11 +3,11 @@ use Rattle.std.proofs.Common.{◌≡◌, ℕ, ◌+◌, ◌<◌, ◌≤◌, ◌||
 use Rattle.std.specs.Prelude.{if◌then◌else◌, is_none, unwrap_or}
 use Rattle.std.specs.List.{list_any, sum_by}
 use Rattle.std.specs.Option.{option_map, option_map_or}
+use Rattle.std.proofs.lemmas.Bool.{cond_both}
 use Rattle.std.proofs.lemmas.Bool.Decides.{nat_tests}
 use Rattle.hx_lists.specs.Lists.{count}
 use Rattle.hx_ids.specs.declared.SessionId.{SessionId}
 use Rattle.hx_ids.specs.declared.MsgId.{MsgId}
-use Rattle.hx_ids.specs.declared.PartId.{PartId}
 use Rattle.hx_ids.specs.declared.StateId.{StateId}
 use Rattle.hx_ids.specs.declared.PassNo.{PassNo}
 use Rattle.hx_model.specs.declared.ModelParts.{ModelParts}
@@ -32,12 +32,12 @@ use Rattle.hx_pass.specs.Explained.{view_at}
 use Rattle.hx_safe.proofs.Counting.{and-both, find-passes, find-single}
 use Rattle.hx_safe.proofs.Ends.{same-self, part_eq-self, session_same, part_same, find-filter}
 use Rattle.hx_safe.proofs.Kept.{IsKept}
-use Rattle.hx_agreed.proofs.Marks.{marked, written_elsewhere, written_now}
+use Rattle.hx_agreed.proofs.Marks.{marked, taken_message, written_elsewhere, written_now}
 use Rattle.hx_settled.specs.Places.{Place, places_of, left_at, tries_left, spent, is_spendable}
 use Rattle.hx_settled.specs.Ways.{IsOnItsWay}
 use Rattle.hx_settled.proofs.Goals.{goal_same}
 use Rattle.hx_settled.proofs.Placed.{left_all}
-use Rattle.hx_settled.proofs.Spending.{tries_spent}
+use Rattle.hx_settled.proofs.Spending.{other_flags, tries_spent}
 use Rattle.hx_settled.proofs.Falling.{stays_on, way_falls, ways_stay}
 use Rattle.hx_bounded.specs.Falling.{is_honest, IsUnwritten, is_to_write, IsOnTheWay, IsFalling}
 
@@ -64,13 +64,6 @@ way_marked d m taken written w =
     record { resource = w.resource; instance = w.instance; there = w.there; shown = w.shown; away = w.away; hop = w.hop; next = w.next; to = w.to }
 
 -- what was pending and unwritten before a take
-taken_message : (s : SessionId) (id : MsgId) (u : SessionId) (p : PartId) (m : Message) → is_message u p (as_taken s id m) ≡ is_message u p m
-taken_message s id u p m = one (has_id s id m)
-  where
-    one : (b : Bool) → is_message u p (if b then record m { taken = true } else m) ≡ is_message u p m
-    one true = refl
-    one false = refl
-
 record WasUnwritten (c : Cluster) (m : Message) : Type 0 where
   before : Message
   mark : Bool
@@ -110,11 +103,9 @@ before_take c s id m u =
 
 to_write_taken : (s : SessionId) (id : MsgId) (ms : List Message) → list_any is_to_write (map (as_taken s id) ms) ≡ list_any is_to_write ms
 to_write_taken s id [] = refl
-to_write_taken s id (m ∷ ms) = (λ i. one (has_id s id m) i || to_write_taken s id ms i)
-  where
-    one : (b : Bool) → is_to_write (if b then record m { taken = true } else m) ≡ is_to_write m
-    one true = refl
-    one false = refl
+to_write_taken s id (m ∷ ms) =
+    let same : is_to_write (as_taken s id m) ≡ is_to_write m = cond_both (has_id s id m) (record m { taken = true }) m (λ (x : Message). is_to_write x ≡ is_to_write m) (λ e. refl) (λ e. refl) in
+    (λ i. same i || to_write_taken s id ms i)
 
 pub take_falls : (w t l : ℕ) (c : Cluster) (s : SessionId) (id : MsgId) → IsFalling w t l c → IsFalling w t l (after_take c s id)
 take_falls w t l c s id f = record { size = f.size; resets = λ m u. resets m (before_take c s id m u); falls = falls f.falls }
@@ -140,48 +131,29 @@ take_falls w t l c s id f = record { size = f.size; resets = λ m u. resets m (b
     falls (inl few) = inl few
     falls (inr way) = inr (record { tries_same = way.tries_same; ways = λ m u. ways way m (before_take c s id m u); fewer = fewer way.fewer })
 
+-- what may be done to a message finds it
+found_by : {F : Type 0} (fault : Option Message → Option F) (ended : F) (live : Bool) (o : Option Message) → is_none (fault None) ≡ false → is_none (if live then fault o else Some ended) ≡ true
+    → (m : Message) × (o ≡ Some m) × (is_none (fault (Some m)) ≡ true)
+found_by fault ended false o none e = cc
+found_by fault ended true None none e = let both = sym none ∙ e in cc
+found_by fault ended true (Some m) none e = (m, refl, e)
+
+-- a message that is pending, as far as its write
+record IsPendingAs (c : Cluster) (s : SessionId) (id : MsgId) (is_written : Bool) : Type 0 where
+  message : Message
+  pending : pending_of c s id ≡ Some message
+  written : message.written ≡ is_written
+
 -- what may be written and acknowledged
-record IsWritable (c : Cluster) (s : SessionId) (id : MsgId) : Type 0 where
-  message : Message
-  pending : pending_of c s id ≡ Some message
-  unwritten : message.written ≡ false
+writable : (c : Cluster) (s : SessionId) (id : MsgId) → can_write c s id ≡ true → IsPendingAs c s id false
+writable c s id can =
+    let found = found_by write_fault writes.SessionEnded (is_live c.live s) (pending_of c s id) refl can in
+    record { message = found.0; pending = found.1; written = grind (arith, found.2) }
 
-writable : (c : Cluster) (s : SessionId) (id : MsgId) → can_write c s id ≡ true → IsWritable c s id
-writable c s id can = one (is_live c.live s) can
-  where
-    marks : (m : Message) → pending_of c s id ≡ Some m → (a b : Bool) → m.written ≡ b
-        → is_none (if not a then Some writes.NotTaken else if b then Some writes.AlreadyWritten else None) ≡ true → IsWritable c s id
-    marks m at true false is e = record { message = m; pending = at; unwritten = is }
-    marks m at true true is e = cc
-    marks m at false b is e = cc
-
-    two : (o : Option Message) → pending_of c s id ≡ o → is_none (write_fault o) ≡ true → IsWritable c s id
-    two None at e = cc
-    two (Some m) at e = marks m at m.taken m.written refl e
-
-    one : (b : Bool) → is_none (if b then write_fault (pending_of c s id) else Some writes.SessionEnded) ≡ true → IsWritable c s id
-    one true e = two (pending_of c s id) refl e
-    one false e = cc
-
-record IsDone (c : Cluster) (s : SessionId) (id : MsgId) : Type 0 where
-  message : Message
-  pending : pending_of c s id ≡ Some message
-  written : message.written ≡ true
-
-done_there : (c : Cluster) (s : SessionId) (id : MsgId) → can_ack c s id ≡ true → IsDone c s id
-done_there c s id can = one (is_live c.live s) can
-  where
-    marks : (m : Message) → pending_of c s id ≡ Some m → (b : Bool) → m.written ≡ b → is_none (if b then None else Some acks.NotWritten) ≡ true → IsDone c s id
-    marks m at true is e = record { message = m; pending = at; written = is }
-    marks m at false is e = cc
-
-    two : (o : Option Message) → pending_of c s id ≡ o → is_none (ack_fault o) ≡ true → IsDone c s id
-    two None at e = cc
-    two (Some m) at e = marks m at m.written refl e
-
-    one : (b : Bool) → is_none (if b then ack_fault (pending_of c s id) else Some acks.SessionEnded) ≡ true → IsDone c s id
-    one true e = two (pending_of c s id) refl e
-    one false e = cc
+done_there : (c : Cluster) (s : SessionId) (id : MsgId) → can_ack c s id ≡ true → IsPendingAs c s id true
+done_there c s id can =
+    let found = found_by ack_fault acks.SessionEnded (is_live c.live s) (pending_of c s id) refl can in
+    record { message = found.0; pending = found.1; written = grind (arith, found.2) }
 
 -- a message that is found by its number is that of its replica
 module _ (c : Cluster) (k : IsKept c) (s : SessionId) (id : MsgId) (m : Message) (at : pending_of c s id ≡ Some m) where
@@ -198,17 +170,6 @@ module _ (c : Cluster) (k : IsKept c) (s : SessionId) (id : MsgId) (m : Message)
       find-single (has_id s id) (is_message s m.part) c.mail m at
       (and-both (m.session.0 == s.0) (part_eq m.part m.part) (subst (λ (u : SessionId). (m.session.0 == u.0) ≡ true) session (same-self m.session.0)) (part_eq-self m.part))
       (k.mail.single s m.part)
-
--- flags of others stay
-other_flags : (s u : SessionId) (p q : PartId) → ((u.0 == s.0) && part_eq q p) ≡ false → (flags : List (SessionId × PartId))
-    → list_any (is_flag u q) (filter (λ f. not (is_flag s p f)) flags) ≡ list_any (is_flag u q) flags
-other_flags s u p q ne [] = refl
-other_flags s u p q ne (f ∷ flags) = one (is_flag s p f) refl (other_flags s u p q ne flags)
-  where
-    one : (b : Bool) → is_flag s p f ≡ b → list_any (is_flag u q) (filter (λ f. not (is_flag s p f)) flags) ≡ list_any (is_flag u q) flags
-        → list_any (is_flag u q) (if not b then f ∷ filter (λ f. not (is_flag s p f)) flags else filter (λ f. not (is_flag s p f)) flags) ≡ list_any (is_flag u q) (f ∷ flags)
-    one true is rest = let other : is_flag u q f ≡ false = grind (arith, nat_tests, is, ne) in grind (arith, other, rest)
-    one false is rest = ap (λ (b : Bool). is_flag u q f || b) rest
 
 module _ (w t l : ℕ) (c : Cluster) (safe : IsSafe c) (ranged : IsRanged c) (k : IsKept c) (s : SessionId) (id : MsgId) (m : Message) (at : pending_of c s id ≡ Some m) (fresh : m.written ≡ false) (f : IsFalling w t l c) where
   written : Outcome → Cluster
@@ -308,7 +269,7 @@ pub write_falls : (w t l : ℕ) (c : Cluster) (s : SessionId) (id : MsgId) (o : 
 write_falls w t l c s id o safe ranged k can honest f =
     let m = writable c s id can in
     subst (λ (p : Option Message). IsFalling w t l (written_of c s id o p)) (sym m.pending)
-    (falls_written w t l c safe ranged k s id m.message m.pending m.unwritten f o (honest m.message m.pending))
+    (falls_written w t l c safe ranged k s id m.message m.pending m.written f o (honest m.message m.pending))
 
 -- acknowledgements take away what was written
 few_left : (p : Message → Bool) (s : SessionId) (id : MsgId) (ms : List Message) → count (λ x. x.id.0 == id.0) ms ≤ 0 → list_any p (filter (λ x. not (has_id s id x)) ms) ≡ list_any p ms

@@ -79,11 +79,8 @@ turn_over spec k x valid s leads =
     (λ o y t. one o y t t.moved.told)
   where
     one : (o : Option PassOutcome) (y : State) → IsThrough spec valid (since x.world.cluster.line) k x o y → IsTold x.world.cluster o y.world.cluster → IsOver k o y
-    one None y t told = record { idle = t.idle; report = tt }
-    one (Some (ends.Sent n)) y t told = record { idle = t.idle; report = tt }
-    one (Some (ends.Waiting n)) y t told = record { idle = t.idle; report = tt }
-    one (Some (ends.Moved from to)) y t told = record { idle = t.idle; report = tt }
     one (Some (ends.Settled r)) y t told = record { idle = t.idle; report = told }
+    one _ y t told = record { idle = t.idle; report = tt }
 
 -- later rounds
 pub rounds_fall : (spec : Spec) (k : ControllerId) (x : State) → IsValid spec → IsBetweenRounds spec k x → IfGoesOn (SettlesOrLeavesLess spec k (work_left x.world.cluster)) (Turns.do_pass Quiet k x)
@@ -107,11 +104,8 @@ rounds_fall spec k x valid b =
 
     one : (o : Option PassOutcome) (y : State) → IsLaterTurn spec (since x.world.cluster.line) k (all_walks x.world.cluster) (tries_left x.world.cluster) (left_of x.world.cluster) o y
         → SettlesOrLeavesLess spec k (work_left x.world.cluster) o y
-    one None y off = less y off
-    one (Some (ends.Sent n)) y off = less y off
-    one (Some (ends.Waiting n)) y off = less y off
-    one (Some (ends.Moved from to)) y off = less y off
     one (Some (ends.Settled r)) y explained = explained
+    one _ y off = less y off
 
 -- settles
 pub settles : (spec : Spec) (x : State) → IsValid spec → IsOfItsHistory spec x.world → IsInStep x.world → IfGoesOn (IsEnd x.world.cluster x.world.cluster.leader) (settle x)

@@ -505,9 +505,7 @@ module _ (spec : Spec) (valid : IsValid spec) (last : Last) (k : ControllerId) (
       so : (q : PassOutcome) → IsPassed (Some q) y → (rows : List Seen)
           → by_outcome (λ report. Unit {0}) (IsFalling w t l (record y.world.cluster { posted = rows }) × HasNoJobs y.world) (Some q)
       so (ends.Settled r) p rows = tt
-      so (ends.Sent n) p rows = (way_posted w t l y.world.cluster rows p.0, p.1)
-      so (ends.Waiting n) p rows = (way_posted w t l y.world.cluster rows p.0, p.1)
-      so (ends.Moved from to) p rows = (way_posted w t l y.world.cluster rows p.0, p.1)
+      so _ p rows = (way_posted w t l y.world.cluster rows p.0, p.1)
 
       refused : (z : State) → z ≡ with_controller (idle_controller (own y).id) y → IsPassed (Some o) z
       refused z is = subst (IsPassed (Some o)) (sym is) passed
@@ -634,19 +632,13 @@ module _ (spec : Spec) (valid : IsValid spec) (last : Last) (k : ControllerId) (
 pub later_turn : (spec : Spec) (valid : IsValid spec) (last : Last) (k : ControllerId) (x : State) → IsAtRest spec last k x
     → IfGoesOn (IsLaterTurn spec last k (all_walks x.world.cluster) (tries_left x.world.cluster) (left_of x.world.cluster)) (Turns.do_pass Quiet k x)
 later_turn spec valid last k x rest =
+    let w : ℕ = all_walks x.world.cluster in
+    let t : ℕ = tries_left x.world.cluster in
+    let l : ℕ = left_of x.world.cluster in
     goes_so (λ o y. IsThrough spec valid last k x o y × IsPassed spec valid last k w t l o y) (IsLaterTurn spec last k w t l) (Turns.do_pass Quiet k x)
     (goes_both (IsThrough spec valid last k x) (IsPassed spec valid last k w t l) (Turns.do_pass Quiet k x) (turn_through spec valid last k x rest.led.stands rest.led.leads) (later spec valid last k w t l x rest refl refl refl))
     (λ o y e. one o y e.0 e.0.moved.told e.1)
   where
-    w : ℕ
-    w = all_walks x.world.cluster
-
-    t : ℕ
-    t = tries_left x.world.cluster
-
-    l : ℕ
-    l = left_of x.world.cluster
-
     off : (o : Option PassOutcome) (y : State) → IsThrough spec valid last k x o y → IsFalling (all_walks x.world.cluster) (tries_left x.world.cluster) (left_of x.world.cluster) y.world.cluster × HasNoJobs y.world
         → IsSetOff spec last k (all_walks x.world.cluster) (tries_left x.world.cluster) (left_of x.world.cluster) y
     off o y h p = record { led = record { stands = h.moved.stands; leads = h.moved.leads; idle = h.idle }; falls = p.0; jobs = p.1 }
@@ -654,8 +646,5 @@ later_turn spec valid last k x rest =
     one : (o : Option PassOutcome) (y : State) → IsThrough spec valid last k x o y → IsTold x.world.cluster o y.world.cluster
         → IsPassed spec valid last k (all_walks x.world.cluster) (tries_left x.world.cluster) (left_of x.world.cluster) o y
         → IsLaterTurn spec last k (all_walks x.world.cluster) (tries_left x.world.cluster) (left_of x.world.cluster) o y
-    one None y h told p = off None y h p
-    one (Some (ends.Sent n)) y h told p = off (Some (ends.Sent n)) y h p
-    one (Some (ends.Waiting n)) y h told p = off (Some (ends.Waiting n)) y h p
-    one (Some (ends.Moved from to)) y h told p = off (Some (ends.Moved from to)) y h p
     one (Some (ends.Settled r)) y h told p = told
+    one o y h told p = off o y h p

@@ -41,7 +41,7 @@ use Rattle.hx_settled.proofs.Moments.{any-sort}
 use Rattle.hx_agreed.proofs.Changes.{instance_same}
 use Rattle.hx_agreed.proofs.Going.{whole_there}
 use Rattle.hx_agreed.proofs.DoingTurns.{Stands}
-use Rattle.hx_agreed.proofs.DoingLines.{live_instances}
+use Rattle.hx_scripted.proofs.DoingLines.{live_instances}
 use Rattle.hx_bounded.specs.Ending.{IfGoesOn}
 use Rattle.hx_bounded.specs.Falling.{is_honest, IsFalling}
 use Rattle.hx_bounded.proofs.Falls.{take_falls, write_falls, ack_falls}
@@ -197,7 +197,7 @@ module _ (spec : Spec) (valid : IsValid spec) (last : Last) where
         (goes_each IsBetween Jobs.do_work one_works (map (λ e. e.1) (live_shown x.world.cluster)) x (record {
           at_work = a;
           done = all_in;
-          there = live_instances spec valid last x a.stands;
+          there = live_instances spec valid last x a.stands.scripted;
           shown = subst (λ (ls : List Live). list_all (λ i. is_some (live_of ls i)) (map (λ e. e.1) (live_shown x.world.cluster)) ≡ true) same (shown_sessions x.world.cluster.live);
         }))
         (λ _ y b. let w = whole_there spec last y.world valid b.at_work.stands.scripted in (b.at_work, nothing_pending y.world.cluster w.kept w.seated.instances b.done))

@@ -1,5 +1,5 @@
 -- Rounds end, where each round after the first settles or leaves less work.
-use Rattle.std.proofs.Common.{◌≡◌, ℕ, zero, suc, ◌+◌, ◌<◌, false, [], Option, Some, None, refl, sym, subst, arith}
+use Rattle.std.proofs.Common.{◌≡◌, ℕ, zero, suc, ◌+◌, ◌<◌, false, [], Option, Some, refl, sym, subst, arith}
 use Rattle.hx_ids.specs.declared.ControllerId.{ControllerId}
 use Rattle.hx_cluster.specs.declared.description.Spec.{Spec}
 use Rattle.hx_cluster.specs.Ends.{is_live}
@@ -75,18 +75,12 @@ module _ (spec : Spec) (valid : IsValid spec) (last : Last) (k : ControllerId)
   rounds_end : (m n : ℕ) (x : State) → IsAtRest spec last k x → work_left x.world.cluster < m → IfGoesOn (λ s y. HasSettled (n + m) y s) (rounds m k n x)
   rounds_end zero n x rest less = absurd (omega (arith, less))
   rounds_end (suc m) n x rest less =
+      let w : ℕ = all_walks x.world.cluster in
+      let t : ℕ = tries_left x.world.cluster in
+      let l : ℕ = left_of x.world.cluster in
       goes_on (IsLaterTurn spec last k w t l) (λ s y. HasSettled (n + suc m) y s) (Turns.do_pass Quiet k x) (λ o y. unless_settled (n + 1) o (λ z. rounds m k (n + 1) z) y)
       (later_turn x rest) (ended (λ z r e. rounds_end m (n + 1) z r e))
     where
-      w : ℕ
-      w = all_walks x.world.cluster
-
-      t : ℕ
-      t = tries_left x.world.cluster
-
-      l : ℕ
-      l = left_of x.world.cluster
-
       more : ((z : State) → IsAtRest spec last k z → work_left z.world.cluster < m → IfGoesOn (λ s y. HasSettled (n + 1 + m) y s) (rounds m k (n + 1) z))
           → (y : State) → IsSetOff spec last k (all_walks x.world.cluster) (tries_left x.world.cluster) (left_of x.world.cluster) y
           → IfGoesOn (λ s z. HasSettled (n + suc m) z s) (and_then (work_all y) (λ z. rounds m k (n + 1) z))
@@ -102,11 +96,8 @@ module _ (spec : Spec) (valid : IsValid spec) (last : Last) (k : ControllerId)
       ended : ((z : State) → IsAtRest spec last k z → work_left z.world.cluster < m → IfGoesOn (λ s y. HasSettled (n + 1 + m) y s) (rounds m k (n + 1) z))
           → (o : Option PassOutcome) (y : State) → IsLaterTurn spec last k (all_walks x.world.cluster) (tries_left x.world.cluster) (left_of x.world.cluster) o y
           → IfGoesOn (λ s z. HasSettled (n + suc m) z s) (unless_settled (n + 1) o (λ z. rounds m k (n + 1) z) y)
-      ended again None y here = more again y here
-      ended again (Some (ends.Sent sent)) y here = more again y here
-      ended again (Some (ends.Waiting pending)) y here = more again y here
-      ended again (Some (ends.Moved from to)) y here = more again y here
       ended again (Some (ends.Settled report)) y here = record { to = record { report = report; told = refl; passes = omega arith; explained = here } }
+      ended again _ y here = more again y here
 
   -- and the first
   first_ends : (m : ℕ) (x : State) → Stands spec last x → x.world.cluster.leader ≡ Some k → enough_rounds x.world.cluster ≡ suc m
@@ -129,11 +120,8 @@ module _ (spec : Spec) (valid : IsValid spec) (last : Last) (k : ControllerId)
 
       ended : (o : Option PassOutcome) (y : State) → IsFirstTurn spec last k (enough_rounds x.world.cluster) o y
           → IfGoesOn (λ s z. HasSettled (suc m) z s) (unless_settled (0 + 1) o (λ z. rounds m k (0 + 1) z) y)
-      ended None y here = more y here
-      ended (Some (ends.Sent sent)) y here = more y here
-      ended (Some (ends.Waiting pending)) y here = more y here
-      ended (Some (ends.Moved from to)) y here = more y here
       ended (Some (ends.Settled report)) y here = record { to = record { report = report; told = refl; passes = omega arith; explained = here } }
+      ended _ y here = more y here
 
   pub led_ends : (x : State) → Stands spec last x → x.world.cluster.leader ≡ Some k → IfGoesOn (IsEnd x.world.cluster (Some k)) (settle_led (Some k) x)
   led_ends x s leads =

@@ -1,6 +1,6 @@
 -- A dispatch of a plan of one moment, where nothing is pending, begins a round that falls.
 use Rattle.std.proofs.Common.{◌≡◌, ◌+◌, ◌||◌, ◌==◌, not, Bool, true, false, List, [], ◌∷◌, ◌++◌, length, map, find, Option, Some, None, ◌⊎◌, inl, inr, refl, sym, ap, ◌∙◌, subst}
-use Rattle.std.specs.Prelude.{if◌then◌else◌, slice_get}
+use Rattle.std.specs.Prelude.{if◌then◌else◌, slice_get, slice_set}
 use Rattle.std.specs.List.{All, list_any, list_all}
 use Rattle.std.proofs.lemmas.List.Elements.{All-head, All-tail}
 use Rattle.hx_ids.specs.declared.ControllerId.{ControllerId}
@@ -99,13 +99,7 @@ module _ (c : Cluster) where
 
   placed : (d : Cluster) (x : Candidate) (a : Placed) → IsGoodCandidate c x → IsSending c d → IsSending c (after_placed d (proposal x) a)
   placed d x (placings.Sent id) g s = sent d id x g s
-  placed d x placings.Ended g s = s
-  placed d x placings.ResourceDropped g s = s
-  placed d x (placings.Busy id) g s = s
-  placed d x (placings.WrongFrom has) g s = s
-  placed d x placings.Illegal g s = s
-  placed d x (placings.OverBound count limit) g s = s
-  placed d x (placings.OverThrottle rule load limit) g s = s
+  placed d x _ g s = s
 
   all_placed : (xs : List Candidate) (d : Cluster) → All (IsGoodCandidate c) xs → IsSending c d → IsSending c (after_proposals d (map proposal xs))
   all_placed [] d all s = s
@@ -113,31 +107,23 @@ module _ (c : Cluster) where
       all_placed xs (after_proposal d (proposal x)) (All-tail (IsGoodCandidate c) x xs all)
       (placed d x (placed_of d (proposal x)) (All-head (IsGoodCandidate c) x xs all) s)
 
+  controlled : (controllers : List (Bool × PassNo)) → c.mail ≡ [] → IsSending c (record c { controllers = controllers })
+  controlled controllers none = record {
+    size = refl;
+    tries = refl;
+    left = refl;
+    rows = refl;
+    resets = refl;
+    goals = record { models = refl; live = refl; ideals = refl; errors = λ s p. refl };
+    each = λ m u. absurd (nothing m (sym (ap (λ (ms : List Message). message_of ms m.session m.part) none) ∙ u.pending));
+  }
+    where
+      nothing : (m : Message) → ◌≡◌ {A = Option Message} None (Some m) → ⊥
+      nothing m e = cc
+
   raised : (k : ControllerId) (o : Option (Bool × PassNo)) → c.mail ≡ [] → IsSending c (raised_pass c k o)
-  raised k None none = record {
-    size = refl;
-    tries = refl;
-    left = refl;
-    rows = refl;
-    resets = refl;
-    goals = record { models = refl; live = refl; ideals = refl; errors = λ s p. refl };
-    each = λ m u. absurd (nothing m (sym (ap (λ (ms : List Message). message_of ms m.session m.part) none) ∙ u.pending));
-  }
-    where
-      nothing : (m : Message) → ◌≡◌ {A = Option Message} None (Some m) → ⊥
-      nothing m e = cc
-  raised k (Some d) none = record {
-    size = refl;
-    tries = refl;
-    left = refl;
-    rows = refl;
-    resets = refl;
-    goals = record { models = refl; live = refl; ideals = refl; errors = λ s p. refl };
-    each = λ m u. absurd (nothing m (sym (ap (λ (ms : List Message). message_of ms m.session m.part) none) ∙ u.pending));
-  }
-    where
-      nothing : (m : Message) → ◌≡◌ {A = Option Message} None (Some m) → ⊥
-      nothing m e = cc
+  raised k None none = controlled c.controllers none
+  raised k (Some d) none = controlled (slice_set c.controllers k.0 (d.0, record { 0 = d.1.0 + 1 })) none
 
 -- what is sent is to be written
 or_true : (a : Bool) → (a || true) ≡ true
@@ -146,23 +132,11 @@ or_true false = refl
 
 still_to_write : (d : Cluster) (q : Proposal) (a : Placed) → list_any is_to_write d.mail ≡ true → list_any is_to_write (after_placed d q a).mail ≡ true
 still_to_write d q (placings.Sent id) some = any-append is_to_write d.mail (message_from d id q ∷ []) ∙ or_true (list_any is_to_write d.mail)
-still_to_write d q placings.Ended some = some
-still_to_write d q placings.ResourceDropped some = some
-still_to_write d q (placings.Busy id) some = some
-still_to_write d q (placings.WrongFrom has) some = some
-still_to_write d q placings.Illegal some = some
-still_to_write d q (placings.OverBound count limit) some = some
-still_to_write d q (placings.OverThrottle rule load limit) some = some
+still_to_write d q _ some = some
 
 now_to_write : (d : Cluster) (q : Proposal) (a : Placed) → is_sent a ≡ true → list_any is_to_write (after_placed d q a).mail ≡ true
 now_to_write d q (placings.Sent id) is = any-append is_to_write d.mail (message_from d id q ∷ []) ∙ or_true (list_any is_to_write d.mail)
-now_to_write d q placings.Ended is = cc
-now_to_write d q placings.ResourceDropped is = cc
-now_to_write d q (placings.Busy id) is = cc
-now_to_write d q (placings.WrongFrom has) is = cc
-now_to_write d q placings.Illegal is = cc
-now_to_write d q (placings.OverBound count limit) is = cc
-now_to_write d q (placings.OverThrottle rule load limit) is = cc
+now_to_write d q _ is = cc
 
 all_to_write : (qs : List Proposal) (d : Cluster) → list_any is_to_write d.mail ≡ true → list_any is_to_write (after_proposals d qs).mail ≡ true
 all_to_write [] d some = some

@@ -58,13 +58,7 @@ enough_alike c d a = λ i. let replicas = length (a.live i) * all_parts (a.resou
 
 alike_placed : (c d : Cluster) (q : Proposal) (a : Placed) → IsAlike c d → IsAlike c (after_placed d q a)
 alike_placed c d q (placings.Sent id) s = record { leader = s.leader; live = s.live; resources = s.resources; models = s.models }
-alike_placed c d q placings.Ended s = s
-alike_placed c d q placings.ResourceDropped s = s
-alike_placed c d q (placings.Busy id) s = s
-alike_placed c d q (placings.WrongFrom has) s = s
-alike_placed c d q placings.Illegal s = s
-alike_placed c d q (placings.OverBound count limit) s = s
-alike_placed c d q (placings.OverThrottle rule load limit) s = s
+alike_placed c d q _ s = s
 
 alike_proposals : (c : Cluster) (qs : List Proposal) (d : Cluster) → IsAlike c d → IsAlike c (after_proposals d qs)
 alike_proposals c [] d s = s

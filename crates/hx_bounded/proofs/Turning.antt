@@ -133,20 +133,13 @@ module _ (c : Cluster) (x : Controller) where
 abbrev pub IsTold : Cluster → Option PassOutcome → Cluster → Type 0
 IsTold c None d = (r : Report) → IsExplained c r → IsExplained d r
 IsTold c (Some (ends.Settled r)) d = IsExplained d r
-IsTold c (Some (ends.Sent n)) d = Unit {0}
-IsTold c (Some (ends.Waiting n)) d = Unit {0}
-IsTold c (Some (ends.Moved from to)) d = Unit {0}
+IsTold c _ d = Unit {0}
 
 told_both : (b c d : Cluster) (o p : Option PassOutcome) → IsTold b o c → IsTold c p d → IsTold b (Turns.or_earlier o p) d
 told_both b c d o (Some (ends.Settled r)) f g = g
-told_both b c d o (Some (ends.Sent n)) f g = tt
-told_both b c d o (Some (ends.Waiting n)) f g = tt
-told_both b c d o (Some (ends.Moved from to)) f g = tt
 told_both b c d None None f g = λ r e. g r (f r e)
 told_both b c d (Some (ends.Settled r)) None f g = g r f
-told_both b c d (Some (ends.Sent n)) None f g = tt
-told_both b c d (Some (ends.Waiting n)) None f g = tt
-told_both b c d (Some (ends.Moved from to)) None f g = tt
+told_both b c d o p f g = tt
 
 module _ (spec : Spec) (valid : IsValid spec) (last : Last) (k : ControllerId) where
   -- the leader's controller
@@ -185,13 +178,20 @@ module _ (spec : Spec) (valid : IsValid spec) (last : Last) (k : ControllerId) w
     put y t same id =
         put_is k t y (subst (λ (ks : List Controller). k.0 < length ks) (sym same) (listed spec valid last k s st leads)) (id ∙ (st.scripted.of.turns k).id)
 
+    -- a step that leaves the cluster as it was
+    stays : (o : Option PassOutcome) (y : State) → Stands spec last y → y.world.cluster ≡ s.world.cluster → IsTold s.world.cluster o s.world.cluster → IsMoved s o y
+    stays o y now same told = record {
+      stands = now;
+      leads = ap (λ (c : Cluster). c.leader) same ∙ leads;
+      alike = subst (λ (c : Cluster). IsAlike s.world.cluster c) (sym same) (alike_self s.world.cluster);
+      told = subst (λ (c : Cluster). IsTold s.world.cluster o c) (sym same) told;
+    }
+
     told_of : (e : Event) (o : Option PassOutcome) (left : List Call) → IsFine s.world.cluster (own s) left e o → step_of spec s.world.cluster (own s) ≡ Calls e o
         → IsTold s.world.cluster o (next s.world.cluster e)
     told_of e None left fine is = fine.keeps refl
     told_of e (Some (ends.Settled r)) left fine is = settled_there s st e r is
-    told_of e (Some (ends.Sent n)) left fine is = tt
-    told_of e (Some (ends.Waiting n)) left fine is = tt
-    told_of e (Some (ends.Moved from to)) left fine is = tt
+    told_of e _ left fine is = tt
 
     from_step : (left : List Call) (step : Step) → step_of spec s.world.cluster (own s) ≡ step → AreFine s.world.cluster (own s) left step
         → (o : Option PassOutcome) (y : State) → Stands spec last y → ComesTo (own s) step s o y → IsStepped left s o y
@@ -209,12 +209,7 @@ module _ (spec : Spec) (valid : IsValid spec) (last : Last) (k : ControllerId) w
         }
     from_step left (Refuses f) is fine o y now comes =
         record {
-          moved = record {
-            stands = now;
-            leads = ap (λ (z : State). z.world.cluster.leader) comes.1 ∙ leads;
-            alike = subst (λ (z : State). IsAlike s.world.cluster z.world.cluster) (sym comes.1) (alike_self s.world.cluster);
-            told = subst (λ (z : State). IsTold s.world.cluster o z.world.cluster) (sym comes.1) (subst (λ (b : Option PassOutcome). IsTold s.world.cluster b s.world.cluster) (sym comes.0) (λ r e. e));
-          };
+          moved = stays o y now (ap (λ (z : State). z.world.cluster) comes.1) (subst (λ (b : Option PassOutcome). IsTold s.world.cluster b s.world.cluster) (sym comes.0) (λ r e. e));
           goes = inl (ap (λ (z : State). Turns.left_of z k) comes.1 ∙ ap (λ (z : Controller). z.turn.left) (put (idle_controller (own s).id) s refl refl));
         }
 
@@ -253,23 +248,13 @@ module _ (spec : Spec) (valid : IsValid spec) (last : Last) (k : ControllerId) w
             let p = plan spec.models spec.rules (own s).turn.view in
             let here = ap (λ (z : State). controller_of z.world k) comes.1 ∙ put (record (own s) { plan = Some p }) s refl refl in
             record {
-              moved = record {
-                stands = now;
-                leads = ap (λ (z : State). z.world.cluster.leader) comes.1 ∙ leads;
-                alike = subst (λ (z : State). IsAlike s.world.cluster z.world.cluster) (sym comes.1) (alike_self s.world.cluster);
-                told = subst (λ (z : State). IsTold s.world.cluster None z.world.cluster) (sym comes.1) (λ r e. e);
-              };
+              moved = stays None y now (ap (λ (z : State). z.world.cluster) comes.1) (λ r e. e);
               none = comes.0;
               goes = inr (ap (λ (z : Controller). z.turn.left) here ∙ is, (p, ap (λ (z : Controller). z.plan) here));
             }
         one false o y now comes =
             record {
-              moved = record {
-                stands = now;
-                leads = ap (λ (z : State). z.world.cluster.leader) comes.1 ∙ leads;
-                alike = subst (λ (z : State). IsAlike s.world.cluster z.world.cluster) (sym comes.1) (alike_self s.world.cluster);
-                told = subst (λ (z : State). IsTold s.world.cluster None z.world.cluster) (sym comes.1) (λ r e. e);
-              };
+              moved = stays None y now (ap (λ (z : State). z.world.cluster) comes.1) (λ r e. e);
               none = comes.0;
               goes = inl (ap (λ (z : State). Turns.left_of z k) comes.1 ∙ ap (λ (z : Controller). z.turn.left) (put (idle_controller (own s).id) s refl refl));
             }
@@ -474,8 +459,5 @@ module _ (spec : Spec) (valid : IsValid spec) (last : Last) (k : ControllerId) w
       led o y t = (record { stands = t.moved.stands; leads = t.moved.leads; idle = t.idle }, enough_alike x.world.cluster y.world.cluster t.moved.alike)
 
       one : (o : Option PassOutcome) (y : State) → IsThrough x o y → IsTold x.world.cluster o y.world.cluster → IsFirstTurn spec last k (enough_rounds x.world.cluster) o y
-      one None y t told = led None y t
-      one (Some (ends.Sent n)) y t told = led (Some (ends.Sent n)) y t
-      one (Some (ends.Waiting n)) y t told = led (Some (ends.Waiting n)) y t
-      one (Some (ends.Moved from to)) y t told = led (Some (ends.Moved from to)) y t
       one (Some (ends.Settled r)) y t told = told
+      one o y t told = led o y t

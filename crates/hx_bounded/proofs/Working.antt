@@ -58,9 +58,9 @@ module _ (spec : Spec) (valid : IsValid spec) (last : Last) (P : Cluster → Typ
       subst (Each (OfLive live H)) (sym e.jobs) (each-filter (OfLive live H) (OfLive live H) (λ x. not (Jobs.is_job j.instance j.message.id x)) (λ x is h. h) w.jobs all)
 
   write_works : (i : InstanceId) (id : MsgId) (x : State) (v : World) → Stands spec last x → Ends.Writes i id x.world v → IsWorking P H live ks x.world → IsWorking P H live ks v
-  write_works i id x v s (Ends.NoneToWrite t) k = works_same x.world v t.same k
-  write_works i id x v s (Ends.WasWritten t) k = works_same x.world v t.same k
-  write_works i id x v s (Ends.IsNowWritten t) k =
+  write_works i id x v s (Ends.HasNone t) k = works_same x.world v t.same k
+  write_works i id x v s (Ends.WasMarked t) k = works_same x.world v t.same k
+  write_works i id x v s (Ends.WasMade t) k =
       let j = t.job in
       let kept = (whole_there spec last x.world valid s.scripted).kept in
       let h : IsHeldJob x.world.cluster x.world.participants x.world.jobs j = each-find (IsHeldJob x.world.cluster x.world.participants x.world.jobs) (Jobs.is_job i id) x.world.jobs j s.in_step.parts.held t.found in
@@ -74,7 +74,7 @@ module _ (spec : Spec) (valid : IsValid spec) (last : Last) (P : Cluster → Typ
             (each-map (OfLive live H) (OfLive live H) (Jobs.as_written_job j.instance j.message.id) (λ y of. marked_works j.instance j.message.id y of) x.world.jobs k.jobs);
         controllers = t.controllers ∙ k.controllers;
       }
-  write_works i id x v s (Ends.WriteCutOff t) k = record {
+  write_works i id x v s (Ends.WasCutOff t) k = record {
     holds = subst P (sym t.cluster) k.holds;
     sessions = ap (λ (c : Cluster). c.live) t.cluster ∙ k.sessions;
     jobs = ended_works x.world v t.job t.ended k.jobs;
@@ -82,15 +82,15 @@ module _ (spec : Spec) (valid : IsValid spec) (last : Last) (P : Cluster → Typ
   }
 
   ack_works : (i : InstanceId) (id : MsgId) (w v : World) → IsKept w.cluster → Ends.Acks i id w v → IsWorking P H live ks w → IsWorking P H live ks v
-  ack_works i id w v kept (Ends.NoneToAck t) k = works_same w v t.same k
-  ack_works i id w v kept (Ends.WasUnwritten t) k = works_same w v t.same k
-  ack_works i id w v kept (Ends.IsNowAcked t) k = record {
+  ack_works i id w v kept (Ends.HasNone t) k = works_same w v t.same k
+  ack_works i id w v kept (Ends.WasMarked t) k = works_same w v t.same k
+  ack_works i id w v kept (Ends.WasMade t) k = record {
     holds = subst P (sym t.cluster) (closed.ack w.cluster t.job.message.session t.job.message.id kept t.can k.holds);
     sessions = ap (λ (c : Cluster). c.live) t.cluster ∙ k.sessions;
     jobs = ended_works w v t.job t.ended k.jobs;
     controllers = t.ended.controllers ∙ k.controllers;
   }
-  ack_works i id w v kept (Ends.AckCutOff t) k = record {
+  ack_works i id w v kept (Ends.WasCutOff t) k = record {
     holds = subst P (sym t.cluster) k.holds;
     sessions = ap (λ (c : Cluster). c.live) t.cluster ∙ k.sessions;
     jobs = ended_works w v t.job t.ended k.jobs;

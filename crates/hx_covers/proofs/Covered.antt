@@ -39,6 +39,7 @@ use Rattle.hx_covers.proofs.Whole.{turn_next}
 use Rattle.hx_covers.proofs.Leads.{LeadCase, case_next, ends_pass, pass_next, pass_own}
 use Rattle.hx_covers.proofs.Covering.{none_if, covered_calm}
 use Rattle.hx_covers.proofs.Owning.{covered_begin, covered_live, covered_mail, covered_states, covered_ideals}
+use Rattle.hx_safe.proofs.Counting.{if-passed, if-unasked}
 
 -- what is known after a part of a history
 record IsCoverage (c : Cluster) (turns : ControllerId → Turn) (begun : ControllerId → List Message) (h : List Event) : Type 0 where
@@ -272,18 +273,10 @@ own_begin c turns begun h k j answer true is s step at =
     by_leader : (c : Cluster) (k : ControllerId) (x : Event) → is_leader k c.leader ≡ true → is_led c x ≡ true → begins_by k c.epoch x ≡ true
     by_leader c k (events.Begin i b) mine w = one (nat_lt b.epoch.0 c.epoch.0) refl (b.epoch.0 == c.epoch.0) refl (is_leader i c.leader) refl w
       where
-        last : (a d : Bool) → d ≡ true → (not a || d) ≡ true
-        last true d e = e
-        last false d e = refl
-
-        out : (a d : Bool) → a ≡ false → (not a || d) ≡ true
-        out true d e = cc
-        out false d e = refl
-
         one : (low : Bool) → nat_lt b.epoch.0 c.epoch.0 ≡ low → (at : Bool) → (b.epoch.0 == c.epoch.0) ≡ at → (l : Bool) → is_leader i c.leader ≡ l → (low || (at && l)) ≡ true
             → (not (b.epoch.0 == c.epoch.0) || (i.0 == k.0)) ≡ true
-        one true is at there l lead w = out (b.epoch.0 == c.epoch.0) (i.0 == k.0) (grind (arith, nat_tests, is))
-        one false is true there true lead w = last (b.epoch.0 == c.epoch.0) (i.0 == k.0) (one_leader i k c.leader lead mine)
+        one true is at there l lead w = if-unasked (b.epoch.0 == c.epoch.0) (i.0 == k.0) (grind (arith, nat_tests, is))
+        one false is true there true lead w = if-passed (b.epoch.0 == c.epoch.0) (i.0 == k.0) (one_leader i k c.leader lead mine)
         one false is true there false lead w = cc
         one false is false there l lead w = cc
     by_leader c k _ mine w = refl

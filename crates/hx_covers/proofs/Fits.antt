@@ -29,6 +29,7 @@ use Rattle.hx_safe.proofs.Ideals.{none_from, good_mode, mode_of_good}
 use Rattle.hx_safe.proofs.Models.{IsGood, good_model}
 use Rattle.hx_runs.specs.Onward.{is_front, is_same_kind}
 use Rattle.hx_runs.proofs.Fronts.{front-get}
+use Rattle.hx_safe.proofs.Counting.{or-swap}
 
 -- whether a state is ERROR or of a part's model
 abbrev pub may_stand : List ModelParts → List Resource → PartId → StateId → Bool
@@ -110,22 +111,29 @@ kind-model models x y e =
     let same : x.model.0 ≡ y.model.0 = grind (arith, nat_tests, e) in
     ap (λ (n : ℕ). model_at models (record { 0 = n })) (sym same)
 
-pub front-part : (models : List ModelParts) (xs ys : List Resource) → is_front is_same_kind xs ys ≡ true → (r : ResourceId) (i : ℕ) → nat_lt i (parts_of xs r) ≡ true
-    → (parts_of ys r ≡ parts_of xs r) × (model_of models ys r ≡ model_of models xs r)
-front-part models xs ys front r i e = one (resource_at xs r) refl
+-- a part that there is is of a resource that there is
+pub resource_of_part : (xs : List Resource) (r : ResourceId) (i : ℕ) → nat_lt i (parts_of xs r) ≡ true → (x : Resource) × (resource_at xs r ≡ Some x)
+resource_of_part xs r i e = one (resource_at xs r) refl
   where
-    one : (o : Option Resource) → resource_at xs r ≡ o → (parts_of ys r ≡ parts_of xs r) × (model_of models ys r ≡ model_of models xs r)
+    one : (o : Option Resource) → resource_at xs r ≡ o → (x : Resource) × (resource_at xs r ≡ Some x)
     one None is =
         let low : nat_lt i 0 ≡ true = sym (ap (λ (o : Option Resource). nat_lt i (option_map_or (λ x. x.ideal.parts) o 0)) is) ∙ e in
         absurd (grind (arith, nat_tests, low))
-    one (Some x) is =
-        let there = front-get is_same_kind xs ys r.0 x front is in
-        let y = there.0 in
-        let parts : y.ideal.parts ≡ x.ideal.parts = grind (arith, nat_tests, there.2) in (
-          ap (λ (o : Option Resource). option_map_or (λ z. z.ideal.parts) o 0) there.1 ∙ parts ∙ sym (ap (λ (o : Option Resource). option_map_or (λ z. z.ideal.parts) o 0) is),
-          ap (λ (o : Option Resource). option_map_or (λ z. model_at models z.model) o no_model) there.1 ∙ kind-model models x y there.2
-              ∙ sym (ap (λ (o : Option Resource). option_map_or (λ z. model_at models z.model) o no_model) is),
-        )
+    one (Some x) is = (x, is)
+
+pub front-part : (models : List ModelParts) (xs ys : List Resource) → is_front is_same_kind xs ys ≡ true → (r : ResourceId) (i : ℕ) → nat_lt i (parts_of xs r) ≡ true
+    → (parts_of ys r ≡ parts_of xs r) × (model_of models ys r ≡ model_of models xs r)
+front-part models xs ys front r i e =
+    let was = resource_of_part xs r i e in
+    let x = was.0 in
+    let is = was.1 in
+    let there = front-get is_same_kind xs ys r.0 x front is in
+    let y = there.0 in
+    let parts : y.ideal.parts ≡ x.ideal.parts = grind (arith, nat_tests, there.2) in (
+      ap (λ (o : Option Resource). option_map_or (λ z. z.ideal.parts) o 0) there.1 ∙ parts ∙ sym (ap (λ (o : Option Resource). option_map_or (λ z. z.ideal.parts) o 0) is),
+      ap (λ (o : Option Resource). option_map_or (λ z. model_at models z.model) o no_model) there.1 ∙ kind-model models x y there.2
+          ∙ sym (ap (λ (o : Option Resource). option_map_or (λ z. model_at models z.model) o no_model) is),
+    )
 
 -- so what fits among resources fits among more
 pub message_on : (models : List ModelParts) (live : List (SessionId × InstanceId)) (xs ys : List Resource) (m : Message) → is_front is_same_kind xs ys ≡ true
@@ -170,13 +178,7 @@ pub kept_fits : (c : Cluster) (live : List (SessionId × InstanceId)) (r : Row) 
 kept_fits c live r shown e =
     let stands : Bool = has_state (model_of c.models c.resources r.part.resource) r.state in
     let parts = and-three (is_live c.live r.session) (has_part c r.part) (stands || (r.state.0 == error.0)) e in
-    record { shown = shown; part = parts.1; state = other stands (r.state.0 == error.0) parts.2 }
-  where
-    other : (a b : Bool) → (a || b) ≡ true → (b || a) ≡ true
-    other true true e = refl
-    other true false e = refl
-    other false true e = refl
-    other false false e = cc
+    record { shown = shown; part = parts.1; state = or-swap stands (r.state.0 == error.0) parts.2 }
 
 -- a resource in range is good
 pub resource_good : (c : Cluster) (r : Resource) → is_ranged_resource c r ≡ true → is_good_resource c.models (length c.instances) r ≡ true

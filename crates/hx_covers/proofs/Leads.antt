@@ -69,9 +69,11 @@ keeps_placed : (c : Cluster) (q : Proposal) (a : Placed) → KeepsLead c (after_
 keeps_placed c q (placings.Sent id) = record { leader = refl; epoch = refl; controllers = refl }
 keeps_placed c q _ = keeps_self c
 
-keeps_proposals : (c : Cluster) (qs : List Proposal) → KeepsLead c (after_proposals c qs)
-keeps_proposals c [] = keeps_self c
-keeps_proposals c (q ∷ qs) = keeps_both (keeps_placed c q (placed_of c q)) (keeps_proposals (after_proposal c q) qs)
+-- what each proposal does to a cluster, all of them do
+pub along_proposals : (R : Cluster → Cluster → Type 0) → ((c : Cluster) → R c c) → ((b c d : Cluster) → R b c → R c d → R b d) → ((c : Cluster) (q : Proposal) (a : Placed) → R c (after_placed c q a))
+    → (c : Cluster) (qs : List Proposal) → R c (after_proposals c qs)
+along_proposals R self both placed c [] = self c
+along_proposals R self both placed c (q ∷ qs) = both c (after_proposal c q) (after_proposals (after_proposal c q) qs) (placed c q (placed_of c q)) (along_proposals R self both placed (after_proposal c q) qs)
 
 keeps_written : (c : Cluster) (s : SessionId) (id : MsgId) (outcome : Outcome) (o : Option Message) → KeepsLead c (written_of c s id outcome o)
 keeps_written c s id outcome None = keeps_self c
@@ -125,7 +127,7 @@ case_next c (events.Admin step did) legal = case_step c step legal.1
 case_next c (events.Begin k begun) legal = inl (case_raised c k (slice_get c.controllers k.0))
 case_next c (events.Dispatch k epoch pass proposals answer) legal =
     let one = case_raised c k (slice_get c.controllers k.0) in
-    let two = keeps_proposals (next_pass c k) proposals in
+    let two = along_proposals KeepsLead keeps_self (λ b c d one two. keeps_both one two) keeps_placed (next_pass c k) proposals in
     inl (two.leader ∙ one.0, two.epoch ∙ one.1)
 case_next c (events.Write s id outcome) legal = case_keeps c (next c (events.Write s id outcome)) (keeps_written c s id outcome (pending_of c s id))
 case_next c _ legal = inl (refl, refl)
@@ -173,7 +175,7 @@ pub pass_next : (c : Cluster) (e : Event) (k : ControllerId) → ends_pass k e �
 pass_next c (events.Admin step did) k ne = pass_step c step k
 pass_next c (events.Begin j begun) k ne = pass_raised c j k (slice_get c.controllers j.0) ne
 pass_next c (events.Dispatch j epoch pass proposals answer) k ne =
-    pass_keeps (next_pass c j) (after_proposals (next_pass c j) proposals) k (keeps_proposals (next_pass c j) proposals) ∙ pass_raised c j k (slice_get c.controllers j.0) ne
+    pass_keeps (next_pass c j) (after_proposals (next_pass c j) proposals) k (along_proposals KeepsLead keeps_self (λ b c d one two. keeps_both one two) keeps_placed (next_pass c j) proposals) ∙ pass_raised c j k (slice_get c.controllers j.0) ne
 pass_next c (events.Write s id outcome) k ne = pass_keeps c (next c (events.Write s id outcome)) k (keeps_written c s id outcome (pending_of c s id))
 pass_next c _ k ne = refl
 
@@ -189,7 +191,7 @@ get-none (x ∷ xs) zero e = cc
 get-none (x ∷ xs) (suc n) e = let rest = get-none xs n e in grind (arith, nat_tests, rest)
 
 pub pass_own : (c : Cluster) (k : ControllerId) (proposals : List Proposal) → has_controller c k ≡ true → (pass_of (after_proposals (next_pass c k) proposals) k).0 ≡ (pass_of c k).0 + 1
-pass_own c k proposals has = ap (λ (p : PassNo). p.0) (pass_keeps (next_pass c k) (after_proposals (next_pass c k) proposals) k (keeps_proposals (next_pass c k) proposals)) ∙ one (slice_get c.controllers k.0) refl
+pass_own c k proposals has = ap (λ (p : PassNo). p.0) (pass_keeps (next_pass c k) (after_proposals (next_pass c k) proposals) k (along_proposals KeepsLead keeps_self (λ b c d one two. keeps_both one two) keeps_placed (next_pass c k) proposals)) ∙ one (slice_get c.controllers k.0) refl
   where
     one : (o : Option (Bool × PassNo)) → slice_get c.controllers k.0 ≡ o → (pass_of (raised_pass c k o) k).0 ≡ (pass_of c k).0 + 1
     one None is = let both = sym (get-none c.controllers k.0 is) ∙ has in cc

@@ -28,6 +28,7 @@ use Rattle.hx_covers.specs.Reading.{is_read, view_with, IsTurn}
 use Rattle.hx_runs.proofs.On.{on_next}
 use Rattle.hx_covers.proofs.Viewing.{beside, with_mail, with_states}
 use Rattle.hx_covers.proofs.Turning.{turn_on, turn_idle, turn_begun, turn_live, turn_mail, turn_states, turn_ideals, turn_send}
+use Rattle.std.proofs.lemmas.Bool.{cond_both}
 
 -- what is known of the cluster in which a call is made
 record IsGround (c : Cluster) : Type 0 where
@@ -70,12 +71,8 @@ due_send c begun view (Send ∷ rest) h e = turn_send c begun view rest h
 due_send c begun view _ h e = cc
 
 -- a call of one's own that is due or not, and one of another
-own : (c : Cluster) (k j : ControllerId) (t after : Turn) → IsTurn c t → IsTurn c after → IsTurn c (when_own k j t after)
-own c k j t after old new = one (j.0 == k.0)
-  where
-    one : (b : Bool) → IsTurn c (if b then after else t)
-    one true = new
-    one false = old
+pub own_or_other : (P : Turn → Type 0) (k j : ControllerId) (t after : Turn) → P t → P after → P (when_own k j t after)
+own_or_other P k j t after old new = cond_both (j.0 == k.0) after t P (λ e. new) (λ e. old)
 
 due : (c : Cluster) (b : Bool) (t : Turn) → IsRanged c → (b ≡ true → IsTurn c t) → IsTurn c (if_due b t)
 due c true t ranged new = new refl
@@ -84,24 +81,24 @@ due c false t ranged new = turn_idle c ranged
 turn_call : (c : Cluster) (k : ControllerId) (t : Turn) (e : Event) → IsGround c → IsStep c e → IsTurn c t → IsTurn c (turn_after c k t e)
 turn_call c k t (events.Begin j begun) g step h =
     let epoch : begun.epoch.0 ≤ c.epoch.0 = let same : begun.epoch.0 ≡ c.epoch.0 = ap (λ (b : Begun). b.epoch.0) step.2 in omega (arith, same) in
-    own c k j t (begun_turn begun) h (turn_begun c begun epoch g.ranged)
+    own_or_other (IsTurn c) k j t (begun_turn begun) h (turn_begun c begun epoch g.ranged)
 turn_call c k t (events.Live j pass) g step h =
-    own c k j t (if_due (is_due t Live pass) (with_live c t)) h
+    own_or_other (IsTurn c) k j t (if_due (is_due t Live pass) (with_live c t)) h
     (due c (is_due t Live pass) (with_live c t) g.ranged (λ e. due_live c t.begun t.view t.left g h (and-first (is_first Live t.left) (pass.0 == t.begun.pass.0) e)))
 turn_call c k t (events.Mail j pass s) g step h =
-    own c k j t (if_due (is_due t (Mail s) pass) (gone_on t (with_mail c s t.view))) h
+    own_or_other (IsTurn c) k j t (if_due (is_due t (Mail s) pass) (gone_on t (with_mail c s t.view))) h
     (due c (is_due t (Mail s) pass) (gone_on t (with_mail c s t.view)) g.ranged (λ e. due_mail c t.begun t.view t.left s g h (and-first (is_first (Mail s) t.left) (pass.0 == t.begun.pass.0) e)))
 turn_call c k t (events.States j pass s) g step h =
-    own c k j t (if_due (is_due t (States s) pass) (gone_on t (with_states c s t.view))) h
+    own_or_other (IsTurn c) k j t (if_due (is_due t (States s) pass) (gone_on t (with_states c s t.view))) h
     (due c (is_due t (States s) pass) (gone_on t (with_states c s t.view)) g.ranged (λ e. due_states c t.begun t.view t.left s g h (and-first (is_first (States s) t.left) (pass.0 == t.begun.pass.0) e)))
 turn_call c k t (events.Ideals j pass) g step h =
-    own c k j t (if_due (is_due t Ideals pass) (gone_on t (beside t.view c))) h
+    own_or_other (IsTurn c) k j t (if_due (is_due t Ideals pass) (gone_on t (beside t.view c))) h
     (due c (is_due t Ideals pass) (gone_on t (beside t.view c)) g.ranged (λ e. due_ideals c t.begun t.view t.left h (and-first (is_first Ideals t.left) (pass.0 == t.begun.pass.0) e)))
 turn_call c k t (events.Dispatch j epoch pass proposals answer) g step h =
-    own c k j t (if_due (is_due t Send pass && is_of_epoch t epoch) (gone_on t t.view)) h
+    own_or_other (IsTurn c) k j t (if_due (is_due t Send pass && is_of_epoch t epoch) (gone_on t t.view)) h
     (due c (is_due t Send pass && is_of_epoch t epoch) (gone_on t t.view) g.ranged
     (λ e. due_send c t.begun t.view t.left h (and-first (is_first Send t.left) (pass.0 == t.begun.pass.0) (and-first (is_due t Send pass) (is_of_epoch t epoch) e))))
-turn_call c k t (events.Post j epoch rows) g step h = own c k j t idle_turn h (turn_idle c g.ranged)
+turn_call c k t (events.Post j epoch rows) g step h = own_or_other (IsTurn c) k j t idle_turn h (turn_idle c g.ranged)
 turn_call c k t _ g step h = h
 
 -- what is known at each event

@@ -21,7 +21,7 @@ use Rattle.hx_cluster.specs.declared.planning.View.{View}
 use Rattle.hx_cluster.specs.declared.planning.Candidate.{Candidate}
 use Rattle.hx_cluster.specs.declared.happenings.Proposal.{Proposal}
 use Rattle.hx_cluster.specs.declared.happenings.Placed.TheVariants as placings
-use Rattle.hx_cluster.specs.Ends.{is_live, is_shown, shown_of, sessions_of, row_of, state_of, message_of, row_at, message_at, has_end, count_over, count_of, limit_at, resource_at, model_of, replicas_of, parts_of, matches, key_of, load_over, load_of}
+use Rattle.hx_cluster.specs.Ends.{is_live, is_shown, shown_of, sessions_of, row_of, state_of, message_of, row_at, message_at, has_end, count_over, count_of, limit_at, model_of, replicas_of, parts_of, matches, key_of, load_over, load_of}
 use Rattle.hx_cluster.specs.Steps.{is_dropped}
 use Rattle.hx_cluster.specs.Messages.{proposal_load, throttled_from, bounded, placed_of}
 use Rattle.hx_select.specs.Selection.{shown_sessions, goes_to, filling, limit_for, has_room, accepted_of}
@@ -37,6 +37,7 @@ use Rattle.hx_covers.proofs.Gating.{idle_there, same_state_there, same_model_the
 use Rattle.hx_lawful.specs.Fitting.{leads_elsewhere}
 use Rattle.hx_lawful.proofs.Choosing.{count-chosen}
 use Rattle.hx_lawful.proofs.Placing.{limit_alike, key_there}
+use Rattle.hx_covers.proofs.Fits.{resource_of_part}
 
 -- a candidate of a plan had room beside those that were sent before it, under its bound and under each rule
 pub record HadRoom (models : List ModelParts) (rules : List Rule) (view : View) (before : List Candidate) (x : Candidate) : Type 0 where
@@ -162,17 +163,13 @@ fewer p (l ∷ live) s there e = one (l.session.0 == s.0) refl there (λ w. fewe
 
 -- a resource that was shown has the same replicas
 replicas_there : (xs ys : List Resource) → is_front has_same_replicas xs ys ≡ true → (r : ResourceId) (i : ℕ) → nat_lt i (parts_of xs r) ≡ true → replicas_of ys r ≡ replicas_of xs r
-replicas_there xs ys front r i low = one (resource_at xs r) refl
-  where
-    one : (o : Option Resource) → resource_at xs r ≡ o → replicas_of ys r ≡ replicas_of xs r
-    one None is =
-        let none : nat_lt i 0 ≡ true = sym (ap (λ (o : Option Resource). nat_lt i (option_map_or (λ x. x.ideal.parts) o 0)) is) ∙ low in
-        absurd (grind (arith, nat_tests, none))
-    one (Some x) is =
-        let there = front-get has_same_replicas xs ys r.0 x front is in
-        let y = there.0 in
-        let same : y.ideal.replicas ≡ x.ideal.replicas = grind (arith, nat_tests, there.2) in
-        ap (λ (o : Option Resource). option_map_or (λ z. z.ideal.replicas) o 0) there.1 ∙ same ∙ sym (ap (λ (o : Option Resource). option_map_or (λ z. z.ideal.replicas) o 0) is)
+replicas_there xs ys front r i low =
+    let was = resource_of_part xs r i low in
+    let x = was.0 in
+    let there = front-get has_same_replicas xs ys r.0 x front was.1 in
+    let y = there.0 in
+    let same : y.ideal.replicas ≡ x.ideal.replicas = grind (arith, nat_tests, there.2) in
+    ap (λ (o : Option Resource). option_map_or (λ z. z.ideal.replicas) o 0) there.1 ∙ same ∙ sym (ap (λ (o : Option Resource). option_map_or (λ z. z.ideal.replicas) o 0) was.1)
 
 -- the bound of the state has room: for a number by counting, and for all live sessions since the replica is of one of them
 room_by : (n room old now shown live : ℕ) (bound : Bound) (limit : ℕ) → now ≡ old → ((most : ℕ) → limit_of bound old shown ≡ Some most → room < most) → n ≤ room → n < live

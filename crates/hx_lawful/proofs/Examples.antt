@@ -1,10 +1,11 @@
 -- Why the mail is read before the states: a pass that reads them the other way plans what a bound refuses.
-use Rattle.std.specs.Prelude.{◌≡◌, refl, List, [], ◌∷◌, ◌++◌, true, false, None, Some}
+use Rattle.std.specs.Prelude.{◌≡◌, ℕ, refl, List, [], ◌∷◌, ◌++◌, true, false, None, Some}
 use Rattle.hx_ids.specs.Words.{instance, state, model, session, message, epoch, pass, part, live, controller}
 use Rattle.hx_ids.specs.declared.StateId.{StateId}
 use Rattle.hx_ids.specs.declared.PartId.{PartId}
 use Rattle.hx_model.specs.declared.ModelParts.{ModelParts}
 use Rattle.hx_model.specs.Builtin.{one_leads}
+use Rattle.hx_ideal.specs.declared.Mode.{Mode}
 use Rattle.hx_ideal.specs.declared.Mode.TheVariants as modes
 use Rattle.hx_cluster.specs.declared.state.Row.{Row}
 use Rattle.hx_cluster.specs.declared.state.Message.{Message}
@@ -21,44 +22,39 @@ use Rattle.hx_cluster.specs.Views.{is_well_formed}
 use Rattle.hx_pass.specs.Plans.{plan}
 use Rattle.hx_covers.specs.Gate.{Shows}
 use Rattle.hx_lawful.specs.Unrefused.{is_unrefused}
+use Rattle.hx_pass.proofs.Examples.{master, slave, offline}
 
-abbrev master : StateId
-master = state 2
+abbrev pub models : List ModelParts
+models = one_leads master slave offline ∷ []
 
-abbrev slave : StateId
-slave = state 3
-
-abbrev models : List ModelParts
-models = one_leads master slave (state 4) ∷ []
-
-abbrev db : PartId
+abbrev pub db : PartId
 db = part 0 0
 
-abbrev at : StateId → Row
-at t = record { session = session 1; part = db; state = t }
+abbrev pub at : ℕ → StateId → Row
+at s t = record { session = session s; part = db; state = t }
 
--- the message that makes the first session's replica a master: it was taken
-abbrev taken : Message
-taken = record {
+-- a message to the first session's replica: it was taken
+abbrev pub under_way : StateId → StateId → Message
+under_way from to = record {
   id = message 3;
   session = session 1;
   part = db;
-  from = slave;
-  to = master;
-  initial = state 4;
+  from = from;
+  to = to;
+  initial = offline;
   epoch = epoch 1;
   taken = true;
   written = false;
 }
 
--- since it was sent, the list was turned round: the second instance comes first now
-abbrev before : Cluster
-before = record {
+-- two instances with a session each, and one part, of which two replicas may be wanted
+abbrev pub cluster : Mode → List Row → List Message → Cluster
+cluster mode rows mail = record {
   instances = false ∷ false ∷ [];
-  resources = record { name = 0; model = model 0; ideal = record { replicas = 2; parts = 1; mode = modes.Semi ((instance 1 ∷ instance 0 ∷ []) ∷ []) }; dropped = false } ∷ [];
+  resources = record { name = 0; model = model 0; ideal = record { replicas = 2; parts = 1; mode = mode }; dropped = false } ∷ [];
   live = live 1 0 0 ∷ live 2 1 0 ∷ [];
-  rows = at slave ∷ record { session = session 2; part = db; state = slave } ∷ [];
-  mail = taken ∷ [];
+  rows = rows;
+  mail = mail;
   resets = [];
   leader = Some (controller 0);
   epoch = epoch 1;
@@ -75,6 +71,10 @@ before = record {
   states = 6;
   resource_names = 1;
 }
+
+-- the first session's replica is to be a master. Since its message was sent, the list was turned round: the second instance comes first now
+abbrev before : Cluster
+before = cluster (modes.Semi ((instance 1 ∷ instance 0 ∷ []) ∷ [])) (at 1 slave ∷ at 2 slave ∷ []) (under_way slave master ∷ [])
 
 -- between the reads the message is written and acknowledged
 abbrev behind : Cluster

@@ -5,4 +5,4 @@ pub mod Placing
 pub mod Comparing
 pub mod Unrefused
 pub mod Holding
-mod Examples
+pub mod Examples

@@ -1,5 +1,5 @@
 -- Events that leave the live sessions, the rows, the messages, the flags and the next numbers as they are.
-use Rattle.std.proofs.Common.{◌≡◌, ◌+◌, Bool, true, false, Option, Some, None, refl, ◌∙◌}
+use Rattle.std.proofs.Common.{◌≡◌, ◌+◌, Bool, true, false, Option, Some, None, refl}
 use Rattle.std.specs.Prelude.{if◌then◌else◌, slice_get}
 use Rattle.hx_ids.specs.declared.ControllerId.{ControllerId}
 use Rattle.hx_ids.specs.declared.ResourceId.{ResourceId}
@@ -24,16 +24,6 @@ pub record IsBeside (c d : Cluster) : Type 0 where
 pub beside_self : (c : Cluster) → IsBeside c c
 beside_self c = record { live = refl; rows = refl; mail = refl; resets = refl; next_session = refl; next_msg = refl }
 
-pub beside_both : {b c d : Cluster} → IsBeside b c → IsBeside c d → IsBeside b d
-beside_both one two = record {
-  live = two.live ∙ one.live;
-  rows = two.rows ∙ one.rows;
-  mail = two.mail ∙ one.mail;
-  resets = two.resets ∙ one.resets;
-  next_session = two.next_session ∙ one.next_session;
-  next_msg = two.next_msg ∙ one.next_msg;
-}
-
 pub beside_edit : (c : Cluster) (r : ResourceId) (f : Resource → Resource) (o : Option Resource) → IsBeside c (changed_at c r f o)
 beside_edit c r f None = beside_self c
 beside_edit c r f (Some x) = record { live = refl; rows = refl; mail = refl; resets = refl; next_session = refl; next_msg = refl }
@@ -42,13 +32,13 @@ pub beside_mark : (c : Cluster) (k : ControllerId) (down : Bool) (o : Option (Bo
 beside_mark c k down None = beside_self c
 beside_mark c k down (Some d) = record { live = refl; rows = refl; mail = refl; resets = refl; next_session = refl; next_msg = refl }
 
-beside_left : (c : Cluster) (b : Bool) → IsBeside c (if b then record c { leader = None; epoch = record { 0 = c.epoch.0 + 1 } } else c)
-beside_left c true = record { live = refl; rows = refl; mail = refl; resets = refl; next_session = refl; next_msg = refl }
-beside_left c false = beside_self c
+beside_left : (c d : Cluster) (b : Bool) → IsBeside c d → IsBeside c (if b then record d { leader = None; epoch = record { 0 = d.epoch.0 + 1 } } else d)
+beside_left c d true h = record { live = h.live; rows = h.rows; mail = h.mail; resets = h.resets; next_session = h.next_session; next_msg = h.next_msg }
+beside_left c d false h = h
 
 pub beside_stop : (c : Cluster) (k : ControllerId) → IsBeside c (without_leader k (with_down c k true))
 beside_stop c k =
-    beside_both (beside_mark c k true (slice_get c.controllers k.0)) (beside_left (with_down c k true) (is_leader k (with_down c k true).leader))
+    beside_left c (with_down c k true) (is_leader k (with_down c k true).leader) (beside_mark c k true (slice_get c.controllers k.0))
 
 beside_raised : (c : Cluster) (k : ControllerId) (o : Option (Bool × PassNo)) → IsBeside c (raised_pass c k o)
 beside_raised c k None = beside_self c

@@ -1,7 +1,23 @@
 -- Laws of counts, of tests and of finding over lists.
-use Rattle.std.proofs.Common.{◌≡◌, ◌+◌, ◌≤◌, ◌||◌, ◌&&◌, Bool, true, false, List, [], ◌∷◌, ◌++◌, length, filter, map, find, Some, None, refl, arith}
+use Rattle.std.proofs.Common.{◌≡◌, ◌+◌, ◌≤◌, ◌||◌, ◌&&◌, not, Bool, true, false, List, [], ◌∷◌, ◌++◌, length, filter, map, find, Option, Some, None, refl, arith}
 use Rattle.std.specs.List.{list_any, list_all}
 use Rattle.hx_lists.specs.Lists.{count, insert_by}
+pub use Rattle.hx_lists.proofs.Conditions.{and-first, and-second, and-both, all-filter}
+
+-- a test that is asked only where another one passes
+pub if-passed : (a b : Bool) → b ≡ true → (not a || b) ≡ true
+if-passed true b e = e
+if-passed false b e = refl
+
+pub if-unasked : (a b : Bool) → a ≡ false → (not a || b) ≡ true
+if-unasked true b e = cc
+if-unasked false b e = refl
+
+pub or-swap : (a b : Bool) → (a || b) ≡ true → (b || a) ≡ true
+or-swap true true e = refl
+or-swap true false e = refl
+or-swap false true e = refl
+or-swap false false e = cc
 
 -- counts
 pub count-append : {X : Type 0} (p : X → Bool) (xs ys : List X) → count p (xs ++ ys) ≡ count p xs + count p ys
@@ -19,6 +35,11 @@ count-filter p k (x ∷ xs) = grind (arith, count-filter p k xs)
 pub count-map : {X Y : Type 0} (p : Y → Bool) (f : X → Y) (xs : List X) → count p (map f xs) ≡ count (λ x. p (f x)) xs
 count-map p f [] = refl
 count-map p f (x ∷ xs) = grind (arith, count-map p f xs)
+
+-- a test that sees nothing of a change counts as many after it
+pub count-shown : {X : Type 0} (p : X → Bool) (f : X → X) (h : (x : X) → p (f x) ≡ p x) (xs : List X) → count p (map f xs) ≡ count p xs
+count-shown p f h [] = refl
+count-shown p f h (x ∷ xs) = grind (arith, h x, count-shown p f h xs)
 
 -- what passes the first test passes the second or the third
 pub count-or : {X : Type 0} (p q one : X → Bool) (h : (x : X) → p x ≡ true → (q x || one x) ≡ true) (xs : List X) → count p xs ≤ count q xs + count one xs
@@ -48,21 +69,7 @@ pub count-never : {X : Type 0} (p : X → Bool) (h : (x : X) → p x ≡ false) 
 count-never p h [] = refl
 count-never p h (x ∷ xs) = grind (arith, h x, count-never p h xs)
 
--- both parts of a test
-pub and-first : (a b : Bool) → (a && b) ≡ true → a ≡ true
-and-first true b e = refl
-and-first false b e = cc
-
-pub and-second : (a b : Bool) → (a && b) ≡ true → b ≡ true
-and-second true b e = e
-and-second false b e = cc
-
-pub and-both : (a b : Bool) → a ≡ true → b ≡ true → (a && b) ≡ true
-and-both true true e w = refl
-and-both true false e w = cc
-and-both false b e w = cc
-
--- and of more
+-- the parts of a test of several
 pub and-three : (a b d : Bool) → (a && b && d) ≡ true → (a ≡ true) × (b ≡ true) × (d ≡ true)
 and-three true true true e = (refl, refl, refl)
 and-three true true false e = cc
@@ -101,10 +108,6 @@ all-append p (x ∷ xs) ys = grind (arith, all-append p xs ys)
 pub all-le : {X : Type 0} (p q : X → Bool) (h : (x : X) → p x ≡ true → q x ≡ true) (xs : List X) → list_all p xs ≡ true → list_all q xs ≡ true
 all-le p q h [] e = refl
 all-le p q h (x ∷ xs) e = grind (arith, e, all-le p q h xs, h x)
-
-pub all-filter : {X : Type 0} (p k : X → Bool) (xs : List X) → list_all p xs ≡ true → list_all p (filter k xs) ≡ true
-all-filter p k [] e = refl
-all-filter p k (x ∷ xs) e = grind (arith, e, all-filter p k xs)
 
 pub all-filter_more : {X : Type 0} (p q k : X → Bool) (h : (x : X) → p x ≡ true → k x ≡ true → q x ≡ true) (xs : List X) → list_all p xs ≡ true → list_all q (filter k xs) ≡ true
 all-filter_more p q k h [] e = refl
@@ -168,3 +171,19 @@ pub all-single : {X : Type 0} (p q r : X → Bool) (xs : List X) (m : X) → ((x
     → r m ≡ true → list_all q xs ≡ true → list_all r xs ≡ true
 all-single p q r [] m h e one w all = refl
 all-single p q r (x ∷ xs) m h e one w all = grind (arith, e, all, one, w, h x, all-single p q r xs m h, all-others p q r xs h)
+
+-- a test that each item passes which is the first of its kind, where there is one of each kind
+all-or-none : {X : Type 0} (q : X → Bool) (xs : List X) → list_any (λ x. not (q x)) xs ≡ false → list_all q xs ≡ true
+all-or-none q [] e = refl
+all-or-none q (x ∷ xs) e = grind (arith, e, all-or-none q xs)
+
+pub all_found : {X : Type 0} (alike : X → X → Bool) (q : X → Bool) (xs : List X) → ((x : X) → alike x x ≡ true) → ((x : X) → count (alike x) xs ≤ 1)
+    → ((x : X) → find (alike x) xs ≡ Some x → q x ≡ true) → list_all q xs ≡ true
+all_found {X} alike q xs self most h = one (find (λ x. not (q x)) xs) refl
+  where
+    one : (o : Option X) → find (λ x. not (q x)) xs ≡ o → list_all q xs ≡ true
+    one None is = all-or-none q xs (none-find (λ x. not (q x)) xs is)
+    one (Some x) is =
+        let no : not (q x) ≡ true = find-passes (λ x. not (q x)) xs x is in
+        let yes : q x ≡ true = h x (find-single (λ x. not (q x)) (alike x) xs x is (self x) (most x)) in
+        grind (arith, no, yes)

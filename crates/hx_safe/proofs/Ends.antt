@@ -3,6 +3,7 @@ use Rattle.std.proofs.Common.{◌≡◌, ℕ, ◌≤◌, ◌||◌, ◌&&◌, ◌
 use Rattle.std.specs.Prelude.{if◌then◌else◌}
 use Rattle.std.specs.List.{list_any}
 use Rattle.std.specs.Option.{option_map, option_or}
+use Rattle.std.proofs.lemmas.Bool.{cond_both}
 use Rattle.std.proofs.lemmas.Bool.Decides.{nat_tests}
 use Rattle.std.proofs.lemmas.List.Folds.{find-append}
 use Rattle.hx_lists.specs.Lists.{count, insert_by}
@@ -109,8 +110,12 @@ put-here rows s p st = one (st.0 == dropped.0) (list_any (is_row s p) rows) refl
     one false true is = restated-here rows s p st is
     one false false is = ap (option_map (λ r. r.state)) (find-insert_here (is_row s p) row_before (record { session = s; part = p; state = st }) rows (grind (arith, nat_tests)) is)
 
+-- what leaves a message's replica and states
+abbrev HasSameEnds : Message → Message → Type 0
+HasSameEnds m x = (u : SessionId) (q : PartId) (t : StateId) → (is_message u q x ≡ is_message u q m) × (message_at t (Some x) ≡ message_at t (Some m))
+
 -- a mark changes no end
-pub end-map : (f : Message → Message) (h : (m : Message) → (u : SessionId) (q : PartId) (t : StateId) → (is_message u q (f m) ≡ is_message u q m) × (message_at t (Some (f m)) ≡ message_at t (Some m))) (mail : List Message) (u : SessionId) (q : PartId) (t : StateId)
+end-map : (f : Message → Message) (h : (m : Message) → HasSameEnds m (f m)) (mail : List Message) (u : SessionId) (q : PartId) (t : StateId)
     → message_at t (message_of (map f mail) u q) ≡ message_at t (message_of mail u q)
 end-map f h [] u q t = refl
 end-map f h (m ∷ mail) u q t = one (is_message u q m) refl (is_message u q (f m)) refl (end-map f h mail u q t)
@@ -122,21 +127,16 @@ end-map f h (m ∷ mail) u q t = one (is_message u q m) refl (is_message u q (f 
     one true is false at more = absurd (grind (arith, is, at, (h m u q t).0))
     one false is true at more = absurd (grind (arith, is, at, (h m u q t).0))
 
+end-marked : (s : SessionId) (id : MsgId) (f : Message → Message) (h : (m : Message) → HasSameEnds m (f m)) (mail : List Message) (u : SessionId) (q : PartId) (t : StateId)
+    → message_at t (message_of (map (λ m. if has_id s id m then f m else m) mail) u q) ≡ message_at t (message_of mail u q)
+end-marked s id f h mail u q t =
+    end-map (λ m. if has_id s id m then f m else m) (λ m. cond_both (has_id s id m) (f m) m (HasSameEnds m) (λ e. h m) (λ e v r x. (refl, refl))) mail u q t
+
 pub end-taken : (mail : List Message) (s u : SessionId) (id : MsgId) (q : PartId) (t : StateId) → message_at t (message_of (map (as_taken s id) mail) u q) ≡ message_at t (message_of mail u q)
-end-taken mail s u id q t = end-map (as_taken s id) (λ m v r x. one (has_id s id m) m v r x) mail u q t
-  where
-    one : (b : Bool) (m : Message) (v : SessionId) (r : PartId) (x : StateId)
-        → (is_message v r (if b then record m { taken = true } else m) ≡ is_message v r m) × (message_at x (Some (if b then record m { taken = true } else m)) ≡ message_at x (Some m))
-    one true m v r x = (refl, refl)
-    one false m v r x = (refl, refl)
+end-taken mail s u id q t = end-marked s id (λ m. record m { taken = true }) (λ m v r x. (refl, refl)) mail u q t
 
 pub end-written : (mail : List Message) (s u : SessionId) (id : MsgId) (q : PartId) (t : StateId) → message_at t (message_of (map (as_written s id) mail) u q) ≡ message_at t (message_of mail u q)
-end-written mail s u id q t = end-map (as_written s id) (λ m v r x. one (has_id s id m) m v r x) mail u q t
-  where
-    one : (b : Bool) (m : Message) (v : SessionId) (r : PartId) (x : StateId)
-        → (is_message v r (if b then record m { written = true } else m) ≡ is_message v r m) × (message_at x (Some (if b then record m { written = true } else m)) ≡ message_at x (Some m))
-    one true m v r x = (refl, refl)
-    one false m v r x = (refl, refl)
+end-written mail s u id q t = end-marked s id (λ m. record m { written = true }) (λ m v r x. (refl, refl)) mail u q t
 
 -- a message that is gone takes its ends away
 pub end-filter : (k : Message → Bool) (mail : List Message) (u : SessionId) (q : PartId) (t : StateId) → count (is_message u q) mail ≤ 1

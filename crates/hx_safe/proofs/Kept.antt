@@ -2,6 +2,7 @@
 use Rattle.std.proofs.Common.{◌≡◌, ℕ, ◌+◌, ◌≤◌, ◌==◌, not, Bool, true, false, List, [], ◌∷◌, ◌++◌, filter, map, Option, Some, None, refl, sym, ap, ◌∙◌, subst, arith}
 use Rattle.std.specs.Prelude.{if◌then◌else◌, nat_lt, slice_get, slice_set}
 use Rattle.std.specs.List.{list_any, list_all}
+use Rattle.std.proofs.lemmas.Bool.{cond_both}
 use Rattle.std.proofs.lemmas.Bool.Decides.{nat_tests}
 use Rattle.std.proofs.lemmas.List.{map-append}
 use Rattle.hx_lists.specs.Lists.{count}
@@ -24,7 +25,7 @@ use Rattle.hx_cluster.specs.Steps.{after}
 use Rattle.hx_cluster.specs.Messages.{raised_pass, next_pass, has_id, as_taken, after_take, after_ack}
 use Rattle.hx_cluster.specs.Safe.{HasMail, HasRows, is_pending, is_kept}
 use Rattle.hx_cluster.specs.Valid.{has_no_fault}
-use Rattle.hx_safe.proofs.Counting.{count-append, count-le, count-filter, count-map, count-none, any-append, all-append, all-le, all-map, all-filter, none-from-all, find-none}
+use Rattle.hx_safe.proofs.Counting.{count-append, count-le, count-filter, count-shown, count-none, any-append, all-append, all-le, all-map, all-filter, none-from-all, find-none}
 use Rattle.hx_safe.proofs.Ends.{session_same, end-taken, end-filter}
 
 pub record IsKept (c : Cluster) : Type 0 where
@@ -53,6 +54,11 @@ kept_raised c k h = one (slice_get c.controllers k.0)
     one None = h
     one (Some d) = kept_beside c c.instances c.leader c.epoch (slice_set c.controllers k.0 (d.0, record { 0 = d.1.0 + 1 })) c.clock c.line c.change c.posted h
 
+-- a mark of a message leaves as many that pass a test that doesn't see it
+pub count-marked : (p : Message → Bool) (s : SessionId) (id : MsgId) (f : Message → Message) → ((m : Message) → p (f m) ≡ p m) → (mail : List Message)
+    → count p (map (λ m. if has_id s id m then f m else m) mail) ≡ count p mail
+count-marked p s id f same mail = count-shown p (λ m. if has_id s id m then f m else m) (λ m. cond_both (has_id s id m) (f m) m (λ (x : Message). p x ≡ p m) (λ e. same m) (λ e. refl)) mail
+
 -- a message that is taken has the ends that it had
 pub count_take : (c : Cluster) (s : SessionId) (id : MsgId) (p : PartId) (t : StateId)
     → count_of (after_take c s id) p t ≤ count_of c p t
@@ -64,12 +70,8 @@ pub kept_take : (c : Cluster) (s : SessionId) (id : MsgId) → IsKept c → IsKe
 kept_take c s id k = record {
   mail = record {
     pending = all-map (is_pending (after_take c s id)) (as_taken s id) c.mail ∙ all-le (is_pending c) (λ m. is_pending (after_take c s id) (as_taken s id m)) (λ m e. pending m (has_id s id m) e) c.mail k.mail.pending;
-    numbers = λ n. let same = count-map (λ m. m.id.0 == n.0) (as_taken s id) c.mail in
-        let less = count-le (λ m. (as_taken s id m).id.0 == n.0) (λ m. m.id.0 == n.0) (λ m e. number m n (has_id s id m) e) c.mail in
-        omega (arith, k.mail.numbers n);
-    single = λ u q. let same = count-map (is_message u q) (as_taken s id) c.mail in
-        let less = count-le (λ m. is_message u q (as_taken s id m)) (is_message u q) (λ m e. single m u q (has_id s id m) e) c.mail in
-        omega (arith, k.mail.single u q);
+    numbers = λ n. omega (arith, k.mail.numbers n, count-marked (λ m. m.id.0 == n.0) s id (λ m. record m { taken = true }) (λ m. refl) c.mail);
+    single = λ u q. omega (arith, k.mail.single u q, count-marked (is_message u q) s id (λ m. record m { taken = true }) (λ m. refl) c.mail);
   };
   rows = record { kept = k.rows.kept; single = k.rows.single; flags = k.rows.flags };
   numbers = k.numbers;
@@ -80,14 +82,6 @@ kept_take c s id k = record {
     pending : (m : Message) (b : Bool) → is_pending c m ≡ true → is_pending c (if b then record m { taken = true } else m) ≡ true
     pending m true e = grind (arith, e)
     pending m false e = e
-
-    number : (m : Message) (n : MsgId) (b : Bool) → ((if b then record m { taken = true } else m).id.0 == n.0) ≡ true → (m.id.0 == n.0) ≡ true
-    number m n true e = e
-    number m n false e = e
-
-    single : (m : Message) (u : SessionId) (q : PartId) (b : Bool) → is_message u q (if b then record m { taken = true } else m) ≡ true → is_message u q m ≡ true
-    single m u q true e = e
-    single m u q false e = e
 
 -- a message that is acknowledged takes its ends away
 pub count_ack : (c : Cluster) (s : SessionId) (id : MsgId) → IsKept c → (p : PartId) (t : StateId)

@@ -87,10 +87,6 @@ kept_without c s k =
         let live : is_live (without c s).live r.session ≡ true = live-without c.live s r.session ne (grind (arith, e)) in
         grind (arith, e, live)
 
-pub kept_without_all : (c : Cluster) (ss : List SessionId) → IsKept c → IsKept (without_all c ss)
-kept_without_all c [] k = k
-kept_without_all c (s ∷ ss) k = kept_without_all (without c s) ss (kept_without c s k)
-
 pub count_without_all : (c : Cluster) (ss : List SessionId) → IsKept c → (p : PartId) (t : StateId) → count_of (without_all c ss) p t ≤ count_of c p t
 count_without_all c [] k p t = omega arith
 count_without_all c (s ∷ ss) k p t =
@@ -101,10 +97,6 @@ count_without_all c (s ∷ ss) k p t =
 pub count_end : (c : Cluster) (o : Option Live) → IsKept c → (p : PartId) (t : StateId) → count_of (ended_of c o) p t ≤ count_of c p t
 count_end c None k p t = omega arith
 count_end c (Some l) k p t = count_without c l.session k p t
-
-pub kept_end : (c : Cluster) (o : Option Live) → IsKept c → IsKept (ended_of c o)
-kept_end c None k = k
-kept_end c (Some l) k = kept_without c l.session k
 
 -- a session that is heard of moves behind the others. No more pass a test that doesn't see beats
 moved_fewer : (c : Cluster) (i : InstanceId) (l : Live) → live_of c.live i ≡ Some l → (p : Live → Bool) (b : Bool) → p l ≡ b → p (record l { beat = c.clock }) ≡ b

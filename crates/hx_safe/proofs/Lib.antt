@@ -1,6 +1,8 @@
 pub mod Counting
+pub mod Naming
 pub mod Models
 pub mod Ends
+pub mod Ending
 pub mod Kept
 pub mod Sending
 pub mod Writing

@@ -2,6 +2,7 @@
 use Rattle.std.proofs.Common.{◌≡◌, ℕ, ◌+◌, ◌||◌, ◌==◌, not, Bool, true, false, List, [], ◌∷◌, ◌++◌, filter, map, Option, Some, None, refl, ap, ◌∙◌, arith}
 use Rattle.std.specs.Prelude.{if◌then◌else◌, nat_lt, nat_le}
 use Rattle.std.specs.List.{list_any, list_all}
+use Rattle.std.proofs.lemmas.Bool.{cond_both}
 use Rattle.std.proofs.lemmas.Bool.Decides.{nat_tests}
 use Rattle.hx_lists.specs.Lists.{insert_by}
 use Rattle.hx_ids.specs.declared.StateId.{StateId}
@@ -25,12 +26,13 @@ use Rattle.hx_cluster.specs.declared.happenings.Admin.TheVariants as steps
 use Rattle.hx_cluster.specs.declared.happenings.Event.{Event}
 use Rattle.hx_cluster.specs.declared.happenings.Event.TheVariants as events
 use Rattle.hx_cluster.specs.Ends.{is_row, parts_of, state_of}
-use Rattle.hx_cluster.specs.Steps.{refusal_of, after, without, without_all, ended_of, beaten_of, ended_by, live_of, flag_before, is_flag, is_error, reset_fault, asked_of}
-use Rattle.hx_cluster.specs.Messages.{placed_of, message_from, after_placed, after_proposal, next_pass, after_dispatch, has_id, pending_of, as_taken, as_written, row_before, restated, row_put, state_after, flags_after, written_of, after_write}
+use Rattle.hx_cluster.specs.Steps.{refusal_of, after, without, beaten_of, ended_by, live_of, flag_before, is_flag, is_error, reset_fault, asked_of}
+use Rattle.hx_cluster.specs.Messages.{placed_of, message_from, after_placed, after_proposal, next_pass, after_dispatch, has_id, pending_of, row_before, restated, row_put, state_after, flags_after, written_of, after_write}
 use Rattle.hx_cluster.specs.Events.{next, is_proposable, IsStep}
 use Rattle.hx_cluster.specs.Safe.{is_pending}
 use Rattle.hx_safe.specs.Ordered.{rises, number_before, IsOrdered}
 use Rattle.hx_safe.proofs.Counting.{all-append, all-le, all-map, all-filter, all-insert}
+use Rattle.hx_safe.proofs.Ending.{along_without_all, along_end}
 use Rattle.hx_safe.proofs.Kept.{IsKept}
 use Rattle.hx_safe.proofs.Sending.{room_from, sent_next, along_dispatch}
 use Rattle.hx_safe.proofs.Beside.{IsBeside, beside_step, beside_pass}
@@ -108,14 +110,6 @@ ordered_without c s o = record {
   mail = rises-filter number_before (λ m. not (m.session.0 == s.0)) c.mail o.mail;
 }
 
-ordered_without_all : (c : Cluster) (ss : List SessionId) → IsOrdered c → IsOrdered (without_all c ss)
-ordered_without_all c [] o = o
-ordered_without_all c (s ∷ ss) o = ordered_without_all (without c s) ss (ordered_without c s o)
-
-ordered_end : (c : Cluster) (l : Option Live) → IsOrdered c → IsOrdered (ended_of c l)
-ordered_end c None o = o
-ordered_end c (Some l) o = ordered_without c l.session o
-
 ordered_beat : (c : Cluster) (l : Option Live) → IsOrdered c → IsOrdered (beaten_of c l)
 ordered_beat c None o = o
 ordered_beat c (Some l) o = record { rows = o.rows; resets = o.resets; mail = o.mail }
@@ -140,10 +134,10 @@ ordered_reset c p (Some l) o free = record {
 
 ordered_step : (c : Cluster) (step : Admin) → IsOrdered c → refusal_of c step ≡ None → IsOrdered (after c step)
 ordered_step c (steps.Join i) o free = record { rows = o.rows; resets = o.resets; mail = o.mail }
-ordered_step c (steps.End i) o free = ordered_end c (live_of c.live i) o
+ordered_step c (steps.End i) o free = along_end IsOrdered ordered_without c (live_of c.live i) o
 ordered_step c (steps.Beat i) o free = ordered_beat c (live_of c.live i) o
 ordered_step c (steps.Tick n) o free =
-    ordered_without_all (record c { clock = c.clock + n }) (ended_by c n) (record { rows = o.rows; resets = o.resets; mail = o.mail })
+    along_without_all IsOrdered ordered_without (record c { clock = c.clock + n }) (ended_by c n) (record { rows = o.rows; resets = o.resets; mail = o.mail })
 ordered_step c (steps.Reset i p) o free = ordered_reset c p (live_of c.live i) o free
 ordered_step c step o free = ordered_beside c (after c step) (beside_step c step refl) o
 
@@ -172,23 +166,15 @@ ordered_dispatch c n qs k e o =
     along_dispatch IsOrdered (λ c q k w o. ordered_proposal c q k o) c n qs k e (ordered_beside c (next_pass c n) (beside_pass c n) o)
 
 -- marks
-taken-number : (s : SessionId) (id : MsgId) (m : Message) → (as_taken s id m).id.0 ≡ m.id.0
-taken-number s id m = one (has_id s id m)
+rises-marked : (s : SessionId) (id : MsgId) (f : Message → Message) → ((m : Message) → (f m).id.0 ≡ m.id.0) → (mail : List Message)
+    → rises number_before (map (λ m. if has_id s id m then f m else m) mail) ≡ rises number_before mail
+rises-marked s id f same mail = rises-map number_before _ (λ x y. ap (λ (n : ℕ). nat_lt n (marked y).id.0) (number x) ∙ ap (λ (n : ℕ). nat_lt x.id.0 n) (number y)) mail
   where
-    one : (b : Bool) → (if b then record m { taken = true } else m).id.0 ≡ m.id.0
-    one true = refl
-    one false = refl
+    marked : Message → Message
+    marked m = if has_id s id m then f m else m
 
-written-number : (s : SessionId) (id : MsgId) (m : Message) → (as_written s id m).id.0 ≡ m.id.0
-written-number s id m = one (has_id s id m)
-  where
-    one : (b : Bool) → (if b then record m { written = true } else m).id.0 ≡ m.id.0
-    one true = refl
-    one false = refl
-
-rises-marked : (f : Message → Message) → ((m : Message) → (f m).id.0 ≡ m.id.0) → (mail : List Message) → rises number_before (map f mail) ≡ rises number_before mail
-rises-marked f same mail =
-    rises-map number_before f (λ x y. ap (λ (n : ℕ). nat_lt n (f y).id.0) (same x) ∙ ap (λ (n : ℕ). nat_lt x.id.0 n) (same y)) mail
+    number : (m : Message) → (if has_id s id m then f m else m).id.0 ≡ m.id.0
+    number m = cond_both (has_id s id m) (f m) m (λ (x : Message). x.id.0 ≡ m.id.0) (λ e. same m) (λ e. refl)
 
 -- a row that is put stands in its place
 restated-before : (s : SessionId) (p : PartId) (st : StateId) (a b : Row) → row_before (restated s p st a) (restated s p st b) ≡ row_before a b
@@ -221,7 +207,7 @@ ordered_write c s id outcome o = one (pending_of c s id)
     one (Some m) = record {
       rows = rises-put c.rows m.session m.part (state_after m outcome) o.rows;
       resets = rises-flags c.resets m outcome o.resets;
-      mail = rises-marked (as_written s id) (written-number s id) c.mail ∙ o.mail;
+      mail = rises-marked s id (λ x. record x { written = true }) (λ x. refl) c.mail ∙ o.mail;
     }
 
 -- each event keeps the orders
@@ -229,7 +215,7 @@ pub ordered_next : (c : Cluster) (e : Event) → IsKept c → IsOrdered c → Is
 ordered_next c (events.Admin step did) k o legal = ordered_step c step o legal.1
 ordered_next c (events.Begin j begun) k o legal = ordered_beside c (next_pass c j) (beside_pass c j) o
 ordered_next c (events.Dispatch j epoch pass proposals answer) k o legal = ordered_dispatch c j proposals k legal.0 o
-ordered_next c (events.Take s id) k o legal = record { rows = o.rows; resets = o.resets; mail = rises-marked (as_taken s id) (taken-number s id) c.mail ∙ o.mail }
+ordered_next c (events.Take s id) k o legal = record { rows = o.rows; resets = o.resets; mail = rises-marked s id (λ m. record m { taken = true }) (λ m. refl) c.mail ∙ o.mail }
 ordered_next c (events.Write s id outcome) k o legal = ordered_write c s id outcome o
 ordered_next c (events.Ack s id) k o legal = record { rows = o.rows; resets = o.resets; mail = rises-filter number_before (λ m. not (has_id s id m)) c.mail o.mail }
 ordered_next c _ k o legal = record { rows = o.rows; resets = o.resets; mail = o.mail }

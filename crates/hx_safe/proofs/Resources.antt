@@ -50,23 +50,27 @@ replicas_from o = option_map_or (λ x. x.ideal.replicas) o 0
 abbrev parts_from : Option Resource → ℕ
 parts_from o = option_map_or (λ x. x.ideal.parts) o 0
 
+-- among other resources, that of each part that is there has the same model and as many parts
+abbrev HaveSameParts : Cluster → List Resource → Type 0
+HaveSameParts c resources = (p : PartId) → has_part c p ≡ true
+    → (model_of c.models resources p.resource ≡ model_of c.models c.resources p.resource) × (parts_of resources p.resource ≡ parts_of c.resources p.resource)
+
 -- a message, a row and a limit see of a resource its model, its replicas and its parts
-pending-same : (c : Cluster) (resources : List Resource) (change : ℕ) (m : Message)
-    → model_of c.models resources m.part.resource ≡ model_of c.models c.resources m.part.resource
-    → parts_of resources m.part.resource ≡ parts_of c.resources m.part.resource
-    → is_pending (record c { resources = resources; change = change }) m ≡ is_pending c m
-pending-same c resources change m models parts =
+pending-same : (c : Cluster) (resources : List Resource) (change : ℕ) → HaveSameParts c resources → (m : Message) → is_pending c m ≡ true
+    → is_pending (record c { resources = resources; change = change }) m ≡ true
+pending-same c resources change h m e =
+    let same = h m.part (grind (arith, e)) in
     let test : ModelParts → ℕ → Bool = λ x n.
     is_live c.live m.session && nat_lt m.part.index n && is_legal x m.from m.to && nat_lt m.id.0 c.next_msg && (not m.written || m.taken)
     && (if m.written then is_row_written m (state_of c.rows m.session m.part) else (unwrap_or (state_of c.rows m.session m.part) x.initial).0 == m.from.0) in
-    ap (λ (x : ModelParts). test x (parts_of resources m.part.resource)) models ∙ ap (λ (n : ℕ). test (model_of c.models c.resources m.part.resource) n) parts
+    ap (λ (x : ModelParts). test x (parts_of resources m.part.resource)) same.0 ∙ ap (λ (n : ℕ). test (model_of c.models c.resources m.part.resource) n) same.1 ∙ e
 
-kept-same : (c : Cluster) (resources : List Resource) (change : ℕ) (r : Row) → model_of c.models resources r.part.resource ≡ model_of c.models c.resources r.part.resource
-    → parts_of resources r.part.resource ≡ parts_of c.resources r.part.resource
-    → is_kept (record c { resources = resources; change = change }) r ≡ is_kept c r
-kept-same c resources change r models parts =
+kept-same : (c : Cluster) (resources : List Resource) (change : ℕ) → HaveSameParts c resources → (r : Row) → is_kept c r ≡ true
+    → is_kept (record c { resources = resources; change = change }) r ≡ true
+kept-same c resources change h r e =
+    let same = h r.part (grind (arith, e)) in
     let test : ModelParts → ℕ → Bool = λ x n. is_live c.live r.session && nat_lt r.part.index n && (has_state x r.state || (r.state.0 == error.0)) in
-    ap (λ (x : ModelParts). test x (parts_of resources r.part.resource)) models ∙ ap (λ (n : ℕ). test (model_of c.models c.resources r.part.resource) n) parts
+    ap (λ (x : ModelParts). test x (parts_of resources r.part.resource)) same.0 ∙ ap (λ (n : ℕ). test (model_of c.models c.resources r.part.resource) n) same.1 ∙ e
 
 pub limit-same : (c : Cluster) (resources : List Resource) (change : ℕ) (p : PartId) (t : StateId)
     → model_of c.models resources p.resource ≡ model_of c.models c.resources p.resource → replicas_of resources p.resource ≡ replicas_of c.resources p.resource
@@ -75,18 +79,16 @@ limit-same c resources change p t models replicas =
     ap (λ (m : ModelParts). limit_of (bound_of m t) (replicas_of resources p.resource) (length c.live)) models
     ∙ ap (λ (n : ℕ). limit_of (bound_of (model_of c.models c.resources p.resource) t) n (length c.live)) replicas
 
--- resources with the same models and parts
-kept_resources : (c : Cluster) (resources : List Resource) (change : ℕ) → IsKept c
-    → ((r : ResourceId) → model_of c.models resources r ≡ model_of c.models c.resources r) → ((r : ResourceId) → parts_of resources r ≡ parts_of c.resources r)
-    → IsKept (record c { resources = resources; change = change })
-kept_resources c resources change k models parts = record {
+-- so resources with the same models and parts keep all
+kept_resources : (c : Cluster) (resources : List Resource) (change : ℕ) → IsKept c → HaveSameParts c resources → IsKept (record c { resources = resources; change = change })
+kept_resources c resources change k same = record {
   mail = record {
-    pending = all-le (is_pending c) (is_pending (record c { resources = resources; change = change })) (λ m e. pending-same c resources change m (models m.part.resource) (parts m.part.resource) ∙ e) c.mail k.mail.pending;
+    pending = all-le (is_pending c) (is_pending (record c { resources = resources; change = change })) (pending-same c resources change same) c.mail k.mail.pending;
     numbers = k.mail.numbers;
     single = k.mail.single;
   };
   rows = record {
-    kept = all-le (is_kept c) (is_kept (record c { resources = resources; change = change })) (λ r e. kept-same c resources change r (models r.part.resource) (parts r.part.resource) ∙ e) c.rows k.rows.kept;
+    kept = all-le (is_kept c) (is_kept (record c { resources = resources; change = change })) (kept-same c resources change same) c.rows k.rows.kept;
     single = k.rows.single;
     flags = k.rows.flags;
   };
@@ -102,9 +104,10 @@ kept_edited c r f k model parts = one (resource_at c.resources r) refl
   where
     one : (o : Option Resource) → resource_at c.resources r ≡ o → IsKept (changed_at c r f o)
     one None is = k
-    one (Some x) is = kept_resources c (slice_set c.resources r.0 (f x)) (c.change + 1) k
-        (λ q. get-set (λ (y : Resource). model_at c.models y.model) no_model c.resources r.0 x (f x) is (ap (model_at c.models) (model x)) q.0)
-        (λ q. get-set (λ (y : Resource). y.ideal.parts) 0 c.resources r.0 x (f x) is (parts x) q.0)
+    one (Some x) is = kept_resources c (slice_set c.resources r.0 (f x)) (c.change + 1) k (λ p e. (
+      get-set (λ (y : Resource). model_at c.models y.model) no_model c.resources r.0 x (f x) is (ap (model_at c.models) (model x)) p.resource.0,
+      get-set (λ (y : Resource). y.ideal.parts) 0 c.resources r.0 x (f x) is (parts x) p.resource.0,
+    ))
 
 -- and with the same replicas it has the same limits
 pub limit_edited : (c : Cluster) (r : ResourceId) (f : Resource → Resource) → ((x : Resource) → (f x).model ≡ x.model)
@@ -152,25 +155,8 @@ absent-ends c p t k none = count-never (has_end c.rows c.mail p t) each (session
 
 -- so a resource that is added changes nothing for those that were there
 pub kept_add : (c : Cluster) (x : Resource) → IsKept c → IsKept (record c { resources = c.resources ++ x ∷ []; change = c.change + 1 })
-kept_add c x k = record {
-  mail = record {
-    pending = all-le (is_pending c) (is_pending (record c { resources = c.resources ++ x ∷ []; change = c.change + 1 })) (λ m e.
-        let same = there c x m.part (grind (arith, e)) in
-        pending-same c (c.resources ++ x ∷ []) (c.change + 1) m (ap (model_from c.models) same) (ap parts_from same) ∙ e) c.mail k.mail.pending;
-    numbers = k.mail.numbers;
-    single = k.mail.single;
-  };
-  rows = record {
-    kept = all-le (is_kept c) (is_kept (record c { resources = c.resources ++ x ∷ []; change = c.change + 1 })) (λ r e.
-        let same = there c x r.part (grind (arith, e)) in
-        kept-same c (c.resources ++ x ∷ []) (c.change + 1) r (ap (model_from c.models) same) (ap parts_from same) ∙ e) c.rows k.rows.kept;
-    single = k.rows.single;
-    flags = k.rows.flags;
-  };
-  numbers = k.numbers;
-  below = k.below;
-  sound = k.sound;
-}
+kept_add c x k =
+    kept_resources c (c.resources ++ x ∷ []) (c.change + 1) k (λ p e. let same = there c x p e in (ap (model_from c.models) same, ap parts_from same))
 
 -- whose limits are the same too
 pub limit_add : (c : Cluster) (x : Resource) → IsKept c → (p : PartId) (t : StateId) (limit : ℕ)

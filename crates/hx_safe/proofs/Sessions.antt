@@ -1,7 +1,7 @@
 -- Live sessions stay distinct and in order of their beats, and the leader up.
 use Rattle.std.proofs.Common.{◌≡◌, ℕ, zero, suc, ◌+◌, ◌≤◌, ◌==◌, not, Bool, true, false, List, [], ◌∷◌, ◌++◌, filter, Option, Some, None, refl, sym, ap, ◌∙◌, subst, arith}
 use Rattle.std.specs.Prelude.{if◌then◌else◌, nat_le, slice_get, slice_set}
-use Rattle.std.specs.Option.{option_map_or}
+use Rattle.std.specs.Option.{option_map, option_map_or}
 use Rattle.std.proofs.lemmas.Bool.Decides.{nat_tests}
 use Rattle.hx_lists.specs.Lists.{count}
 use Rattle.hx_ids.specs.declared.InstanceId.{InstanceId}
@@ -18,11 +18,11 @@ use Rattle.hx_cluster.specs.declared.happenings.Admin.TheVariants as steps
 use Rattle.hx_cluster.specs.declared.happenings.Proposal.{Proposal}
 use Rattle.hx_cluster.specs.declared.happenings.Placed.{Placed}
 use Rattle.hx_cluster.specs.declared.happenings.Placed.TheVariants as placings
-use Rattle.hx_cluster.specs.Ends.{is_session}
-use Rattle.hx_cluster.specs.Steps.{is_of, live_of, is_down, is_leader, already_live, lead_fault, after, without, without_all, ended_of, beaten_of, marked_down, with_down, without_leader}
+use Rattle.hx_cluster.specs.Ends.{is_session, is_live}
+use Rattle.hx_cluster.specs.Steps.{is_of, live_of, session_of, is_down, is_leader, already_live, lead_fault, after, without, beaten_of, marked_down, with_down, without_leader}
 use Rattle.hx_cluster.specs.Messages.{placed_of, after_placed, after_proposal, after_proposals, raised_pass, next_pass, after_dispatch, pending_of, written_of, after_write}
 use Rattle.hx_cluster.specs.Safe.{beats_rise, leader_is_up}
-use Rattle.hx_safe.proofs.Counting.{count-append, count-filter, count-none, count-removed, none-find}
+use Rattle.hx_safe.proofs.Counting.{count-append, count-filter, count-none, count-removed, find-any, none-find}
 use Rattle.hx_safe.proofs.Ends.{same-self}
 
 -- beats along the list
@@ -80,14 +80,6 @@ seated_without c s o = record {
   beats = beats-filter (λ l. not (l.session.0 == s.0)) 0 c.live c.clock o.beats;
   leader = o.leader;
 }
-
-pub seated_without_all : (c : Cluster) (ss : List SessionId) → IsSeated c → IsSeated (without_all c ss)
-seated_without_all c [] o = o
-seated_without_all c (s ∷ ss) o = seated_without_all (without c s) ss (seated_without c s o)
-
-pub seated_end : (c : Cluster) (l : Option Live) → IsSeated c → IsSeated (ended_of c l)
-seated_end c None o = o
-seated_end c (Some l) o = seated_without c l.session o
 
 pub seated_tick : (c : Cluster) (n : ℕ) → IsSeated c → IsSeated (record c { clock = c.clock + n })
 seated_tick c n o = record { instances = o.instances; beats = beats-tick 0 n c.live c.clock o.beats; leader = o.leader }
@@ -212,3 +204,13 @@ seated_write c s id outcome o = one (pending_of c s id)
     one : (m : Option Message) → IsSeated (written_of c s id outcome m)
     one None = o
     one (Some m) = record { instances = o.instances; beats = o.beats; leader = o.leader }
+
+-- the session of an instance is live
+pub session_live : (c : Cluster) (i : InstanceId) (s : SessionId) → session_of c i ≡ Some s → is_live c.live s ≡ true
+session_live c i s is = one (live_of c.live i) refl is
+  where
+    one : (o : Option Live) → live_of c.live i ≡ o → option_map (λ l. l.session) o ≡ Some s → is_live c.live s ≡ true
+    one None found e = cc
+    one (Some l) found e =
+        let same : l.session ≡ s = cc in
+        find-any (is_of i) (is_session s) c.live l found (subst (λ (u : SessionId). (l.session.0 == u.0) ≡ true) same (same-self l.session.0))

@@ -24,13 +24,13 @@ use Rattle.hx_cluster.specs.declared.happenings.Admin.TheVariants as steps
 use Rattle.hx_cluster.specs.declared.happenings.Placed.{Placed}
 use Rattle.hx_cluster.specs.declared.happenings.Placed.TheVariants as placings
 use Rattle.hx_cluster.specs.Ends.{is_session, is_live, shown_of, matches, key_of, is_counted, load_over, load_of}
-use Rattle.hx_cluster.specs.Steps.{is_of, live_of, after, without, without_all, ended_of, beaten_of}
-use Rattle.hx_cluster.specs.Messages.{proposal_load, throttled_from, placed_of, message_from, after_placed, after_proposal, after_proposals, raised_pass, next_pass, after_dispatch, has_id, as_taken, as_written, pending_of, written_of, after_take, after_write, after_ack}
+use Rattle.hx_cluster.specs.Steps.{is_of, live_of, after, without, beaten_of}
+use Rattle.hx_cluster.specs.Messages.{proposal_load, throttled_from, placed_of, message_from, after_placed, after_proposal, after_proposals, raised_pass, next_pass, after_dispatch, has_id, pending_of, written_of, after_take, after_write, after_ack}
 use Rattle.hx_cluster.specs.Safe.{IsThrottled, is_pending}
 use Rattle.hx_cluster.proofs.Shown.{shown_is_live, instance_in_shown}
-use Rattle.hx_safe.proofs.Counting.{count-append, count-le, count-filter, count-map, none-find, find-single}
+use Rattle.hx_safe.proofs.Counting.{count-append, count-filter, none-find, find-single}
 use Rattle.hx_safe.proofs.Ends.{same-self, session_same, find-filter_kept, find-filter_none}
-use Rattle.hx_safe.proofs.Kept.{IsKept}
+use Rattle.hx_safe.proofs.Kept.{IsKept, count-marked}
 use Rattle.hx_safe.proofs.Sending.{room_from}
 
 -- the instance of a session. What a rule counts of a message sees no more of the live sessions
@@ -139,38 +139,20 @@ throttled_without c s old n r key e =
     (λ m other w. sym (counted-same c.live (without c s).live r key m (instance-without c.live s m.session (grind (arith, other)))) ∙ w) c.mail in
     omega (arith, less, old n r key e)
 
-pub throttled_without_all : (c : Cluster) (ss : List SessionId) → IsThrottled c → IsThrottled (without_all c ss)
-throttled_without_all c [] old = old
-throttled_without_all c (s ∷ ss) old = throttled_without_all (without c s) ss (throttled_without c s old)
-
-pub throttled_end : (c : Cluster) (o : Option Live) → IsThrottled c → IsThrottled (ended_of c o)
-throttled_end c None old = old
-throttled_end c (Some l) old = throttled_without c l.session old
-
 -- marks and acknowledgements leave no more messages
 pub throttled_take : (c : Cluster) (s : SessionId) (id : MsgId) → IsThrottled c → IsThrottled (after_take c s id)
 throttled_take c s id old n r key e =
-    let same = count-map (is_counted (shown_of c.live) r key) (as_taken s id) c.mail in
-    let less = count-le (λ m. is_counted (shown_of c.live) r key (as_taken s id m)) (is_counted (shown_of c.live) r key) (λ m w. one m (has_id s id m) w) c.mail in
-    omega (arith, same, less, old n r key e)
-  where
-    one : (m : Message) (b : Bool) → is_counted (shown_of c.live) r key (if b then record m { taken = true } else m) ≡ true → is_counted (shown_of c.live) r key m ≡ true
-    one m true w = w
-    one m false w = w
+    let same = count-marked (is_counted (shown_of c.live) r key) s id (λ m. record m { taken = true }) (λ m. refl) c.mail in
+    omega (arith, same, old n r key e)
 
 pub throttled_write : (c : Cluster) (s : SessionId) (id : MsgId) (outcome : Outcome) → IsThrottled c → IsThrottled (after_write c s id outcome)
 throttled_write c s id outcome old = write (pending_of c s id)
   where
-    one : (r : Rule) (key : ℕ) (m : Message) (b : Bool) → is_counted (shown_of c.live) r key (if b then record m { written = true } else m) ≡ true → is_counted (shown_of c.live) r key m ≡ true
-    one r key m true w = w
-    one r key m false w = w
-
     write : (o : Option Message) → IsThrottled (written_of c s id outcome o)
     write None n r key e = old n r key e
     write (Some m) n r key e =
-        let same = count-map (is_counted (shown_of c.live) r key) (as_written s id) c.mail in
-        let less = count-le (λ x. is_counted (shown_of c.live) r key (as_written s id x)) (is_counted (shown_of c.live) r key) (λ x w. one r key x (has_id s id x) w) c.mail in
-        omega (arith, same, less, old n r key e)
+        let same = count-marked (is_counted (shown_of c.live) r key) s id (λ x. record x { written = true }) (λ x. refl) c.mail in
+        omega (arith, same, old n r key e)
 
 pub throttled_ack : (c : Cluster) (s : SessionId) (id : MsgId) → IsThrottled c → IsThrottled (after_ack c s id)
 throttled_ack c s id old n r key e = omega (arith, count-filter (is_counted (shown_of c.live) r key) (λ m. not (has_id s id m)) c.mail, old n r key e)

@@ -2,9 +2,10 @@
 use Rattle.std.proofs.Common.{◌≡◌, ℕ, zero, suc, ◌+◌, ◌*◌, ◌≤◌, ◌==◌, ◌&&◌, ◌||◌, not, Bool, true, false, List, [], ◌∷◌, ◌++◌, filter, map, find, length, Option, Some, None, refl, sym, ap, ◌∙◌, subst, arith}
 use Rattle.std.specs.Prelude.{if◌then◌else◌, nat_le, replicate, slice_get, slice_set, is_none}
 use Rattle.std.specs.List.{list_any, list_all}
+use Rattle.std.proofs.lemmas.Bool.{cond_both}
 use Rattle.std.proofs.lemmas.Bool.Decides.{nat_tests}
 use Rattle.hx_lists.specs.Lists.{count}
-use Rattle.hx_ids.specs.Expiry.{is_expired, expired}
+use Rattle.hx_ids.specs.Expiry.{is_expired}
 use Rattle.hx_ids.specs.declared.InstanceId.{InstanceId}
 use Rattle.hx_ids.specs.declared.SessionId.{SessionId}
 use Rattle.hx_ids.specs.declared.MsgId.{MsgId}
@@ -26,15 +27,14 @@ use Rattle.hx_cluster.specs.declared.happenings.Admin.TheVariants as steps
 use Rattle.hx_cluster.specs.declared.happenings.Event.{Event}
 use Rattle.hx_cluster.specs.declared.happenings.Event.TheVariants as events
 use Rattle.hx_cluster.specs.Ends.{is_session, is_live, resource_at}
-use Rattle.hx_cluster.specs.Steps.{opening, refusal_of, after, is_of, live_of, without, without_all, ended_of, ended_by, beaten_of, changed_at, with_resource, asked_of, marked_down, with_down, without_leader, is_leader}
+use Rattle.hx_cluster.specs.Steps.{opening, after, is_of, live_of, without, without_all, ended_of, ended_by, beaten_of, changed_at, with_resource, asked_of, marked_down, with_down, without_leader, is_leader}
 use Rattle.hx_cluster.specs.Messages.{message_from, placed_of, after_placed, after_proposal, after_proposals, raised_pass, next_pass, after_dispatch, has_id, pending_of, as_taken, as_written, after_take, written_of, after_write, after_ack}
-use Rattle.hx_cluster.specs.declared.happenings.TakeFault.{TakeFault}
 use Rattle.hx_cluster.specs.declared.happenings.TakeFault.TheVariants as takes
 use Rattle.hx_cluster.specs.declared.happenings.WriteRefusal.TheVariants as writes
 use Rattle.hx_cluster.specs.declared.happenings.AckFault.TheVariants as acks
 use Rattle.hx_cluster.specs.Marks.{take_fault, take_refusal, write_fault, write_refusal, ack_fault, ack_refusal}
 use Rattle.hx_cluster.specs.Events.{next, replay, IsStep, IsLegal}
-use Rattle.hx_cluster.specs.Weight.{step_weight, weight_of, weight_of_all, one_unless, owed_by, owed_in, owed_of}
+use Rattle.hx_cluster.specs.Weight.{step_weight, weight_of, weight_of_all, owed_by, owed_in, owed_of}
 use Rattle.hx_cluster.specs.Safe.{SafeAlong}
 use Rattle.hx_cluster.specs.Valid.{IsValid}
 use Rattle.hx_safe.specs.Weighed.{IsWeighed}
@@ -83,11 +83,11 @@ owed-marked f q h (m ∷ ms) x e less = one (q m) e (λ g. owed-marked f q h ms 
         omega (arith, here, owed-map f h ms)
     one false e rest = omega (arith, h m, rest e)
 
-length-filter : {X : Type 0} (k : X → Bool) (xs : List X) → length (filter k xs) ≤ length xs
+pub length-filter : {X : Type 0} (k : X → Bool) (xs : List X) → length (filter k xs) ≤ length xs
 length-filter k [] = omega arith
 length-filter k (x ∷ xs) = grind (arith, length-filter k xs)
 
-length-removed : {X : Type 0} (q : X → Bool) (xs : List X) → list_any q xs ≡ true → length (filter (λ y. not (q y)) xs) + 1 ≤ length xs
+pub length-removed : {X : Type 0} (q : X → Bool) (xs : List X) → list_any q xs ≡ true → length (filter (λ y. not (q y)) xs) + 1 ≤ length xs
 length-removed q [] e = cc
 length-removed q (x ∷ xs) e = grind (arith, e, length-removed q xs, length-filter (λ y. not (q y)) xs)
 
@@ -382,70 +382,36 @@ weighed_step c (steps.Stop k) w single h =
     subst P (let same : w + 0 + 1 ≡ w + 1 = omega arith in same) (weighed_unled k (with_down c k true) (w + 0) (weighed_down c k true w 0 h))
 weighed_step c (steps.Start k) w single h = weighed_down c k false w 1 h
 
+-- who may mark a message, or take it out, finds it
+pub found_by : {F : Type 0} (fault : Option Message → Option F) (ended : F) (live : Bool) (o : Option Message) → is_none (fault None) ≡ false → is_none (if live then fault o else Some ended) ≡ true
+    → (m : Message) × (o ≡ Some m) × (is_none (fault (Some m)) ≡ true)
+found_by fault ended false o none e = cc
+found_by fault ended true None none e = let both = sym none ∙ e in cc
+found_by fault ended true (Some m) none e = (m, refl, e)
+
+-- and a mark after which it owes less takes that from what is owed
+paid_mark : (c : Cluster) (s : SessionId) (id : MsgId) (f : Message → Message) (m : Message) → ((x : Message) → owed_by (f x) ≤ owed_by x)
+    → pending_of c s id ≡ Some m → owed_by (f m) + 1 ≤ owed_by m → owed_in (map (λ x. if has_id s id x then f x else x) c.mail) + 1 ≤ owed_in c.mail
+paid_mark c s id f m less is new =
+    owed-marked (λ x. if has_id s id x then f x else x) (has_id s id)
+    (λ x. cond_both (has_id s id x) (f x) x (λ (y : Message). owed_by y ≤ owed_by x) (λ e. less x) (λ e. omega arith)) c.mail m is
+    (subst (λ (b : Bool). owed_by (if b then f m else m) + 1 ≤ owed_by m) (sym (find-passes (has_id s id) c.mail m is)) new)
+
 -- what becomes of a message was paid for
-marks-less : (s : SessionId) (id : MsgId) (m : Message) → owed_by (as_taken s id m) ≤ owed_by m
-marks-less s id m = one (has_id s id m) m.taken
-  where
-    one : (b t : Bool) → owed_by (if b then record m { taken = true } else record m { taken = t }) ≤ owed_by (record m { taken = t })
-    one true true = omega arith
-    one true false = omega arith
-    one false t = omega arith
-
-writes-less : (s : SessionId) (id : MsgId) (m : Message) → owed_by (as_written s id m) ≤ owed_by m
-writes-less s id m = one (has_id s id m) m.written
-  where
-    one : (b t : Bool) → owed_by (if b then record m { written = true } else record m { written = t }) ≤ owed_by (record m { written = t })
-    one true true = omega arith
-    one true false = omega arith
-    one false t = omega arith
-
 pub paid_take : (c : Cluster) (s : SessionId) (id : MsgId) → is_none (take_refusal c s id) ≡ true → owed_in (map (as_taken s id) c.mail) + 1 ≤ owed_in c.mail
-paid_take c s id can = one (is_live c.live s) (pending_of c s id) refl can
-  where
-    less : (m : Message) (b t : Bool) → b ≡ true → (if t then Some takes.AlreadyTaken else None) ≡ None
-        → owed_by (if b then record m { taken = true } else record m { taken = t }) + 1 ≤ owed_by (record m { taken = t })
-    less m true true is e = cc
-    less m true false is e = omega arith
-    less m false t is e = cc
-
-    none : (o : Option TakeFault) → is_none o ≡ true → o ≡ None
-    none None e = refl
-    none (Some f) e = cc
-
-    one : (live : Bool) (o : Option Message) → pending_of c s id ≡ o → is_none (if live then take_fault o else Some takes.SessionEnded) ≡ true
-        → owed_in (map (as_taken s id) c.mail) + 1 ≤ owed_in c.mail
-    one true None is e = cc
-    one false o is e = cc
-    one true (Some m) is e =
-        owed-marked (as_taken s id) (has_id s id) (marks-less s id) c.mail m is
-        (less m (has_id s id m) m.taken (find-passes (has_id s id) c.mail m is) (none (if m.taken then Some takes.AlreadyTaken else None) e))
+paid_take c s id can =
+    let found = found_by take_fault takes.SessionEnded (is_live c.live s) (pending_of c s id) refl can in
+    paid_mark c s id (λ x. record x { taken = true }) found.0 (λ x. grind arith) found.1 (grind (arith, found.2))
 
 pub paid_write : (c : Cluster) (s : SessionId) (id : MsgId) → is_none (write_refusal c s id) ≡ true → owed_in (map (as_written s id) c.mail) + 1 ≤ owed_in c.mail
-paid_write c s id can = one (is_live c.live s) (pending_of c s id) refl can
-  where
-    less : (m : Message) (b t u : Bool) → b ≡ true → is_none (if not t then Some writes.NotTaken else if u then Some writes.AlreadyWritten else None) ≡ true
-        → owed_by (if b then record m { written = true } else record m { written = u }) + 1 ≤ owed_by (record m { written = u })
-    less m true false u is e = cc
-    less m true true true is e = cc
-    less m true true false is e = omega arith
-    less m false t u is e = cc
-
-    one : (live : Bool) (o : Option Message) → pending_of c s id ≡ o → is_none (if live then write_fault o else Some writes.SessionEnded) ≡ true
-        → owed_in (map (as_written s id) c.mail) + 1 ≤ owed_in c.mail
-    one true None is e = cc
-    one false o is e = cc
-    one true (Some m) is e =
-        owed-marked (as_written s id) (has_id s id) (writes-less s id) c.mail m is
-        (less m (has_id s id m) m.taken m.written (find-passes (has_id s id) c.mail m is) e)
+paid_write c s id can =
+    let found = found_by write_fault writes.SessionEnded (is_live c.live s) (pending_of c s id) refl can in
+    paid_mark c s id (λ x. record x { written = true }) found.0 (λ x. grind arith) found.1 (grind (arith, found.2))
 
 pub paid_ack : (c : Cluster) (s : SessionId) (id : MsgId) → is_none (ack_refusal c s id) ≡ true → owed_in (filter (λ m. not (has_id s id m)) c.mail) + 1 ≤ owed_in c.mail
-paid_ack c s id can = one (is_live c.live s) (pending_of c s id) refl can
-  where
-    one : (live : Bool) (o : Option Message) → pending_of c s id ≡ o → is_none (if live then ack_fault o else Some acks.SessionEnded) ≡ true
-        → owed_in (filter (λ m. not (has_id s id m)) c.mail) + 1 ≤ owed_in c.mail
-    one true None is e = cc
-    one false o is e = cc
-    one true (Some m) is e = owed-removed (has_id s id) c.mail m is
+paid_ack c s id can =
+    let found = found_by ack_fault acks.SessionEnded (is_live c.live s) (pending_of c s id) refl can in
+    owed-removed (has_id s id) c.mail found.0 found.1
 
 weighed_write : (c : Cluster) (s : SessionId) (id : MsgId) (outcome : Outcome) (w : ℕ) → is_none (write_refusal c s id) ≡ true → IsWeighed c w
     → IsWeighed (after_write c s id outcome) (w + 0)

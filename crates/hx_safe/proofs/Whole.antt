@@ -30,14 +30,15 @@ use Rattle.hx_safe.specs.Along.{HoldsAlong}
 use Rattle.hx_safe.proofs.Kept.{IsKept, kept_beside, kept_raised, kept_join, kept_take, kept_ack}
 use Rattle.hx_safe.proofs.Sending.{kept_dispatch}
 use Rattle.hx_safe.proofs.Writing.{kept_write}
-use Rattle.hx_safe.proofs.Leaving.{kept_without_all, kept_end, kept_beat}
+use Rattle.hx_safe.proofs.Ending.{along_without_all, along_end}
+use Rattle.hx_safe.proofs.Leaving.{kept_without, kept_beat}
 use Rattle.hx_safe.proofs.Resources.{kept_drop, kept_mode, kept_add, kept_reset}
 use Rattle.hx_safe.proofs.Bounds.{counts_next, bounded_next}
 use Rattle.hx_safe.proofs.Ranges.{ranged_next}
 use Rattle.hx_safe.proofs.Counting.{all-le, and-first}
 use Rattle.hx_safe.proofs.Orders.{ordered_next}
-use Rattle.hx_safe.proofs.Throttles.{throttled_join, throttled_beat, throttled_end, throttled_without_all, throttled_take, throttled_write, throttled_ack, throttled_raised, throttled_dispatch}
-use Rattle.hx_safe.proofs.Sessions.{IsSeated, seated_join, seated_without_all, seated_end, seated_tick, seated_beat, seated_lead, seated_raised, seated_start, seated_stop, seated_dispatch, seated_write}
+use Rattle.hx_safe.proofs.Throttles.{throttled_join, throttled_beat, throttled_without, throttled_take, throttled_write, throttled_ack, throttled_raised, throttled_dispatch}
+use Rattle.hx_safe.proofs.Sessions.{IsSeated, seated_join, seated_without, seated_tick, seated_beat, seated_lead, seated_raised, seated_start, seated_stop, seated_dispatch, seated_write}
 
 pub record IsWhole (c : Cluster) : Type 0 where
   pub kept : IsKept c
@@ -104,14 +105,14 @@ drained c instances w = record {
 
 whole_step : (c : Cluster) (step : Admin) → IsWhole c → refusal_of c step ≡ None → IsWhole (after c step)
 whole_step c (steps.Join i) w free = record { kept = kept_join c i w.kept; throttled = throttled_join c i w.kept w.throttled; seated = seated_join c i w.seated free }
-whole_step c (steps.End i) w free = record { kept = kept_end c (live_of c.live i) w.kept; throttled = throttled_end c (live_of c.live i) w.throttled; seated = seated_end c (live_of c.live i) w.seated }
+whole_step c (steps.End i) w free = record { kept = along_end IsKept kept_without c (live_of c.live i) w.kept; throttled = along_end IsThrottled throttled_without c (live_of c.live i) w.throttled; seated = along_end IsSeated seated_without c (live_of c.live i) w.seated }
 whole_step c (steps.Beat i) w free = whole_beat c (live_of c.live i) i refl w
 whole_step c (steps.Tick n) w free =
     let later : Cluster = record c { clock = c.clock + n } in
     record {
-      kept = kept_without_all later (ended_by c n) (kept_beside c c.instances c.leader c.epoch c.controllers (c.clock + n) c.line c.change c.posted w.kept);
-      throttled = throttled_without_all later (ended_by c n) w.throttled;
-      seated = seated_without_all later (ended_by c n) (seated_tick c n w.seated);
+      kept = along_without_all IsKept kept_without later (ended_by c n) (kept_beside c c.instances c.leader c.epoch c.controllers (c.clock + n) c.line c.change c.posted w.kept);
+      throttled = along_without_all IsThrottled throttled_without later (ended_by c n) w.throttled;
+      seated = along_without_all IsSeated seated_without later (ended_by c n) (seated_tick c n w.seated);
     }
 whole_step c (steps.Drain i) w free = drained c (slice_set c.instances i.0 true) w
 whole_step c (steps.Undrain i) w free = drained c (slice_set c.instances i.0 false) w

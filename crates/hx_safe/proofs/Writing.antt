@@ -25,7 +25,7 @@ use Rattle.hx_cluster.specs.Safe.{is_row_written, HasMail, is_pending, is_kept}
 use Rattle.hx_safe.proofs.Counting.{count-le, count-filter, count-map, count-none, count-insert, all-le, all-map, all-filter, all-filter_more, all-insert, all-both, all-find, all-single, find-passes, find-single}
 use Rattle.hx_safe.proofs.Models.{good_model}
 use Rattle.hx_safe.proofs.Ends.{session_same, part_same, same-self, part_eq-self, row_at-state, stands_at, put-other, put-here, end-written}
-use Rattle.hx_safe.proofs.Kept.{IsKept}
+use Rattle.hx_safe.proofs.Kept.{IsKept, count-marked}
 
 -- the message that is written is its replica's only one
 pub message_here : (c : Cluster) (s : SessionId) (id : MsgId) (m : Message) → HasMail c → pending_of c s id ≡ Some m → message_of c.mail m.session m.part ≡ Some m
@@ -179,12 +179,8 @@ kept_written c s id m outcome k found taken =
       mail = record {
         pending = all-map (is_pending d) (as_written s id) c.mail ∙ all-single (is_message m.session m.part) (λ x. is_pending c x && (not (has_id s id x) || is_message m.session m.part x)) (λ x. is_pending d (as_written s id x)) c.mail m
             (λ x e w. other x (has_id s id x) refl e w) here (k.mail.single m.session m.part) (this was (has_id s id m) (find-passes (has_id s id) c.mail m found)) (all-both (is_pending c) (λ x. not (has_id s id x) || is_message m.session m.part x) c.mail k.mail.pending (alone c s id m k.mail found));
-        numbers = λ n. let same = count-map (λ x. x.id.0 == n.0) (as_written s id) c.mail in
-            let less = count-le (λ x. (as_written s id x).id.0 == n.0) (λ x. x.id.0 == n.0) (λ x e. number x n (has_id s id x) e) c.mail in
-            omega (arith, k.mail.numbers n);
-        single = λ u q. let same = count-map (is_message u q) (as_written s id) c.mail in
-            let less = count-le (λ x. is_message u q (as_written s id x)) (is_message u q) (λ x e. single x u q (has_id s id x) e) c.mail in
-            omega (arith, k.mail.single u q);
+        numbers = λ n. omega (arith, k.mail.numbers n, count-marked (λ x. x.id.0 == n.0) s id (λ x. record x { written = true }) (λ x. refl) c.mail);
+        single = λ u q. omega (arith, k.mail.single u q, count-marked (is_message u q) s id (λ x. record x { written = true }) (λ x. refl) c.mail);
       };
       rows = record {
         kept = put_kept c m.session m.part (state_after m outcome) (grind (arith, was)) (grind (arith, was)) (after_known c m outcome k (grind (arith, was))) k.rows.kept;
@@ -196,14 +192,6 @@ kept_written c s id m outcome k found taken =
       sound = k.sound;
     }
   where
-    number : (x : Message) (n : MsgId) (b : Bool) → ((if b then record x { written = true } else x).id.0 == n.0) ≡ true → (x.id.0 == n.0) ≡ true
-    number x n true e = e
-    number x n false e = e
-
-    single : (x : Message) (u : SessionId) (q : PartId) (b : Bool) → is_message u q (if b then record x { written = true } else x) ≡ true → is_message u q x ≡ true
-    single x u q true e = e
-    single x u q false e = e
-
     this : is_pending c m ≡ true → (b : Bool) → b ≡ true → is_pending (written_of c s id outcome (Some m)) (if b then record m { written = true } else m) ≡ true
     this was true e = let place = written_place c.rows m outcome in grind (arith, was, taken, place)
     this was false e = cc

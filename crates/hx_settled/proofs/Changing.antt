@@ -27,11 +27,12 @@ use Rattle.hx_cluster.specs.declared.happenings.Event.TheVariants as events
 use Rattle.hx_cluster.specs.Ends.{is_session, shown_of, resource_at}
 use Rattle.hx_cluster.specs.Reads.{instance_before}
 use Rattle.hx_cluster.specs.Steps.{is_of, live_of, without, without_all, ended_of, beaten_of, ended_by, changed_at, with_mode, asked_of, marked_down, with_down, without_leader, is_leader, after}
-use Rattle.hx_cluster.specs.Messages.{placed_of, after_placed, after_proposal, after_proposals, raised_pass, next_pass, pending_of, written_of}
+use Rattle.hx_cluster.specs.Messages.{after_placed, raised_pass, next_pass, pending_of, written_of}
 use Rattle.hx_cluster.specs.Events.{next}
 use Rattle.hx_cluster.specs.Safe.{IsSafe}
 use Rattle.hx_safe.proofs.Counting.{and-first, and-second, and-both, find-any, find-passes, any-count}
 use Rattle.hx_settled.specs.Standing.{ShowsTheSame, IsCounted}
+use Rattle.hx_covers.proofs.Leads.{along_proposals}
 
 -- the same twice
 same_self : (c : Cluster) → ShowsTheSame c c
@@ -280,10 +281,6 @@ counted_placed : (c : Cluster) (q : Proposal) (a : Placed) → IsCounted c (afte
 counted_placed c q (placings.Sent id) = inl (more c.change)
 counted_placed c q _ = counted_self c
 
-counted_proposals : (c : Cluster) (qs : List Proposal) → IsCounted c (after_proposals c qs)
-counted_proposals c [] = counted_self c
-counted_proposals c (q ∷ qs) = counted_both (counted_placed c q (placed_of c q)) (counted_proposals (after_proposal c q) qs)
-
 counted_written : (c : Cluster) (s : SessionId) (id : MsgId) (outcome : Outcome) (o : Option Message) → IsCounted c (written_of c s id outcome o)
 counted_written c s id outcome None = counted_self c
 counted_written c s id outcome (Some m) = inl (more c.change)
@@ -309,7 +306,7 @@ pub counted_next : (c : Cluster) (e : Event) → ((s : SessionId) → count (is_
 counted_next c (events.Admin step did) numbers instances = counted_step c step numbers instances
 counted_next c (events.Line n) numbers instances = inr (refl, record { live = refl; mail = refl; rows = refl; ideals = refl })
 counted_next c (events.Begin k begun) numbers instances = counted_pass c k
-counted_next c (events.Dispatch k epoch pass proposals answer) numbers instances = counted_both (counted_pass c k) (counted_proposals (next_pass c k) proposals)
+counted_next c (events.Dispatch k epoch pass proposals answer) numbers instances = counted_both (counted_pass c k) (along_proposals IsCounted counted_self (λ b c d one two. counted_both one two) counted_placed (next_pass c k) proposals)
 counted_next c (events.Post k epoch rows) numbers instances = inr (refl, record { live = refl; mail = refl; rows = refl; ideals = refl })
 counted_next c (events.Take s id) numbers instances = inl (more c.change)
 counted_next c (events.Write s id outcome) numbers instances = counted_written c s id outcome (pending_of c s id)

@@ -1,15 +1,9 @@
 -- A settled pass of two sessions, of which one waits, and a message that isn't on its way.
-use Rattle.std.specs.Prelude.{◌≡◌, refl, ℕ, List, [], ◌∷◌, true, false, None, Some}
-use Rattle.hx_ids.specs.Words.{instance, state, model, session, message, epoch, pass, part, live, controller}
-use Rattle.hx_ids.specs.declared.StateId.{StateId}
-use Rattle.hx_ids.specs.declared.PartId.{PartId}
-use Rattle.hx_model.specs.declared.ModelParts.{ModelParts}
+use Rattle.std.specs.Prelude.{◌≡◌, refl, [], ◌∷◌, false}
+use Rattle.hx_ids.specs.Words.{instance, model, session, message, part}
 use Rattle.hx_model.specs.Model.{dropped}
-use Rattle.hx_model.specs.Builtin.{one_leads}
 use Rattle.hx_ideal.specs.declared.Mode.{Mode}
 use Rattle.hx_ideal.specs.declared.Mode.TheVariants as modes
-use Rattle.hx_cluster.specs.declared.state.Row.{Row}
-use Rattle.hx_cluster.specs.declared.state.Message.{Message}
 use Rattle.hx_cluster.specs.declared.state.Cluster.{Cluster}
 use Rattle.hx_cluster.specs.declared.happenings.Outcome.TheVariants as outcomes
 use Rattle.hx_cluster.specs.Messages.{after_write}
@@ -18,50 +12,10 @@ use Rattle.hx_pass.specs.Explained.{view_at}
 use Rattle.hx_pass.specs.Left.{left_of}
 use Rattle.hx_settled.specs.Places.{tries_left}
 use Rattle.hx_settled.specs.Ways.{IsOnItsWay}
-
-abbrev master : StateId
-master = state 2
-
-abbrev slave : StateId
-slave = state 3
-
-abbrev offline : StateId
-offline = state 4
-
-abbrev models : List ModelParts
-models = one_leads master slave offline ∷ []
-
-abbrev db : PartId
-db = part 0 0
+use Rattle.hx_pass.proofs.Examples.{master, slave, offline}
+use Rattle.hx_lawful.proofs.Examples.{models, db, at, under_way, cluster}
 
 -- both instances of a map are to be master of the one part, or nobody is wanted
-abbrev cluster : Mode → List Row → List Message → Cluster
-cluster mode rows mail = record {
-  instances = false ∷ false ∷ [];
-  resources = record { name = 0; model = model 0; ideal = record { replicas = 2; parts = 1; mode = mode }; dropped = false } ∷ [];
-  live = live 1 0 0 ∷ live 2 1 0 ∷ [];
-  rows = rows;
-  mail = mail;
-  resets = [];
-  leader = Some (controller 0);
-  epoch = epoch 1;
-  controllers = (false, pass 3) ∷ [];
-  clock = 0;
-  line = None;
-  change = 10;
-  posted = [];
-  next_session = 3;
-  next_msg = 4;
-  timeout = 30;
-  models = models;
-  rules = [];
-  states = 6;
-  resource_names = 1;
-}
-
-abbrev at : ℕ → StateId → Row
-at s t = record { session = session s; part = db; state = t }
-
 abbrev both_wanted : Mode
 both_wanted = modes.Custom (((instance 0, master) ∷ (instance 1, master) ∷ []) ∷ [])
 
@@ -82,23 +36,10 @@ two_tries : tries_left waiting ≡ 2
 two_tries = refl
 
 -- on its way to OFFLINE is a slave that nobody wants: two transitions are left, and one once it is there
-abbrev leaving : StateId → StateId → Message
-leaving from to = record {
-  id = message 3;
-  session = session 1;
-  part = db;
-  from = from;
-  to = to;
-  initial = offline;
-  epoch = epoch 1;
-  taken = true;
-  written = false;
-}
-
 abbrev moving : Cluster
-moving = cluster nobody_wanted (at 1 slave ∷ []) (leaving slave offline ∷ [])
+moving = cluster nobody_wanted (at 1 slave ∷ []) (under_way slave offline ∷ [])
 
-on_its_way : IsOnItsWay moving (leaving slave offline)
+on_its_way : IsOnItsWay moving (under_way slave offline)
 on_its_way = record {
   resource = record { name = 0; model = model 0; ideal = record { replicas = 2; parts = 1; mode = nobody_wanted }; dropped = false };
   instance = instance 0;
@@ -118,7 +59,7 @@ one_less = refl
 
 -- a replica that isn't there and isn't wanted is at its goal already, so dropping it leaves no less
 abbrev absent : Cluster
-absent = cluster nobody_wanted [] (leaving offline dropped ∷ [])
+absent = cluster nobody_wanted [] (under_way offline dropped ∷ [])
 
 none_left : left_of absent ≡ 0
 none_left = refl

@@ -42,10 +42,10 @@ use Rattle.hx_settled.proofs.Explaining.{all-made, all-sorted}
 -- two views with the same sessions and ideals, in which the same replicas are in ERROR
 module _ (models : List ModelParts) (live : List (SessionId × InstanceId)) (ideals : Ideals) (mail_v mail_w : List Message) (rows_v rows_w : List Row)
     (errors : (s : SessionId) (p : PartId) → is_error (state_of rows_v s p) ≡ is_error (state_of rows_w s p)) where
-  abbrev v : View
+  abbrev pub v : View
   v = record { live = live; mail = mail_v; rows = rows_v; ideals = ideals }
 
-  abbrev w : View
+  abbrev pub w : View
   w = record { live = live; mail = mail_w; rows = rows_w; ideals = ideals }
 
   eligible : (p : PartId) (j : InstanceId) → is_eligible v p j ≡ is_eligible w p j
@@ -56,14 +56,14 @@ module _ (models : List ModelParts) (live : List (SessionId × InstanceId)) (ide
   wants_by (modes.Semi lists) replicas k = refl
   wants_by (modes.Custom maps) replicas k = refl
 
-  wants : (r : Resource) (k : ℕ) → wants_of v r k ≡ wants_of w r k
+  pub wants : (r : Resource) (k : ℕ) → wants_of v r k ≡ wants_of w r k
   wants r k = wants_by r.ideal.mode r.ideal.replicas k
 
   wanted : (m : ModelParts) (r : Resource) (p : PartId) (places : Wants) (j : InstanceId) → wanted_goal m v r p places j ≡ wanted_goal m w r p places j
   wanted m r p (Listed list) j i = best_below m r.ideal.replicas (length live) (count (λ u. eligible p u i) (before_first (λ u. u.0 == j.0) list))
   wanted m r p (Mapped entries) j i = option_map_or (λ e. e.1) (find (λ e. e.0.0 == j.0) entries) dropped
 
-  goals : (r : Resource) (p : PartId) (s : SessionId) (j : InstanceId)
+  pub goals : (r : Resource) (p : PartId) (s : SessionId) (j : InstanceId)
       → goal models (record { live = live; mail = mail_v; rows = rows_v; ideals = ideals }) r p s j ≡ goal models (record { live = live; mail = mail_w; rows = rows_w; ideals = ideals }) r p s j
   goals r p s j i =
       if errors s p i then (if is_asked w s p then (model_at models r.model).initial else error)

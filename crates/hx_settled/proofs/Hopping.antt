@@ -1,7 +1,7 @@
 -- Each target that isn't at its goal has a next transition.
-use Rattle.std.proofs.Common.{◌≡◌, ℕ, zero, suc, ◌+◌, ◌<◌, ◌&&◌, ◌||◌, ◌==◌, not, Bool, true, false, List, [], ◌∷◌, length, filter, find, position, Option, Some, None, refl, sym, ap, ◌∙◌, ◌⊎◌, inl, inr, subst, arith}
+use Rattle.std.proofs.Common.{◌≡◌, ℕ, zero, suc, ◌+◌, ◌<◌, ◌&&◌, ◌||◌, ◌==◌, not, Bool, true, false, List, [], ◌∷◌, length, filter, find, Option, Some, None, refl, sym, ap, ◌∙◌, ◌⊎◌, inl, inr, subst, arith}
 use Rattle.std.specs.Prelude.{if◌then◌else◌, nat_lt, unwrap_or, slice_index_or, slice_get, IsSomeAnd, ◌-◌}
-use Rattle.std.specs.List.{All, list_any, list_all, flat_map, prefix_len}
+use Rattle.std.specs.List.{All, list_any, list_all, flat_map}
 use Rattle.std.specs.Option.{option_map, option_map_or}
 use Rattle.std.proofs.lemmas.Bool.Decides.{nat_tests}
 use Rattle.std.proofs.lemmas.List.Elements.{All-nil, All-cons, All-append, All-map, All-weaker}
@@ -13,9 +13,8 @@ use Rattle.hx_ids.specs.declared.SessionId.{SessionId}
 use Rattle.hx_ids.specs.declared.PartId.{PartId}
 use Rattle.hx_model.specs.declared.Bound.{Bound}
 use Rattle.hx_model.specs.declared.ModelParts.{ModelParts}
-use Rattle.hx_model.specs.declared.ModelFault.{ModelFault}
 use Rattle.hx_model.specs.declared.ModelFault.TheVariants.{Reserved}
-use Rattle.hx_model.specs.Faults.{fault_of, fault_at, too_many_states, reserved_state}
+use Rattle.hx_model.specs.Faults.{fault_of, too_many_states, reserved_state}
 use Rattle.hx_model.specs.Model.{error, dropped, has_state, is_legal}
 use Rattle.hx_model.specs.Walks.{has_walk, dist}
 use Rattle.hx_model.proofs.Facts.{sound_facts}
@@ -46,6 +45,8 @@ use Rattle.hx_covers.proofs.Sorting.{all-sort, each_there, all-passed}
 use Rattle.hx_covers.proofs.Viewing.{good_view}
 use Rattle.hx_lawful.proofs.Choosing.{numbers-below}
 use Rattle.hx_settled.specs.Hops.{IsHop, HasHop, HaveHops}
+use Rattle.hx_model.proofs.Places.{no_place, none_passes}
+use Rattle.hx_safe.proofs.Counting.{or-swap}
 
 -- facts of all items
 pub all-from : {X : Type 0} (P : X → Type 0) (q : X → Bool) → ((x : X) → q x ≡ true → P x) → (xs : List X) → list_all q xs ≡ true → All P xs
@@ -88,22 +89,6 @@ are_targets models view =
     all-flat (IsTargetOf models view) (λ n. targets models view (record { 0 = n })) (λ n. nat_lt n (length view.ideals.resources))
     (λ n low. targets_inside models view (record { 0 = n }) (resource_at view.ideals.resources (record { 0 = n })) refl)
     (numbers_below (length view.ideals.resources)) (numbers-below (length view.ideals.resources))
-
--- no place is found where none passes
-no_place : (fault : ℕ → ModelFault) (place : Option ℕ) → fault_at fault place ≡ None → place ≡ None
-no_place fault None e = refl
-no_place fault (Some n) e = cc
-
-all_fail : {X : Type 0} (p : X → Bool) (xs : List X) → list_any p xs ≡ true → prefix_len (λ x. not (p x)) xs < length xs
-all_fail p [] e = cc
-all_fail p (x ∷ xs) e = grind (arith, e, all_fail p xs)
-
-none_passes : {X : Type 0} (p : X → Bool) (xs : List X) → position p xs ≡ None → list_any p xs ≡ false
-none_passes p xs e = one (list_any p xs) refl
-  where
-    one : (b : Bool) → list_any p xs ≡ b → b ≡ false
-    one true is = let low = all_fail p xs is in grind (arith, nat_tests, e, low)
-    one false is = refl
 
 -- a model without a fault lists neither ERROR nor DROPPED, so nothing leads from DROPPED, or to ERROR
 any-none : {X : Type 0} (p q : X → Bool) → ((x : X) → p x ≡ true → q x ≡ true) → (xs : List X) → list_any q xs ≡ false → list_any p xs ≡ false
@@ -335,13 +320,7 @@ away_in models instances view sound formed r t at is away = from_goal (goal_good
     stands (Some u) e =
         let state = state_good models view t.session t.part u (good_view models instances view formed).rows (sym its_state ∙ e) in
         let model : model_of models view.ideals.resources t.part.resource ≡ m = ap (λ (o : Option Resource). option_map_or (λ x. model_at models x.model) o no_model) at in
-        other (u.0 == 0) (has_state m u) (sym (ap (λ (x : ModelParts). (u.0 == 0) || has_state x u) model) ∙ state)
-      where
-        other : (a b : Bool) → (a || b) ≡ true → (b || a) ≡ true
-        other true true e = refl
-        other true false e = refl
-        other false true e = refl
-        other false false e = cc
+        or-swap (u.0 == 0) (has_state m u) (sym (ap (λ (x : ModelParts). (u.0 == 0) || has_state x u) model) ∙ state)
 
     apart : (o : Option StateId) → option_map_or (λ (s : StateId). s.0 == t.goal.0) o ((t.goal.0 == m.initial.0) || (t.goal.0 == dropped.0)) ≡ false → ((unwrap_or o m.initial).0 == t.goal.0) ≡ false
     apart None e = let ne : (t.goal.0 == m.initial.0) ≡ false = first (t.goal.0 == m.initial.0) (t.goal.0 == dropped.0) e in grind (arith, nat_tests, ne)

@@ -1,7 +1,7 @@
 -- A plan is the same of two views in which its look-ups are.
-use Rattle.std.proofs.Common.{◌≡◌, ℕ, ◌+◌, ◌||◌, ◌&&◌, ◌==◌, not, true, false, List, [], ◌∷◌, length, map, filter, find, Some, None, refl}
+use Rattle.std.proofs.Common.{◌≡◌, ℕ, ◌+◌, ◌||◌, ◌&&◌, ◌==◌, not, true, List, [], ◌∷◌, length, map, filter, Some, None, refl}
 use Rattle.std.specs.Prelude.{if◌then◌else◌, nat_lt, nat_le, unwrap_or}
-use Rattle.std.specs.List.{list_any, flat_map, filter_map, before_first}
+use Rattle.std.specs.List.{list_any, flat_map, filter_map}
 use Rattle.std.specs.Option.{option_map, option_map_or, option_to_list, is_some}
 use Rattle.hx_lists.specs.Lists.{count, sort_by, numbers_below}
 use Rattle.hx_lists.specs.Choices.{chosen_of, left_after}
@@ -11,9 +11,6 @@ use Rattle.hx_ids.specs.declared.StateId.{StateId}
 use Rattle.hx_ids.specs.declared.SessionId.{SessionId}
 use Rattle.hx_ids.specs.declared.PartId.{PartId}
 use Rattle.hx_model.specs.declared.ModelParts.{ModelParts}
-use Rattle.hx_model.specs.Model.{error, dropped}
-use Rattle.hx_ideal.specs.declared.Mode.{Mode}
-use Rattle.hx_ideal.specs.declared.Mode.TheVariants as modes
 use Rattle.hx_cluster.specs.declared.description.Resource.{Resource}
 use Rattle.hx_cluster.specs.declared.description.Rule.{Rule}
 use Rattle.hx_cluster.specs.declared.state.Row.{Row}
@@ -23,16 +20,17 @@ use Rattle.hx_cluster.specs.declared.planning.View.{View}
 use Rattle.hx_cluster.specs.declared.planning.Target.{Target}
 use Rattle.hx_cluster.specs.declared.planning.Candidate.{Candidate}
 use Rattle.hx_cluster.specs.declared.planning.Finding.TheVariants as findings
-use Rattle.hx_cluster.specs.Ends.{row_of, message_of, row_at, message_at, has_end, session_in, model_at, model_of, resource_at, matches, load_over}
-use Rattle.hx_cluster.specs.Steps.{is_error, is_drained}
-use Rattle.hx_best.specs.Wants.{Wants, Listed, Mapped, wants_in, wants_of, is_wanted, place_in, by_instance}
-use Rattle.hx_best.specs.Goals.{best_below, is_asked, is_eligible, wanted_goal, goal}
+use Rattle.hx_cluster.specs.Ends.{state_of, row_of, message_of, row_at, message_at, has_end, model_of, resource_at, matches, load_over}
+use Rattle.hx_cluster.specs.Steps.{is_error}
+use Rattle.hx_best.specs.Wants.{wants_of, is_wanted, place_in, by_instance}
+use Rattle.hx_best.specs.Goals.{goal}
 use Rattle.hx_best.specs.Targets.{target, targets_at, targets, all_targets}
 use Rattle.hx_gen.specs.Candidates.{is_at_goal, hop_of, candidate_of, comes_before}
 use Rattle.hx_select.specs.Selection.{shown_sessions, goes_to, filling, limit_for, has_room, full}
 use Rattle.hx_throttle.specs.Throttle.{key_for, counts_too, holds_back, is_sent, held_by}
 use Rattle.hx_report.specs.Findings.{is_failed, fate_of, finding_of}
 use Rattle.hx_pass.specs.Plans.{all_candidates, selection_of, throttled_of, proposal, plan}
+use Rattle.hx_settled.proofs.Goals.{wants, goals}
 
 -- two views with the same sessions and ideals, in which each replica has the same row and the same message, and each rule the same loads
 module _ (models : List ModelParts) (rules : List Rule) (live : List (SessionId × InstanceId)) (ideals : Ideals) (mail_v mail_w : List Message) (rows_v rows_w : List Row)
@@ -45,27 +43,14 @@ module _ (models : List ModelParts) (rules : List Rule) (live : List (SessionId 
   w = record { live = live; mail = mail_w; rows = rows_w; ideals = ideals }
 
   -- targets
-  eligible : (p : PartId) (j : InstanceId) → is_eligible v p j ≡ is_eligible w p j
-  eligible p j i = option_map_or (λ s. not (is_drained ideals.drained j) && not (is_error (option_map (λ r. r.state) (rows s p i)))) (session_in live j) false
+  errors : (s : SessionId) (p : PartId) → is_error (state_of rows_v s p) ≡ is_error (state_of rows_w s p)
+  errors s p i = is_error (option_map (λ r. r.state) (rows s p i))
 
-  wants_by : (mode : Mode) (replicas k : ℕ) → wants_in mode v replicas k ≡ wants_in mode w replicas k
-  wants_by modes.Full replicas k = refl
-  wants_by (modes.Semi lists) replicas k = refl
-  wants_by (modes.Custom maps) replicas k = refl
+  wanted_same : (r : Resource) (k : ℕ) → wants_of v r k ≡ wants_of w r k
+  wanted_same = wants models live ideals mail_v mail_w rows_v rows_w errors
 
-  wants : (r : Resource) (k : ℕ) → wants_of v r k ≡ wants_of w r k
-  wants r k = wants_by r.ideal.mode r.ideal.replicas k
-
-  wanted : (m : ModelParts) (r : Resource) (p : PartId) (places : Wants) (j : InstanceId) → wanted_goal m v r p places j ≡ wanted_goal m w r p places j
-  wanted m r p (Listed list) j i = best_below m r.ideal.replicas (length live) (count (λ u. eligible p u i) (before_first (λ u. u.0 == j.0) list))
-  wanted m r p (Mapped entries) j i = option_map_or (λ e. e.1) (find (λ e. e.0.0 == j.0) entries) dropped
-
-  goals : (r : Resource) (p : PartId) (s : SessionId) (j : InstanceId) → goal models v r p s j ≡ goal models w r p s j
-  goals r p s j i =
-      if is_error (option_map (λ x. x.state) (rows s p i)) then (if is_asked w s p then (model_at models r.model).initial else error)
-      else if r.dropped || not (is_wanted (wants r p.index i) j) then dropped
-      else if is_drained ideals.drained j then (model_at models r.model).initial
-      else wanted (model_at models r.model) r p (wants r p.index i) j i
+  goals_same : (r : Resource) (p : PartId) (s : SessionId) (j : InstanceId) → goal models v r p s j ≡ goal models w r p s j
+  goals_same = goals models live ideals mail_v mail_w rows_v rows_w errors
 
   target_same : (r : Resource) (p : PartId) (e : SessionId × InstanceId) → target models v r p e ≡ target models w r p e
   target_same r p e i = record {
@@ -73,12 +58,12 @@ module _ (models : List ModelParts) (rules : List Rule) (live : List (SessionId 
     instance = e.1;
     part = p;
     state = option_map (λ x. x.state) (rows e.0 p i);
-    goal = goals r p e.0 e.1 i;
-    place = if r.dropped then 0 else place_in (wants r p.index i) e.1;
+    goal = goals_same r p e.0 e.1 i;
+    place = if r.dropped then 0 else place_in (wanted_same r p.index i) e.1;
   }
 
   targets_of_part : (r : Resource) (p : PartId) → targets_at models v r p ≡ targets_at models w r p
-  targets_of_part r p i = map (λ e. target_same r p e i) (filter (λ e. is_some (rows e.0 p i) || is_wanted (wants r p.index i) e.1) (by_instance live))
+  targets_of_part r p i = map (λ e. target_same r p e i) (filter (λ e. is_some (rows e.0 p i) || is_wanted (wanted_same r p.index i) e.1) (by_instance live))
 
   targets_of : (n : ResourceId) → targets models v n ≡ targets models w n
   targets_of n i = option_map_or (λ r. flat_map (λ k. targets_of_part r (record { resource = n; index = k }) i) (numbers_below r.ideal.parts)) (resource_at ideals.resources n) []

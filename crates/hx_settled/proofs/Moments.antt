@@ -9,7 +9,6 @@ use Rattle.hx_ids.specs.declared.SessionId.{SessionId}
 use Rattle.hx_ids.specs.declared.PartId.{PartId}
 use Rattle.hx_ids.specs.declared.Live.{Live}
 use Rattle.hx_cluster.specs.declared.description.Rule.{Rule}
-use Rattle.hx_cluster.specs.declared.state.Row.{Row}
 use Rattle.hx_cluster.specs.declared.state.Message.{Message}
 use Rattle.hx_cluster.specs.declared.state.Cluster.{Cluster}
 use Rattle.hx_cluster.specs.Ends.{part_eq, is_row, is_message, is_session, is_live, is_shown, shown_of, has_end, state_of, message_of, count_over, count_of, limit_at, matches, key_of, is_counted, load_over, load_of}
@@ -55,38 +54,32 @@ shown_is_live c s =
     any-sort (λ (e : SessionId × InstanceId). e.0.0 == s.0) instance_before (shown_of c.live)
     ∙ any-map (λ (e : SessionId × InstanceId). e.0.0 == s.0) (λ (l : Live). (l.session, l.instance)) c.live
 
+-- what is known of each item that is among its like holds of all
+all_among : {X : Type 0} (same : X → X → Bool) → ((x : X) → same x x ≡ true) → (p q : X → Bool) (xs : List X) → list_all p xs ≡ true
+    → ((x : X) → p x ≡ true → list_any (same x) xs ≡ true → q x ≡ true) → list_all q xs ≡ true
+all_among same self p q xs all each =
+    all-le (λ x. p x && list_any (same x) xs) q (λ x e. each x (and-first (p x) (list_any (same x) xs) e) (and-second (p x) (list_any (same x) xs) e)) xs
+    (all-both p (λ x. list_any (same x) xs) xs all (each_there same self xs))
+
+replica-self : (s : SessionId) (p : PartId) → ((s.0 == s.0) && part_eq p p) ≡ true
+replica-self s p = and-both (s.0 == s.0) (part_eq p p) (same-self s.0) (part_eq-self p)
+
 -- each message and each row is good
 good_mail : (c : Cluster) → list_all has_no_fault c.models ≡ true → HasMail c → list_all (is_good_message c.models (view_at c)) c.mail ≡ true
 good_mail c sound mail =
-    all-le (λ m. is_pending c m && list_any (is_message m.session m.part) c.mail) (is_good_message c.models (view_at c)) each c.mail
-    (all-both (is_pending c) (λ m. list_any (is_message m.session m.part) c.mail) c.mail mail.pending
-    (each_there (λ m. is_message m.session m.part) (λ m. and-both (m.session.0 == m.session.0) (part_eq m.part m.part) (same-self m.session.0) (part_eq-self m.part)) c.mail))
-  where
-    live : (m : Message) → is_pending c m ≡ true → is_live c.live m.session ≡ true
-    live m e = grind (arith, e)
-
-    each : (m : Message) → (is_pending c m && list_any (is_message m.session m.part) c.mail) ≡ true → is_good_message c.models (view_at c) m ≡ true
-    each m e =
-        let pending = and-first (is_pending c m) (list_any (is_message m.session m.part) c.mail) e in
-        let there = and-second (is_pending c m) (list_any (is_message m.session m.part) c.mail) e in
-        message_good c.models (view_at c) m (pending_fits c (live_shown c) m sound (shown_is_live c m.session ∙ live m pending) pending)
-        (exactly (is_message m.session m.part) c.mail there (mail.single m.session m.part))
+    all_among (λ m. is_message m.session m.part) (λ m. replica-self m.session m.part) (is_pending c) (is_good_message c.models (view_at c)) c.mail mail.pending
+    (λ m pending there.
+    let live : is_live c.live m.session ≡ true = grind (arith, pending) in
+    message_good c.models (view_at c) m (pending_fits c (live_shown c) m sound (shown_is_live c m.session ∙ live) pending)
+    (exactly (is_message m.session m.part) c.mail there (mail.single m.session m.part)))
 
 good_rows : (c : Cluster) → HasRows c → list_all (is_good_row c.models (view_at c)) c.rows ≡ true
 good_rows c rows =
-    all-le (λ r. is_kept c r && list_any (is_row r.session r.part) c.rows) (is_good_row c.models (view_at c)) each c.rows
-    (all-both (is_kept c) (λ r. list_any (is_row r.session r.part) c.rows) c.rows rows.kept
-    (each_there (λ r. is_row r.session r.part) (λ r. and-both (r.session.0 == r.session.0) (part_eq r.part r.part) (same-self r.session.0) (part_eq-self r.part)) c.rows))
-  where
-    live : (r : Row) → is_kept c r ≡ true → is_live c.live r.session ≡ true
-    live r e = grind (arith, e)
-
-    each : (r : Row) → (is_kept c r && list_any (is_row r.session r.part) c.rows) ≡ true → is_good_row c.models (view_at c) r ≡ true
-    each r e =
-        let kept = and-first (is_kept c r) (list_any (is_row r.session r.part) c.rows) e in
-        let there = and-second (is_kept c r) (list_any (is_row r.session r.part) c.rows) e in
-        row_good c.models (view_at c) r (kept_fits c (live_shown c) r (shown_is_live c r.session ∙ live r kept) kept)
-        (exactly (is_row r.session r.part) c.rows there (rows.single r.session r.part))
+    all_among (λ r. is_row r.session r.part) (λ r. replica-self r.session r.part) (is_kept c) (is_good_row c.models (view_at c)) c.rows rows.kept
+    (λ r kept there.
+    let live : is_live c.live r.session ≡ true = grind (arith, kept) in
+    row_good c.models (view_at c) r (kept_fits c (live_shown c) r (shown_is_live c r.session ∙ live) kept)
+    (exactly (is_row r.session r.part) c.rows there (rows.single r.session r.part)))
 
 pub sound_of : (c : Cluster) → IsSafe c → IsRanged c → list_all has_no_fault c.models ≡ true
 sound_of c safe ranged = (whole_from (limit_at c) c safe ranged).kept.sound

@@ -107,7 +107,7 @@ no_flag c safe s p plain = none-from-all (λ f. is_error (state_of c.rows f.0 f.
         sym (sym (λ i. is_error (state_of c.rows (session i) (part i))) ∙ e) ∙ plain
 
 -- flags of others stay
-other_flags : (s u : SessionId) (p q : PartId) → ((u.0 == s.0) && part_eq q p) ≡ false → (flags : List (SessionId × PartId))
+pub other_flags : (s u : SessionId) (p q : PartId) → ((u.0 == s.0) && part_eq q p) ≡ false → (flags : List (SessionId × PartId))
     → list_any (is_flag u q) (filter (λ f. not (is_flag s p f)) flags) ≡ list_any (is_flag u q) flags
 other_flags s u p q ne [] = refl
 other_flags s u p q ne (f ∷ flags) = one (is_flag s p f) refl (other_flags s u p q ne flags)

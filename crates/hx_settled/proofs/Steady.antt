@@ -1,10 +1,10 @@
 -- A turn since whose begin nothing has changed: with the reads that are left it is shown all at one moment.
 use Rattle.std.proofs.Common.{◌≡◌, ◌≤◌, ◌&&◌, ◌||◌, ◌==◌, Bool, true, false, List, [], ◌∷◌, ◌++◌, append_assoc, append-nil, map, filter, drop, refl, sym, ap, ◌∙◌, inl, inr, arith}
-use Rattle.std.specs.Prelude.{if◌then◌else◌}
 use Rattle.std.specs.List.{list_any, flat_map}
 use Rattle.hx_ids.specs.declared.InstanceId.{InstanceId}
 use Rattle.hx_ids.specs.declared.ControllerId.{ControllerId}
 use Rattle.hx_ids.specs.declared.SessionId.{SessionId}
+use Rattle.hx_ids.specs.declared.PassNo.{PassNo}
 use Rattle.hx_cluster.specs.declared.description.Spec.{Spec}
 use Rattle.hx_cluster.specs.declared.state.Row.{Row}
 use Rattle.hx_cluster.specs.declared.state.Message.{Message}
@@ -25,6 +25,7 @@ use Rattle.hx_covers.specs.Reading.{is_in_order, is_read}
 use Rattle.hx_covers.proofs.Whole.{turn_law}
 use Rattle.hx_settled.specs.Standing.{ShowsTheSame, IsCounted, read_at}
 use Rattle.hx_settled.proofs.Changing.{counted_next}
+use Rattle.hx_covers.proofs.Whole.{own_or_other}
 
 -- what a turn will have been shown, if nothing changes until its last read
 abbrev pub shown_in_all : Cluster → List Call → View → View
@@ -171,27 +172,30 @@ when : (c : Cluster) (t after : Turn) (due : Bool) → (due ≡ true → IsStead
 when c t after true h = h refl
 when c t after false h = steady_idle c
 
-own : (c : Cluster) (k j : ControllerId) (t after : Turn) → IsSteady c t → IsSteady c after → IsSteady c (when_own k j t after)
-own c k j t after old new = one (j.0 == k.0)
-  where
-    one : (b : Bool) → IsSteady c (if b then after else t)
-    one true = new
-    one false = old
+-- a call that is due goes on with what it shows
+gone_due : (c : Cluster) (k j : ControllerId) (t : Turn) (call : Call) (pass : PassNo) (view : View) → IsSteady c t
+    → (is_first call t.left ≡ true → shown_in_all c (drop 1 t.left) view ≡ shown_in_all c t.left t.view) → IsSteady c (when_own k j t (if_due (is_due t call pass) (gone_on t view)))
+gone_due c k j t call pass view h same =
+    own_or_other (IsSteady c) k j t (if_due (is_due t call pass) (gone_on t view)) h
+    (when c t (gone_on t view) (is_due t call pass) (λ due.
+    let first = and-first (is_first call t.left) (pass.0 == t.begun.pass.0) due in
+    gone c t call view first (same first) h))
 
 -- live is read
-states_no_live : (live : List (SessionId × InstanceId)) → list_any (same_call Live) (map (λ e. States e.0) live ++ Ideals ∷ Send ∷ Post ∷ []) ≡ false
-states_no_live [] = refl
-states_no_live (e ∷ live) = states_no_live live
+passed_over : {X Y : Type 0} (p : Y → Bool) (f : X → Y) → ((x : X) → p (f x) ≡ false) → (xs : List X) (ys : List Y) → list_any p (map f xs ++ ys) ≡ list_any p ys
+passed_over p f never [] ys = refl
+passed_over p f never (x ∷ xs) ys = ap (λ b. b || list_any p (map f xs ++ ys)) (never x) ∙ passed_over p f never xs ys
 
-mail_no_live : (all live : List (SessionId × InstanceId)) → list_any (same_call Live) (map (λ e. Mail e.0) live ++ map (λ e. States e.0) all ++ Ideals ∷ Send ∷ Post ∷ []) ≡ false
-mail_no_live all [] = states_no_live all
-mail_no_live all (e ∷ live) = mail_no_live all live
+no_live_behind : (live : List (SessionId × InstanceId)) → list_any (same_call Live) (calls_after_live live) ≡ false
+no_live_behind live =
+    rw append_assoc (passed_over (same_call Live) (λ (e : SessionId × InstanceId). Mail e.0) (λ e. refl) live (map (λ e. States e.0) live ++ (Ideals ∷ Send ∷ Post ∷ []))
+    ∙ passed_over (same_call Live) (λ (e : SessionId × InstanceId). States e.0) (λ e. refl) live (Ideals ∷ Send ∷ Post ∷ []))
 
 live_next : (c : Cluster) (t : Turn) → is_first Live t.left ≡ true → IsSteady c t → IsSteady c (with_live c t)
 live_next c t first h = record {
   change = h.change;
   nothing = λ e. absurd (let both = sym (after_live (live_shown c)) ∙ e in cc);
-  once = none_behind (same_call Live) (calls_after_live (live_shown c)) (mail_no_live (live_shown c) (live_shown c));
+  once = none_behind (same_call Live) (calls_after_live (live_shown c)) (no_live_behind (live_shown c));
   all = λ e is. ap (λ (view : View). shown_in_all c (calls_after_live (live_shown c)) (record view { live = live_shown c })) (h.nothing first) ∙ live_behind c;
 }
   where
@@ -207,32 +211,17 @@ is_begin _ = false
 steady_call : (c : Cluster) (k : ControllerId) (t : Turn) (e : Event) → IsSteady c t → is_begin e ≡ false → IsSteady c (turn_after c k t e)
 steady_call c k t (events.Begin j begun) h ne = absurd (let no_one : true ≡ false = ne in cc)
 steady_call c k t (events.Live j pass) h ne =
-    own c k j t (if_due (is_due t Live pass) (with_live c t)) h
+    own_or_other (IsSteady c) k j t (if_due (is_due t Live pass) (with_live c t)) h
     (when c t (with_live c t) (is_due t Live pass) (λ due. live_next c t (and-first (is_first Live t.left) (pass.0 == t.begun.pass.0) due) h))
-steady_call c k t (events.Mail j pass s) h ne =
-    let view : View = record t.view { mail = t.view.mail ++ mail_shown c s } in
-    own c k j t (if_due (is_due t (Mail s) pass) (gone_on t view)) h
-    (when c t (gone_on t view) (is_due t (Mail s) pass) (λ due.
-    let first = and-first (is_first (Mail s) t.left) (pass.0 == t.begun.pass.0) due in
-    gone c t (Mail s) view first (mail_next c s t.left t.view first) h))
-steady_call c k t (events.States j pass s) h ne =
-    let view : View = record t.view { rows = t.view.rows ++ states_shown c s } in
-    own c k j t (if_due (is_due t (States s) pass) (gone_on t view)) h
-    (when c t (gone_on t view) (is_due t (States s) pass) (λ due.
-    let first = and-first (is_first (States s) t.left) (pass.0 == t.begun.pass.0) due in
-    gone c t (States s) view first (states_next c s t.left t.view first) h))
-steady_call c k t (events.Ideals j pass) h ne =
-    let view : View = record t.view { ideals = ideals_shown c } in
-    own c k j t (if_due (is_due t Ideals pass) (gone_on t view)) h
-    (when c t (gone_on t view) (is_due t Ideals pass) (λ due.
-    let first = and-first (is_first Ideals t.left) (pass.0 == t.begun.pass.0) due in
-    gone c t Ideals view first (ideals_next c t.left t.view first) h))
+steady_call c k t (events.Mail j pass s) h ne = gone_due c k j t (Mail s) pass (record t.view { mail = t.view.mail ++ mail_shown c s }) h (mail_next c s t.left t.view)
+steady_call c k t (events.States j pass s) h ne = gone_due c k j t (States s) pass (record t.view { rows = t.view.rows ++ states_shown c s }) h (states_next c s t.left t.view)
+steady_call c k t (events.Ideals j pass) h ne = gone_due c k j t Ideals pass (record t.view { ideals = ideals_shown c }) h (ideals_next c t.left t.view)
 steady_call c k t (events.Dispatch j epoch pass proposals answer) h ne =
-    own c k j t (if_due (is_due t Send pass && is_of_epoch t epoch) (gone_on t t.view)) h
+    own_or_other (IsSteady c) k j t (if_due (is_due t Send pass && is_of_epoch t epoch) (gone_on t t.view)) h
     (when c t (gone_on t t.view) (is_due t Send pass && is_of_epoch t epoch) (λ due.
     let first = and-first (is_first Send t.left) (pass.0 == t.begun.pass.0) (and-first (is_due t Send pass) (is_of_epoch t epoch) due) in
     gone c t Send t.view first (send_next c t.left t.view first) h))
-steady_call c k t (events.Post j epoch rows) h ne = own c k j t idle_turn h (steady_idle c)
+steady_call c k t (events.Post j epoch rows) h ne = own_or_other (IsSteady c) k j t idle_turn h (steady_idle c)
 steady_call c k t _ h ne = h
 
 steady_next : (c : Cluster) (k : ControllerId) (t : Turn) (e : Event) → IsWhole c → IsStep c e → IsSteady c t → IsSteady (next c e) (turn_after c k t e)
@@ -245,7 +234,7 @@ steady_next c k t e w step h = one (is_begin e) refl
         began : (e : Event) → is_begin e ≡ true → IsStep c e → IsSteady (next c e) (turn_after c k t e)
         began (events.Begin j begun) is step =
             let counted = counted_next c (events.Begin j begun) w.kept.numbers w.seated.instances in
-            own (next c (events.Begin j begun)) k j t (begun_turn begun) (steady_on c (next c (events.Begin j begun)) t counted h)
+            own_or_other (IsSteady (next c (events.Begin j begun))) k j t (begun_turn begun) (steady_on c (next c (events.Begin j begun)) t counted h)
             (steady_begun c (next c (events.Begin j begun)) begun (ap (λ (b : Begun). b.change) step.2) counted)
         began _ is step = absurd (let no_one : false ≡ true = is in cc)
 

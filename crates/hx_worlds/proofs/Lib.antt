@@ -2,3 +2,4 @@ pub mod Brought
 pub mod BroughtByTurns
 pub mod BroughtByLines
 pub mod Counted
+pub mod Examples
