@@ -1,5 +1,5 @@
 -- What the history of a board says of what its readers leave out.
-use Rattle.std.proofs.Common.{◌≡◌, ◌+◌, ◌<◌, ◌≤◌, ◌^◌, List, [], ◌∷◌, length, subst, arith}
+use Rattle.std.proofs.Common.{◌≡◌, ℕ, ◌+◌, ◌<◌, ◌≤◌, ◌^◌, List, [], ◌∷◌, length, sym, ap, subst, ◌∙◌, arith}
 use Rattle.std.specs.List.{sum_by}
 use Rattle.hx_cluster.specs.declared.state.Cluster.{Cluster}
 use Rattle.hx_cluster.specs.declared.happenings.Event.{Event}
@@ -61,3 +61,11 @@ module _ (b : Held) (told : HasHistory b) where
       let few : b.cluster.next_msg ≤ weight_of_all b.history + 1 = weighed.messages in
       let is = next_message_is in
       omega arith
+
+-- a sum over a history, by the one that a board lent
+module _ (f : Event → ℕ) {lent h : List Event} (same : lent ≡ h) where
+  pub lent_fits : sum_by f h < 2 ^ 64 → sum_by f lent < 2 ^ 64
+  lent_fits fits = subst (λ (es : List Event). sum_by f es < 2 ^ 64) (sym same) fits
+
+  pub lent_next : {n sum : ℕ} → n ≡ 1 + sum_by f h → sum ≡ sum_by f lent → n ≡ 1 + sum
+  lent_next is counted = is ∙ ap (λ (k : ℕ). 1 + k) (sym (counted ∙ ap (λ (es : List Event). sum_by f es) same))

@@ -1,11 +1,8 @@
 -- What the tests answer to a board with one instance, and one partition that it follows.
 use Rattle.std.proofs.Common.{◌≡◌, ℕ, Bool, true, false, List, [], ◌∷◌, Option, refl}
-use Rattle.std.specs.Prelude.{None, Some, codes}
-use Rattle.hx_ids.specs.Words.{instance, model, session, message, state, epoch, part}
+use Rattle.std.specs.Prelude.{None, Some}
+use Rattle.hx_ids.specs.Words.{instance, session, message, state, epoch, part}
 use Rattle.hx_ids.specs.declared.StateId.{StateId}
-use Rattle.hx_model.specs.Builtin.{builtin_states, builtin_names, builtin_models}
-use Rattle.hx_ideal.specs.declared.Mode.TheVariants as modes
-use Rattle.hx_cluster.specs.declared.description.Spec.{Spec}
 use Rattle.hx_cluster.specs.declared.state.Message.{Message}
 use Rattle.hx_cluster.specs.declared.state.Cluster.{Cluster}
 use Rattle.hx_cluster.specs.declared.happenings.Admin.TheVariants as steps
@@ -14,20 +11,7 @@ use Rattle.hx_replicas.specs.declared.slots.Work.TheVariants.{Idle}
 use Rattle.hx_replicas.specs.Participants.{Slot, new_participant}
 use Rattle.hx_worlds.specs.Agree.{Stationed, is_below}
 use Rattle.hx_agree.specs.Tests.{are_in_order, are_cared_for, has_session, is_settled}
-
-abbrev spec : Spec
-spec = record {
-  instances = codes "n1" ∷ [];
-  states = builtin_states;
-  resource_names = codes "db" ∷ [];
-  model_names = builtin_names;
-  models = builtin_models;
-  controllers = 1;
-  timeout = 30;
-  rules = [];
-  resources = record { name = 0; model = model 0; ideal = record { replicas = 1; parts = 1; mode = modes.Semi ((instance 0 ∷ []) ∷ []) }; dropped = false } ∷ [];
-  failures = [];
-}
+use Rattle.hx_worlds.proofs.Examples.{spec}
 
 -- the instance joined; then its replica came to a state other than the initial one, and a message leads on from there
 abbrev joined : Cluster

@@ -1,30 +1,14 @@
 -- Tests of lists.
-use Rattle.std.proofs.Common.{◌≡◌, ℕ, zero, suc, ◌+◌, ◌<◌, ◌≤◌, ◌&&◌, ◌||◌, ◌==◌, not, Bool, true, false, List, [], ◌∷◌, map, find, length, drop, get_or, Option, Some, None, refl, ap, sym, ◌∙◌, subst, arith}
+use Rattle.std.proofs.Common.{◌≡◌, ℕ, zero, suc, ◌+◌, ◌<◌, ◌≤◌, ◌&&◌, ◌||◌, ◌==◌, Bool, true, false, List, [], ◌∷◌, map, length, drop, get_or, Some, refl, ap, sym, ◌∙◌, subst, arith}
 use Rattle.std.specs.Prelude.{slice_get}
 use Rattle.std.specs.Option.{option_map}
 use Rattle.std.specs.List.{list_any, list_all}
 use Rattle.std.proofs.lemmas.Bool.Decides.{nat_tests}
 use Rattle.std.proofs.lemmas.List.{drop_all}
-use Rattle.hx_lists.specs.Lists.{count, numbers_from, numbers_below}
+use Rattle.hx_lists.specs.Lists.{numbers_from, numbers_below}
 use Rattle.hx_safe.proofs.Ends.{same-self}
 use Rattle.hx_agree.specs.Tests.{are_in_order}
-use Rattle.hx_safe.proofs.Counting.{and-first, and-second, and-both, find-passes, find-single, none-find}
-
--- a test that each item passes which is the first of its kind, where there is one of each kind
-all-or-none : {X : Type 0} (q : X → Bool) (xs : List X) → list_any (λ x. not (q x)) xs ≡ false → list_all q xs ≡ true
-all-or-none q [] e = refl
-all-or-none q (x ∷ xs) e = grind (arith, e, all-or-none q xs)
-
-pub all_found : {X : Type 0} (alike : X → X → Bool) (q : X → Bool) (xs : List X) → ((x : X) → alike x x ≡ true) → ((x : X) → count (alike x) xs ≤ 1)
-    → ((x : X) → find (alike x) xs ≡ Some x → q x ≡ true) → list_all q xs ≡ true
-all_found {X} alike q xs self most h = one (find (λ x. not (q x)) xs) refl
-  where
-    one : (o : Option X) → find (λ x. not (q x)) xs ≡ o → list_all q xs ≡ true
-    one None is = all-or-none q xs (none-find (λ x. not (q x)) xs is)
-    one (Some x) is =
-        let no : not (q x) ≡ true = find-passes (λ x. not (q x)) xs x is in
-        let yes : q x ≡ true = h x (find-single (λ x. not (q x)) (alike x) xs x is (self x) (most x)) in
-        grind (arith, no, yes)
+use Rattle.hx_safe.proofs.Counting.{and-first, and-second, and-both}
 
 -- the items from a place on, by what they have
 drop-item : {X Y : Type 0} (f : X → Y) (p : Y → Bool) (xs : List X) (k : ℕ) (y : Y) → option_map f (slice_get xs k) ≡ Some y

@@ -23,8 +23,9 @@ use Rattle.hx_safe.proofs.Counting.{and-first, and-second, and-both, and-three, 
 use Rattle.hx_safe.proofs.Ends.{same-self, session_same, part_same, part_eq-self}
 use Rattle.hx_agree.specs.Tests.{at_each_part, is_taken, is_untouched_at, is_cared_at, are_cared_for, has_session}
 use Rattle.hx_agree.proofs.Below.{all_below, below_all, any_below, below_any}
-use Rattle.hx_agree.proofs.Lists.{all_found}
+use Rattle.hx_safe.proofs.Counting.{all_found}
 use Rattle.hx_agree.proofs.Places.{at_part, each_part}
+use Rattle.hx_safe.proofs.Sessions.{session_live}
 
 pub is_mine : (o : Option SessionId) (s : SessionId) → o ≡ Some s → is_session o s ≡ true
 is_mine None s e = cc
@@ -67,17 +68,7 @@ module _ (c : Cluster) (safe : IsSafe c) (ranged : IsRanged c) where
       (and-both (m.session.0 == s.0) (part_eq m.part m.part) (subst (λ (t : SessionId). (m.session.0 == t.0) ≡ true) mine (same-self m.session.0)) (part_eq-self m.part))
       (safe.mail.single s m.part)
 
-  -- the session of an instance is live, and each live one is that of an instance
-  pub session_live : (i : InstanceId) (s : SessionId) → session_of c i ≡ Some s → is_live c.live s ≡ true
-  session_live i s is = one (live_of c.live i) refl is
-    where
-      one : (o : Option Live) → live_of c.live i ≡ o → option_map (λ l. l.session) o ≡ Some s → is_live c.live s ≡ true
-      one None found e = cc
-      one (Some l) found e =
-          let same : l.session ≡ s = cc in
-          find-any (is_of i) (is_session_at s) c.live l found (subst (λ (u : SessionId). (l.session.0 == u.0) ≡ true) same (same-self l.session.0))
-
-  -- a live session that is found among them
+  -- each live session is that of an instance: one that is found among them
   found_session : (p : Live → Bool) (l : Live) → find p c.live ≡ Some l → session_of c l.instance ≡ Some l.session
   found_session p l found =
       ap (option_map (λ (x : Live). x.session)) (find-single p (is_of l.instance) c.live l found (same-self l.instance.0) (safe.sessions.instances l.instance))
@@ -105,7 +96,7 @@ module _ (c : Cluster) (safe : IsSafe c) (ranged : IsRanged c) where
   pub has_session_live : (n : ℕ) (s : SessionId) → has_session n c s ≡ true → is_live c.live s ≡ true
   has_session_live n s e =
       let i = below_any (λ i. is_session (session_of c (instance i)) s) n e in
-      session_live (instance i.0) s (mine_is (session_of c (instance i.0)) s i.1)
+      session_live c (instance i.0) s (mine_is (session_of c (instance i.0)) s i.1)
 
   -- nothing was done in a session, at its parts
   at_row : (s : SessionId) (q : PartId) (r : Row) → row_of c.rows s q ≡ Some r → list_any (λ x. x.session.0 == s.0) c.rows ≡ true

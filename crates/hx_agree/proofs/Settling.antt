@@ -19,9 +19,11 @@ use Rattle.hx_worlds.specs.Agree.{Stationed, IsSettledIn, IfLive, is_to_come}
 use Rattle.hx_safe.proofs.Counting.{and-first, and-second, and-both, and-three, all-find, find-passes}
 use Rattle.hx_safe.proofs.Ends.{same-self, session_same, part_same, part_eq-self}
 use Rattle.hx_agree.specs.Tests.{at_each_part, is_like, is_coming, is_settled_slot, is_settled_at, are_slots_settled, is_settled_in, is_settled_with, is_settled, has_session}
-use Rattle.hx_agree.proofs.Lists.{all_found, from-all}
+use Rattle.hx_agree.proofs.Lists.{from-all}
+use Rattle.hx_safe.proofs.Counting.{all_found}
 use Rattle.hx_agree.proofs.Places.{at_part, each_part}
 use Rattle.hx_agree.proofs.Live.{is_mine, mine_is, no_row, no_message, message_at, live_has_session, has_session_live}
+use Rattle.hx_safe.proofs.Counting.{if-passed, if-unasked}
 
 state_same : (a b : StateId) → (a.0 == b.0) ≡ true → a ≡ b
 state_same a b e = let same : a.0 ≡ b.0 = grind (arith, nat_tests, e) in ap (λ (n : ℕ). record { 0 = n }) same
@@ -130,20 +132,12 @@ module _ (c : Cluster) (safe : IsSafe c) (ranged : IsRanged c) (first : 0 < c.ne
         (λ m. and-both (m.session.0 == m.session.0) (part_eq m.part m.part) (same-self m.session.0) (part_eq-self m.part)) (λ m. safe.mail.single m.session m.part)
         (λ m found. one m found (m.session.0 == s.0) refl)
       where
-        other : (b d : Bool) → b ≡ false → (not b || d) ≡ true
-        other true d e = cc
-        other false d e = refl
-
-        mine : (b d : Bool) → d ≡ true → (not b || d) ≡ true
-        mine true d e = e
-        mine false d e = refl
-
         one : (m : Message) → find (is_message m.session m.part) c.mail ≡ Some m → (b : Bool) → (m.session.0 == s.0) ≡ b → is_to_come p.plain s m ≡ true
-        one m found false is = other (m.session.0 == s.0) (not m.taken && nat_lt (slot_of p.plain m.part).last.0 m.id.0) is
+        one m found false is = if-unasked (m.session.0 == s.0) (not m.taken && nat_lt (slot_of p.plain m.part).last.0 m.id.0) is
         one m found true is =
             let same = session_same m.session s is in
             let here : message_of c.mail s m.part ≡ Some m = message_at c safe ranged s (is_message m.session m.part) m found same in
-            mine (m.session.0 == s.0) (not m.taken && nat_lt (slot_of p.plain m.part).last.0 m.id.0)
+            if-passed (m.session.0 == s.0) (not m.taken && nat_lt (slot_of p.plain m.part).last.0 m.id.0)
             (subst (λ (o : Option Message). is_coming (slot_of p.plain m.part).last.0 o ≡ true) here (slot_at m.part (h m.part)).coming)
 
     pub stands : is_settled_in c.next_msg c.models c p s ≡ true → IsSettledIn c p s

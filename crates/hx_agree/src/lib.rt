@@ -12,6 +12,7 @@ mod settled;
 mod staff;
 mod untouched;
 
+pub use crate::numbers::{joined_in, sent_in};
 use crate::numbers::{joined_on, sent_on};
 use crate::settled::are_settled;
 use crate::staff::{are_controllers, are_idle, are_participants, are_quiet, have_begun};

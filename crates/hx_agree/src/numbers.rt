@@ -27,7 +27,7 @@ fn sent_by(answer: &Dispatched) -> u64
 }
 
 /// How many messages an event sent.
-fn sent_in(event: &Event) -> u64
+pub fn sent_in(event: &Event) -> u64
     ensures { result ≡ sent_in event.now }
 {
     match event {
@@ -37,7 +37,7 @@ fn sent_in(event: &Event) -> u64
 }
 
 /// How many sessions it opened.
-fn joined_in(event: &Event) -> u64
+pub fn joined_in(event: &Event) -> u64
     ensures { result ≡ joined_in event.now }
 {
     match event {

@@ -26,7 +26,8 @@ use Rattle.hx_safe.proofs.Counting.{and-first, and-second, and-both, find-passes
 use Rattle.hx_safe.proofs.Ends.{same-self, session_same}
 use Rattle.hx_runs.proofs.Waiting.{any-le}
 use Rattle.hx_agreed.specs.InStep.{Each, of_instance, IsPending, is_lent_as, HasWork, HasSlot, IsAlong, IsUntouched, IsStale, IsHeldJob, IsOldIn, IsInBag, AreInStep}
-use Rattle.hx_agreed.proofs.Lists.{each-le, each-all, or-first, or-second, all_found, all_stationed, all_stationed_pass, any_stationed, in_range}
+use Rattle.hx_agreed.proofs.Lists.{each-le, each-all, or-first, or-second, all_stationed, all_stationed_pass, any_stationed, in_range}
+use Rattle.hx_safe.proofs.Counting.{all_found}
 use Rattle.hx_agreed.proofs.Slots.{all_slots, is_mine, mine_is}
 use Rattle.hx_agreed.proofs.Placed.{placed_work, placed_live}
 

@@ -251,13 +251,7 @@ module _ (c : Cluster) (q : Proposal) (k : IsKept c) (ws : List Participant) (jo
 
   placed_in_step : (a : Placed) → placed_of c q ≡ a → AreInStep (after_placed c q a) ws jobs bag
   placed_in_step (placings.Sent id) is = sent_in_step id (sent_next c q 0 c.rules id (room_from c q id is).throttles)
-  placed_in_step placings.Ended is = s
-  placed_in_step placings.ResourceDropped is = s
-  placed_in_step (placings.Busy id) is = s
-  placed_in_step (placings.WrongFrom has) is = s
-  placed_in_step placings.Illegal is = s
-  placed_in_step (placings.OverBound n limit) is = s
-  placed_in_step (placings.OverThrottle n load limit) is = s
+  placed_in_step _ is = s
 
 -- steps
 module _ (ws : List Participant) (jobs : List Job) (bag : List Message) where

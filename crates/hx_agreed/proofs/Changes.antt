@@ -29,7 +29,8 @@ use Rattle.hx_runs.proofs.Calming.{same_self}
 use Rattle.hx_agreed.specs.InStep.{Each, of_instance, IsPending, is_lent_as, HasWork, HasSlot, IsAlong, IsUntouched, IsPlaced, IsHeldJob, IsOldIn, IsInBag, IsSent, AreInStep}
 use Rattle.hx_agreed.proofs.Lists.{each-le}
 use Rattle.hx_agreed.proofs.Slots.{part_sym}
-use Rattle.hx_agreed.proofs.Frames.{same_is, same_both, IsLike, HasParts, untouched_like, session_live, one_instance, work_like, slot_like, row_like, placed_like, in_bag_like}
+use Rattle.hx_safe.proofs.Sessions.{session_live}
+use Rattle.hx_agreed.proofs.Frames.{same_is, same_both, IsLike, HasParts, untouched_like, one_instance, work_like, slot_like, row_like, placed_like, in_bag_like}
 use Rattle.hx_agreed.proofs.Quiet.{same_parts}
 
 pub instance_same : (i j : InstanceId) → (i.0 == j.0) ≡ true → i ≡ j
@@ -45,6 +46,37 @@ pub record WasPending (c : Cluster) (s : SessionId) (q : PartId) (n : Message) :
   pub found : message_of c.mail s q ≡ Some before
   pub same : is_same before n ≡ true
 
+-- what a change leaves of a cluster
+pub record HasSameBoard (c d : Cluster) : Type 0 where
+  pub live : d.live ≡ c.live
+  pub sessions : d.next_session ≡ c.next_session
+  pub messages : d.next_msg ≡ c.next_msg
+  pub models : d.models ≡ c.models
+  pub resources : d.resources ≡ c.resources
+
+-- and what it changes beside the participant
+pub record IsBoardChange (c d : Cluster) (ws ws' : List Participant) (jobs jobs' : List Job) (bag : List Message) (i : InstanceId) (s : SessionId) (q : PartId) : Type 0 where
+  pub same : HasSameBoard c d
+  pub rows : (t : SessionId) (p : PartId) → is_replica s q t p ≡ false → state_of d.rows t p ≡ state_of c.rows t p
+  pub mail : (t : SessionId) (p : PartId) → is_replica s q t p ≡ false → message_of d.mail t p ≡ message_of c.mail t p
+  pub lent : (j : InstanceId) (m : Message) (is_held : Bool) → (i.0 == j.0) ≡ false → list_any (is_lent_as j m is_held) jobs ≡ true → list_any (is_lent_as j m is_held) jobs' ≡ true
+  pub lent_here : (p : PartId) (m : Message) (is_held : Bool) → part_eq q p ≡ false → HasWork c bag jobs i (Some s) p (slot_of (of_instance ws i) p) (Out m is_held)
+      → list_any (is_lent_as i m is_held) jobs ≡ true → list_any (is_lent_as i m is_held) jobs' ≡ true
+  pub before : (n : Message) → message_of d.mail s q ≡ Some n → WasPending c s q n
+  pub pending : (b : Message) → b.session ≡ s → b.part ≡ q → IsInBag c ws b → IsPending c b → IsPending d b ⊎ IsOldIn ws' b
+
+-- a participant that changes alone leaves all that
+pub board_stays : (c : Cluster) (ws ws' : List Participant) (jobs : List Job) (bag : List Message) (i : InstanceId) (s : SessionId) (q : PartId) → IsBoardChange c c ws ws' jobs jobs bag i s q
+board_stays c ws ws' jobs bag i s q = record {
+  same = record { live = refl; sessions = refl; messages = refl; models = refl; resources = refl };
+  rows = λ t p e. refl;
+  mail = λ t p e. refl;
+  lent = λ j m is_held e is. is;
+  lent_here = λ p m is_held e its is. is;
+  before = λ n found. record { before = n; found = found; same = same_self n };
+  pending = λ b of at its p. inl p;
+}
+
 pub record IsChange (c d : Cluster) (ws ws' : List Participant) (jobs jobs' : List Job) (bag : List Message) (i : InstanceId) (s : SessionId) (q : PartId) : Type 0 where
   pub others : (j : InstanceId) → (i.0 == j.0) ≡ false → of_instance ws' j ≡ of_instance ws j
   pub mine : (of_instance ws i).session ≡ Some s
@@ -52,38 +84,27 @@ pub record IsChange (c d : Cluster) (ws ws' : List Participant) (jobs jobs' : Li
   pub active : (p : PartId) → HasSlot c bag jobs i (of_instance ws i).session p (slot_of (of_instance ws i) p)
   pub distinct : AreDistinct (map (λ x. x.part) (of_instance ws' i).slots)
   pub slots : (p : PartId) → part_eq q p ≡ false → slot_of (of_instance ws' i) p ≡ slot_of (of_instance ws i) p
-  pub live : d.live ≡ c.live
-  pub sessions : d.next_session ≡ c.next_session
-  pub messages : d.next_msg ≡ c.next_msg
-  pub models : d.models ≡ c.models
-  pub resources : d.resources ≡ c.resources
-  pub rows : (t : SessionId) (p : PartId) → is_replica s q t p ≡ false → state_of d.rows t p ≡ state_of c.rows t p
-  pub mail : (t : SessionId) (p : PartId) → is_replica s q t p ≡ false → message_of d.mail t p ≡ message_of c.mail t p
-  pub lent : (j : InstanceId) (m : Message) (is_held : Bool) → (i.0 == j.0) ≡ false → list_any (is_lent_as j m is_held) jobs ≡ true → list_any (is_lent_as j m is_held) jobs' ≡ true
-  pub lent_here : (p : PartId) (m : Message) (is_held : Bool) → part_eq q p ≡ false → HasWork c bag jobs i (Some s) p (slot_of (of_instance ws i) p) (Out m is_held)
-      → list_any (is_lent_as i m is_held) jobs ≡ true → list_any (is_lent_as i m is_held) jobs' ≡ true
+  pub board : IsBoardChange c d ws ws' jobs jobs' bag i s q
   pub slot : HasSlot d bag jobs' i (Some s) q (slot_of (of_instance ws' i) q)
   pub row_here : is_live c.live s ≡ true → is_out (slot_of (of_instance ws' i) q).work ≡ false → StandsAsRow d (of_instance ws' i) s q
   pub mail_here : is_live c.live s ≡ true → (n : Message) → message_of d.mail s q ≡ Some n → is_known_at (slot_of (of_instance ws' i) q) n ≡ true
   pub last : nat_le (slot_of (of_instance ws i) q).last.0 (slot_of (of_instance ws' i) q).last.0 ≡ true
-  pub before : (n : Message) → message_of d.mail s q ≡ Some n → WasPending c s q n
-  pub pending : (b : Message) → b.session ≡ s → b.part ≡ q → IsInBag c ws b → IsPending c b → IsPending d b ⊎ IsOldIn ws' b
   pub jobs_held : Each (IsHeldJob d ws' jobs') jobs'
 
 module _ (c d : Cluster) (ws ws' : List Participant) (jobs jobs' : List Job) (bag : List Message) (i : InstanceId) (s : SessionId) (q : PartId) (k : IsKept c) (a : AreInStep c ws jobs bag)
     (h : IsChange c d ws ws' jobs jobs' bag i s q) where
   parts : HasParts c d
-  parts = same_parts c d h.models h.resources
+  parts = same_parts c d h.board.same.models h.board.same.resources
 
   sessions_same : (j : InstanceId) → session_of d j ≡ session_of c j
-  sessions_same j = ap (λ (ls : List Live). option_map (λ l. l.session) (live_of ls j)) h.live
+  sessions_same j = ap (λ (ls : List Live). option_map (λ l. l.session) (live_of ls j)) h.board.same.live
 
   live_before : (t : SessionId) → is_live d.live t ≡ true → is_live c.live t ≡ true
-  live_before t is = subst (λ (ls : List Live). is_live ls t ≡ true) h.live is
+  live_before t is = subst (λ (ls : List Live). is_live ls t ≡ true) h.board.same.live is
 
   -- another session's replicas are as they were
   other_like : (t : SessionId) → (t.0 == s.0) ≡ false → IsLike c d t
-  other_like t other = record { rows = λ p. h.rows t p (grind (arith, other)); mail = λ p. h.mail t p (grind (arith, other)) }
+  other_like t other = record { rows = λ p. h.board.rows t p (grind (arith, other)); mail = λ p. h.board.mail t p (grind (arith, other)) }
 
   -- the session is that of its instance alone
   other_session : (j : InstanceId) → (i.0 == j.0) ≡ false → (t : SessionId) → session_of c j ≡ Some t → (t.0 == s.0) ≡ false
@@ -110,7 +131,7 @@ module _ (c d : Cluster) (ws ws' : List Participant) (jobs jobs' : List Job) (ba
 
   placed_other : (j : InstanceId) → (i.0 == j.0) ≡ false → IsPlaced d bag jobs' j (of_instance ws j)
   placed_other j other =
-      placed_like c d bag bag jobs jobs' j (of_instance ws j) k parts (let e = h.messages in omega arith) (let e = h.sessions in omega arith) (λ m is. is) (λ m is_held is. h.lent j m is_held other is)
+      placed_like c d bag bag jobs jobs' j (of_instance ws j) k parts (let e = h.board.same.messages in omega arith) (let e = h.board.same.sessions in omega arith) (λ m is. is) (λ m is_held is. h.board.lent j m is_held other is)
       (λ t mine live. let l = live_before t live in (l, (λ is. sessions_same j ∙ is), other_like t (other_session j other t ((a.each j).own t mine l))))
       (free_other j other) (λ stale. stale.apart) (a.each j)
 
@@ -120,14 +141,14 @@ module _ (c d : Cluster) (ws ws' : List Participant) (jobs jobs' : List Job) (ba
       let w = of_instance ws i in
       let x = slot_of w p in
       let old : HasSlot c bag jobs i (Some s) p x = subst (λ (o : Option SessionId). HasSlot c bag jobs i o p x) h.mine (h.active p) in
-      slot_like c d bag bag jobs jobs' i (Some s) p x parts (let e = h.messages in omega arith) (work x.work old.work) old
+      slot_like c d bag bag jobs jobs' i (Some s) p x parts (let e = h.board.same.messages in omega arith) (work x.work old.work) old
     where
       work : (w : Work) → HasWork c bag jobs i (Some s) p (slot_of (of_instance ws i) p) w → HasWork d bag jobs' i (Some s) p (slot_of (of_instance ws i) p) w
       work w its =
           work_like c d bag bag jobs jobs' i (Some s) p (slot_of (of_instance ws i) p) w (λ m is. is)
-          (λ m is_held e is. h.lent_here p m is_held other (subst (λ (v : Work). HasWork c bag jobs i (Some s) p (slot_of (of_instance ws i) p) v) e its) is)
+          (λ m is_held e is. h.board.lent_here p m is_held other (subst (λ (v : Work). HasWork c bag jobs i (Some s) p (slot_of (of_instance ws i) p) v) e its) is)
           (λ m mine of live u. let o = u (live_before m.session live) in
-          record { now = o.now; found = h.mail m.session m.part (let e = part_sym m.part q in let f : part_eq q m.part ≡ false = ap (part_eq q) of ∙ other in grind (arith, e, f)) ∙ o.found; same = o.same; untaken = o.untaken })
+          record { now = o.now; found = h.board.mail m.session m.part (let e = part_sym m.part q in let f : part_eq q m.part ≡ false = ap (part_eq q) of ∙ other in grind (arith, e, f)) ∙ o.found; same = o.same; untaken = o.untaken })
           its
 
   slot_now : (p : PartId) → HasSlot d bag jobs' i (Some s) p (slot_of (of_instance ws' i) p)
@@ -152,7 +173,7 @@ module _ (c d : Cluster) (ws ws' : List Participant) (jobs jobs' : List Job) (ba
           subst (λ (r : PartId). StandsAsRow d (of_instance ws' i) s r) same (h.row_here live (subst (λ (r : PartId). is_out (slot_of (of_instance ws' i) r).work ≡ false) (sym same) out))
       row false p is out =
           subst (λ (x : Slot). counts_as x (initial_of d p) ≡ unwrap_or (state_of d.rows s p) (initial_of d p)) (sym (h.slots p is))
-          (row_like c d (slot_of (of_instance ws i) p) s p k parts (h.rows s p (elsewhere p is)) (h.active p).there
+          (row_like c d (slot_of (of_instance ws i) p) s p k parts (h.board.rows s p (elsewhere p is)) (h.active p).there
           (old.rows p (subst (λ (x : Slot). is_out x.work ≡ false) (h.slots p is) out)))
 
       known : (b : Bool) (p : PartId) → part_eq q p ≡ b → (n : Message) → message_of d.mail s p ≡ Some n → is_known_at (slot_of (of_instance ws' i) p) n ≡ true
@@ -160,7 +181,7 @@ module _ (c d : Cluster) (ws ws' : List Participant) (jobs jobs' : List Job) (ba
           let same = part_same q p is in
           subst (λ (r : PartId). is_known_at (slot_of (of_instance ws' i) r) n ≡ true) same (h.mail_here live n (subst (λ (r : PartId). message_of d.mail s r ≡ Some n) (sym same) found))
       known false p is n found =
-          subst (λ (x : Slot). is_known_at x n ≡ true) (sym (h.slots p is)) (old.mail p n (sym (h.mail s p (elsewhere p is)) ∙ found))
+          subst (λ (x : Slot). is_known_at x n ≡ true) (sym (h.slots p is)) (old.mail p n (sym (h.board.mail s p (elsewhere p is)) ∙ found))
 
   free_now : (t : SessionId) → session_of d i ≡ Some t → ((of_instance ws' i).session ≡ Some t) ⊎ IsUntouched d t
   free_now t is = one ((a.each i).free t (sym (sessions_same i) ∙ is))
@@ -176,7 +197,7 @@ module _ (c d : Cluster) (ws ws' : List Participant) (jobs jobs' : List Job) (ba
   placed_now : IsPlaced d bag jobs' i (of_instance ws' i)
   placed_now = record {
     distinct = h.distinct;
-    below = subst (λ (n : ℕ). is_below n (of_instance ws' i).session ≡ true) (sym h.sessions) (subst (λ (o : Option SessionId). is_below c.next_session o ≡ true) (h.mine ∙ sym h.session) (a.each i).below);
+    below = subst (λ (n : ℕ). is_below n (of_instance ws' i).session ≡ true) (sym h.board.same.sessions) (subst (λ (o : Option SessionId). is_below c.next_session o ≡ true) (h.mine ∙ sym h.session) (a.each i).below);
     own = λ t is live. sessions_same i ∙ (a.each i).own t (h.mine ∙ sym h.session ∙ is) (live_before t live);
     slots = inr (λ p. subst (λ (o : Option SessionId). HasSlot d bag jobs' i o p (slot_of (of_instance ws' i) p)) (sym h.session) (slot_now p));
     along = λ t is live. let same : s ≡ t = some_is s t (sym h.session ∙ is) in
@@ -229,16 +250,16 @@ module _ (c d : Cluster) (ws ws' : List Participant) (jobs jobs' : List Job) (ba
           let ts = session_same t s (and-first (t.0 == s.0) (part_eq p q) e) in
           let pq = part_same p q (and-second (t.0 == s.0) (part_eq p q) e) in
           subst (λ (u : SessionId). WasPending c u p n) (sym ts) (subst (λ (r : PartId). WasPending c s r n) (sym pq)
-          (h.before n (subst (λ (u : SessionId). message_of d.mail u q ≡ Some n) ts (subst (λ (r : PartId). message_of d.mail t r ≡ Some n) pq is))))
-      one false e = record { before = n; found = sym (h.mail t p e) ∙ is; same = same_self n }
+          (h.board.before n (subst (λ (u : SessionId). message_of d.mail u q ≡ Some n) ts (subst (λ (r : PartId). message_of d.mail t r ≡ Some n) pq is))))
+      one false e = record { before = n; found = sym (h.board.mail t p e) ∙ is; same = same_self n }
 
   pending_now : (b : Message) → IsInBag c ws b → is_live d.live b.session ≡ true → IsPending d b ⊎ IsOldIn ws' b
   pending_now b its live = one (its.pending (live_before b.session live))
     where
       two : (x : Bool) → is_replica s q b.session b.part ≡ x → IsPending c b → IsPending d b ⊎ IsOldIn ws' b
       two true e p =
-          h.pending b (session_same b.session s (and-first (b.session.0 == s.0) (part_eq b.part q) e)) (part_same b.part q (and-second (b.session.0 == s.0) (part_eq b.part q) e)) its p
-      two false e p = inl (record { now = p.now; found = h.mail b.session b.part e ∙ p.found; same = p.same })
+          h.board.pending b (session_same b.session s (and-first (b.session.0 == s.0) (part_eq b.part q) e)) (part_same b.part q (and-second (b.session.0 == s.0) (part_eq b.part q) e)) its p
+      two false e p = inl (record { now = p.now; found = h.board.mail b.session b.part e ∙ p.found; same = p.same })
 
       one : IsPending c b ⊎ IsOldIn ws b → IsPending d b ⊎ IsOldIn ws' b
       one (inl p) = two (is_replica s q b.session b.part) refl p
@@ -262,15 +283,15 @@ module _ (c d : Cluster) (ws ws' : List Participant) (jobs jobs' : List Job) (ba
     where
       initial : (r : PartId) → initial_of c r ≡ initial_of d r
       initial r =
-          ap (λ (ms : List ModelParts). (model_of ms c.resources r.resource).initial) (sym h.models) ∙ ap (λ (rs : List Resource). (model_of d.models rs r.resource).initial) (sym h.resources)
+          ap (λ (ms : List ModelParts). (model_of ms c.resources r.resource).initial) (sym h.board.same.models) ∙ ap (λ (rs : List Resource). (model_of d.models rs r.resource).initial) (sym h.board.same.resources)
 
   pub change_in_step : AreInStep d ws' jobs' bag
   change_in_step = record {
     each = each_now;
     held = h.jobs_held;
     bagged = each-le (IsInBag c ws) (IsInBag d ws')
-        (λ b its. in_bag_like c d ws ws' b parts (let e = h.messages in omega arith) (let e = h.sessions in omega arith) (pending_now b its) (same_now b its) its) bag a.bagged;
+        (λ b its. in_bag_like c d ws ws' b parts (let e = h.board.same.messages in omega arith) (let e = h.board.same.sessions in omega arith) (pending_now b its) (same_now b its) its) bag a.bagged;
     numbers = a.numbers;
     mail = sent_now;
-    first = let e = h.messages in let f = a.first in omega arith;
+    first = let e = h.board.same.messages in let f = a.first in omega arith;
   }

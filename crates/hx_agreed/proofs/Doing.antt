@@ -24,7 +24,6 @@ use Rattle.hx_replicas.specs.declared.slots.Work.TheVariants.{Accepted}
 use Rattle.hx_replicas.specs.Participants.{Participant, slot_of, accepted_by, makes, made_ready, hand_out, finish}
 use Rattle.hx_worlds.specs.World.{State, Job, Answers, rest_of, participant_of, with_participant}
 use Rattle.hx_worlds.specs.declared.Voice.{Voice}
-use Rattle.hx_worlds.specs.declared.Voice.TheVariants.{Quiet}
 use Rattle.hx_worlds.specs.Runs.{done, happened}
 use Rattle.hx_worlds.specs.Jobs
 use Rattle.hx_safe.proofs.Counting.{and-first, and-second, find-passes}
@@ -33,16 +32,17 @@ use Rattle.hx_safe.proofs.Kept.{IsKept}
 use Rattle.hx_scripted.specs.OfHistory.{is_fetched}
 use Rattle.hx_scripted.proofs.Standing.{Last, IsScripted, scripted_other}
 use Rattle.hx_scripted.proofs.Lines.{write-line}
-use Rattle.hx_scripted.proofs.Keeping.{Keeps, keeps_then, makes_then, choice}
+use Rattle.hx_scripted.proofs.Keeping.{Keeps, makes_then, choice}
+use Rattle.hx_scripted.proofs.Walking.{keeps_note, keeps_call}
 use Rattle.hx_scripted.proofs.Taking.{jobs_there, job_ended, handed_there, put_back_there, accepted_fetched, participant_there}
 use Rattle.hx_agreed.specs.InStep.{IsTakenBy, IsHeldJob, IsInStep}
 use Rattle.hx_agreed.proofs.Frames.{same_is}
 use Rattle.hx_agreed.proofs.Changes.{instance_same}
-use Rattle.hx_agreed.proofs.Marks.{accepted_slot, refused_dead, take_in_step, put_back_in_step, pending_found}
+use Rattle.hx_agreed.proofs.Marks.{accepted_slot, live_by, dead_by, refused_dead, take_in_step, put_back_in_step, pending_found}
 use Rattle.hx_agreed.proofs.Ending.{end_in_step, ack_in_step}
 use Rattle.hx_agreed.proofs.Writing.{write_in_step}
 use Rattle.hx_agreed.proofs.Going.{whole_there, each-find}
-use Rattle.hx_agreed.proofs.DoingTurns.{Stands, keeps_note}
+use Rattle.hx_agreed.proofs.DoingTurns.{Stands, keeps_line}
 
 -- a job's handler, as it ran
 handler_ran : (m : Message) (h : Option ℕ) → is_some (Jobs.handler_after m h) ≡ is_some h
@@ -55,18 +55,10 @@ handler_ran m h = one (Jobs.runs_handler m h) h
 
 -- a call that is answered is of a live session
 write_live : (c : Cluster) (s : SessionId) (id : MsgId) → can_write c s id ≡ true → is_live c.live s ≡ true
-write_live c s id can = one (is_live c.live s) can
-  where
-    one : (b : Bool) → is_none (if b then write_fault (pending_of c s id) else Some writes.SessionEnded) ≡ true → b ≡ true
-    one true f = refl
-    one false f = cc
+write_live c s id can = live_by (is_live c.live s) (write_fault (pending_of c s id)) writes.SessionEnded can
 
 ack_live : (c : Cluster) (s : SessionId) (id : MsgId) → can_ack c s id ≡ true → is_live c.live s ≡ true
-ack_live c s id can = one (is_live c.live s) can
-  where
-    one : (b : Bool) → is_none (if b then ack_fault (pending_of c s id) else Some acks.SessionEnded) ≡ true → b ≡ true
-    one true f = refl
-    one false f = cc
+ack_live c s id can = live_by (is_live c.live s) (ack_fault (pending_of c s id)) acks.SessionEnded can
 
 unwritten_passes : (m : Message) → m.taken ≡ true → m.written ≡ false → is_none (write_fault (Some m)) ≡ true
 unwritten_passes m t w = rw (t, w) refl
@@ -80,28 +72,16 @@ module _ (c : Cluster) (k : IsKept c) (ws : List Participant) (jobs : List Job) 
 
   -- a call that is refused is of a session that isn't live
   write_dead : j.is_written ≡ false → can_write c j.message.session j.message.id ≡ false → is_live c.live j.message.session ≡ false
-  write_dead unwritten refused = one (is_live c.live j.message.session) refl
+  write_dead unwritten refused = dead_by (is_live c.live j.message.session) (write_fault (pending_of c j.message.session j.message.id)) writes.SessionEnded none refused
     where
-      one : (b : Bool) → is_live c.live j.message.session ≡ b → b ≡ false
-      one false e = refl
-      one true e =
-          let t = h.taken e in
-          let can : can_write c j.message.session j.message.id ≡ true =
-          ap (λ (b : Bool). is_none (if b then write_fault (pending_of c j.message.session j.message.id) else Some writes.SessionEnded)) e
-          ∙ ap (λ (o : Option Message). is_none (write_fault o)) (job_pending t) ∙ unwritten_passes t.now t.taken.taken (t.taken.written ∙ unwritten) in
-          absurd (let z : true ≡ false = sym can ∙ refused in (cc))
+      none : is_live c.live j.message.session ≡ true → is_none (write_fault (pending_of c j.message.session j.message.id)) ≡ true
+      none live = let t = h.taken live in ap (λ (o : Option Message). is_none (write_fault o)) (job_pending t) ∙ unwritten_passes t.now t.taken.taken (t.taken.written ∙ unwritten)
 
   ack_dead : j.is_written ≡ true → can_ack c j.message.session j.message.id ≡ false → is_live c.live j.message.session ≡ false
-  ack_dead written refused = one (is_live c.live j.message.session) refl
+  ack_dead written refused = dead_by (is_live c.live j.message.session) (ack_fault (pending_of c j.message.session j.message.id)) acks.SessionEnded none refused
     where
-      one : (b : Bool) → is_live c.live j.message.session ≡ b → b ≡ false
-      one false e = refl
-      one true e =
-          let t = h.taken e in
-          let can : can_ack c j.message.session j.message.id ≡ true =
-          ap (λ (b : Bool). is_none (if b then ack_fault (pending_of c j.message.session j.message.id) else Some acks.SessionEnded)) e
-          ∙ ap (λ (o : Option Message). is_none (ack_fault o)) (job_pending t) ∙ written_passes t.now (t.taken.written ∙ written) in
-          absurd (let z : true ≡ false = sym can ∙ refused in (cc))
+      none : is_live c.live j.message.session ≡ true → is_none (ack_fault (pending_of c j.message.session j.message.id)) ≡ true
+      none live = let t = h.taken live in ap (λ (o : Option Message). is_none (ack_fault o)) (job_pending t) ∙ written_passes t.now (t.taken.written ∙ written)
 
 no_weight : (n : ℕ) (limit : ℕ) → n ≤ limit → n + 0 ≤ limit
 no_weight n limit e = omega arith
@@ -164,14 +144,14 @@ module _ (spec : Spec) (valid : IsValid spec) (last : Last) where
         let y : State = record { world = (with_participant i (hand_out (participant_of x.world i) m failed) x).world; answers = answers } in
         choice (Stands spec last) (can_take x.world.cluster m.session m.id) _ _
         (λ can. makes_then (Stands spec last) (events.Take m.session m.id) y (λ z. done (Jobs.ran i m handler z)) (record { left = took_there i m failed handler answers x s fetched work held can }))
-        (λ can. keeps_note spec valid last v notes.SessionEnded (Jobs.put_back i m handler y) (stays_there i m failed handler answers x s fetched work can))
+        (λ can. keeps_note (Stands spec last) (keeps_line spec valid last) v notes.SessionEnded (Jobs.put_back i m handler y) (stays_there i m failed handler answers x s fetched work can))
 
     taken_answered : (is : Bool) → Keeps (Stands spec last) (Jobs.take_job v i m handler (Jobs.if_answered is (with_participant i (hand_out (participant_of x.world i) m failed) x)))
     taken_answered true = taken_there (rest_of x.answers)
     taken_answered false = taken_there x.answers
 
   pub keeps_taken : (v : Voice) (i : InstanceId) (id : MsgId) (o : Option Message) (x : State) → Stands spec last x → accepted_by (participant_of x.world i) id ≡ o → Keeps (Stands spec last) (Jobs.take_accepted v i o x)
-  keeps_taken v i id None x s is = keeps_note spec valid last v _ x s
+  keeps_taken v i id None x s is = keeps_note (Stands spec last) (keeps_line spec valid last) v _ x s
   keeps_taken v i id (Some m) x s is =
       let failed = Jobs.fails_to_make i m x in
       taken_answered v i m failed (Jobs.handler_of i m failed x) x s (accepted_fetched spec x.world.history (participant_of x.world i) id m (participant_there spec last x.world i s.scripted) is)
@@ -217,19 +197,13 @@ module _ (spec : Spec) (valid : IsValid spec) (last : Last) where
         };
       }
 
-  pub unwritten_there : (i : InstanceId) (id : MsgId) (j : Job) (x : State) → Stands spec last x → Jobs.job_of i id x ≡ Some j → j.is_written ≡ false → can_write x.world.cluster j.message.session j.message.id ≡ false
-      → Stands spec last (Jobs.end_job j x)
-  unwritten_there i id j x s is unwritten can =
-      let h = job_there i id j x s is in
-      ended_there j x s h (write_dead x.world.cluster (kept_there x s) x.world.participants x.world.jobs j h unwritten can)
-
   keeps_written : (v : Voice) (o : Option Job) (i : InstanceId) (id : MsgId) (x : State) → Stands spec last x → Jobs.job_of i id x ≡ o → Keeps (Stands spec last) (Jobs.write_job v o x)
-  keeps_written v None i id x s is = keeps_note spec valid last v _ x s
+  keeps_written v None i id x s is = keeps_note (Stands spec last) (keeps_line spec valid last) v _ x s
   keeps_written v (Some j) i id x s is =
-      choice (Stands spec last) j.is_written _ _ (λ written. keeps_note spec valid last v _ x s)
-      (λ unwritten. choice (Stands spec last) (can_write x.world.cluster j.message.session j.message.id) _ _
-      (λ can. makes_then (Stands spec last) (events.Write j.message.session j.message.id j.outcome) x (λ z. done (Jobs.with_written j.instance j.message.id z)) (record { left = wrote_there i id j x s is can }))
-      (λ can. keeps_note spec valid last v notes.SessionEnded (Jobs.end_job j x) (unwritten_there i id j x s is unwritten can)))
+      let h = job_there i id j x s is in
+      keeps_call (Stands spec last) (keeps_line spec valid last) v j x j.is_written (can_write x.world.cluster j.message.session j.message.id) (events.Write j.message.session j.message.id j.outcome) (Jobs.with_written j.instance j.message.id) s
+      (λ unwritten can. wrote_there i id j x s is can)
+      (λ unwritten refused. ended_there j x s h (write_dead x.world.cluster (kept_there x s) x.world.participants x.world.jobs j h unwritten refused))
 
   -- acknowledgements
   pub acked_there : (i : InstanceId) (id : MsgId) (j : Job) (x : State) → Stands spec last x → Jobs.job_of i id x ≡ Some j → j.is_written ≡ true → can_ack x.world.cluster j.message.session j.message.id ≡ true
@@ -246,28 +220,16 @@ module _ (spec : Spec) (valid : IsValid spec) (last : Last) where
         };
       }
 
-  pub unacked_there : (i : InstanceId) (id : MsgId) (j : Job) (x : State) → Stands spec last x → Jobs.job_of i id x ≡ Some j → j.is_written ≡ true → can_ack x.world.cluster j.message.session j.message.id ≡ false
-      → Stands spec last (Jobs.end_job j x)
-  unacked_there i id j x s is written can =
-      let h = job_there i id j x s is in
-      ended_there j x s h (ack_dead x.world.cluster (kept_there x s) x.world.participants x.world.jobs j h written can)
-
   keeps_acked : (v : Voice) (o : Option Job) (i : InstanceId) (id : MsgId) (x : State) → Stands spec last x → Jobs.job_of i id x ≡ o → Keeps (Stands spec last) (Jobs.ack_job v o x)
-  keeps_acked v None i id x s is = keeps_note spec valid last v _ x s
+  keeps_acked v None i id x s is = keeps_note (Stands spec last) (keeps_line spec valid last) v _ x s
   keeps_acked v (Some j) i id x s is =
-      choice (Stands spec last) (not j.is_written) _ _ (λ unwritten. keeps_note spec valid last v _ x s)
-      (λ not_not. let written : j.is_written ≡ true = grind (arith, not_not) in choice (Stands spec last) (can_ack x.world.cluster j.message.session j.message.id) _ _
-      (λ can. makes_then (Stands spec last) (events.Ack j.message.session j.message.id) x (λ z. done (Jobs.end_job j z)) (record { left = acked_there i id j x s is written can }))
-      (λ can. keeps_note spec valid last v notes.SessionEnded (Jobs.end_job j x) (unacked_there i id j x s is written can)))
+      let h = job_there i id j x s is in
+      keeps_call (Stands spec last) (keeps_line spec valid last) v j x (not j.is_written) (can_ack x.world.cluster j.message.session j.message.id) (events.Ack j.message.session j.message.id) (Jobs.end_job j) s
+      (λ on can. acked_there i id j x s is (grind (arith, on)) can)
+      (λ on refused. ended_there j x s h (ack_dead x.world.cluster (kept_there x s) x.world.participants x.world.jobs j h (grind (arith, on)) refused))
 
   pub keeps_write : (v : Voice) (i : InstanceId) (id : MsgId) (x : State) → Stands spec last x → Keeps (Stands spec last) (Jobs.do_write v i id x)
   keeps_write v i id x s = keeps_written v _ i id x s refl
 
   pub keeps_ack : (v : Voice) (i : InstanceId) (id : MsgId) (x : State) → Stands spec last x → Keeps (Stands spec last) (Jobs.do_ack v i id x)
   keeps_ack v i id x s = keeps_acked v _ i id x s refl
-
-  pub keeps_carried : (i : InstanceId) (id : MsgId) (x : State) → Stands spec last x → Keeps (Stands spec last) (Jobs.carry i id x)
-  keeps_carried i id x s = keeps_then (Stands spec last) _ _ (keeps_write Quiet i id x s) (λ y there. keeps_ack Quiet i id y there)
-
-  pub keeps_message : (i : InstanceId) (m : Message) (x : State) → Stands spec last x → Keeps (Stands spec last) (Jobs.run_message i m x)
-  keeps_message i m x s = keeps_then (Stands spec last) _ _ (keeps_taken Quiet i m.id _ x s refl) (λ y there. keeps_carried i m.id y there)

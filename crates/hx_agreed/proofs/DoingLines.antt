@@ -1,57 +1,41 @@
 -- What lines of a script do keeps a world in step.
-use Rattle.std.proofs.Common.{◌≡◌, ℕ, zero, suc, ◌+◌, ◌<◌, ◌≤◌, ◌==◌, Bool, true, false, List, [], ◌∷◌, ◌++◌, map, length, refl, sym, ap, ◌∙◌, subst, arith}
-use Rattle.std.specs.Prelude.{Option, None, Some, nat_lt, if◌then◌else◌}
+use Rattle.std.proofs.Common.{◌≡◌, ℕ, ◌+◌, ◌<◌, ◌≤◌, ◌==◌, Bool, true, false, List, [], ◌∷◌, length, refl, sym, ap, ◌∙◌, subst, arith}
+use Rattle.std.specs.Prelude.{Option, None, Some, if◌then◌else◌}
 use Rattle.std.specs.List.{list_any, list_all}
 use Rattle.std.specs.Option.{option_map}
 use Rattle.std.proofs.lemmas.Bool.Decides.{nat_tests}
 use Rattle.hx_lists.specs.Lists.{count}
 use Rattle.hx_ids.specs.declared.InstanceId.{InstanceId}
-use Rattle.hx_ids.specs.declared.ControllerId.{ControllerId}
 use Rattle.hx_ids.specs.declared.SessionId.{SessionId}
 use Rattle.hx_ids.specs.declared.MsgId.{MsgId}
-use Rattle.hx_ids.specs.declared.ResourceId.{ResourceId}
-use Rattle.hx_ids.specs.declared.StateId.{StateId}
 use Rattle.hx_ids.specs.declared.Live.{Live}
 use Rattle.hx_cluster.specs.declared.description.Spec.{Spec}
 use Rattle.hx_cluster.specs.declared.state.Message.{Message}
 use Rattle.hx_cluster.specs.declared.state.Cluster.{Cluster}
-use Rattle.hx_cluster.specs.declared.planning.Report.{Report}
 use Rattle.hx_cluster.specs.declared.happenings.Admin.{Admin}
 use Rattle.hx_cluster.specs.declared.happenings.Admin.TheVariants as steps
 use Rattle.hx_cluster.specs.declared.happenings.Did.TheVariants as dids
 use Rattle.hx_cluster.specs.declared.happenings.Event.{Event}
 use Rattle.hx_cluster.specs.declared.happenings.Event.TheVariants as events
 use Rattle.hx_cluster.specs.declared.happenings.Mail.{Mail}
-use Rattle.hx_cluster.specs.declared.happenings.StepFault.{StepFault}
-use Rattle.hx_cluster.specs.Ends.{shown_of}
-use Rattle.hx_cluster.specs.Steps.{opening, refusal_of, did_of, has_instance, is_in_range, session_of}
-use Rattle.hx_cluster.specs.Reads.{instance_before, live_shown, messages_for, fetched}
-use Rattle.hx_cluster.specs.Events.{replay, is_later}
+use Rattle.hx_cluster.specs.Steps.{refusal_of, did_of, has_instance, is_in_range, session_of}
+use Rattle.hx_cluster.specs.Reads.{messages_for, fetched}
+use Rattle.hx_cluster.specs.Events.{is_later}
 use Rattle.hx_cluster.specs.Valid.{IsValid}
-use Rattle.hx_print.specs.Texts.{view_line, view_of_part, viewed_parts}
 use Rattle.hx_replicas.specs.declared.DeliverFault.{DeliverFault}
 use Rattle.hx_replicas.specs.Participants.{deliver_fault, accept}
-use Rattle.hx_script.specs.declared.What.{What}
-use Rattle.hx_script.specs.declared.What.TheVariants as asks
 use Rattle.hx_script.specs.declared.Line.{Line}
-use Rattle.hx_script.specs.Asked.{step_asked}
 use Rattle.hx_script.specs.Ranges as Ranges
-use Rattle.hx_control.specs.declared.PassOutcome.{PassOutcome}
-use Rattle.hx_control.specs.declared.PassOutcome.TheVariants as ends
 use Rattle.hx_worlds.specs.World.{State, participant_of, with_participant}
-use Rattle.hx_worlds.specs.declared.Settled.{Settled}
 use Rattle.hx_worlds.specs.declared.Voice.{Voice}
 use Rattle.hx_worlds.specs.declared.Voice.TheVariants.{Quiet, Loud}
-use Rattle.hx_worlds.specs.Runs.{Run, Deed, state_of, done, gives, and_then, happened, for_each}
+use Rattle.hx_worlds.specs.Runs.{Deed, state_of, done, and_then, happened, for_each}
 use Rattle.hx_worlds.specs.Jobs
 use Rattle.hx_worlds.specs.Settles
 use Rattle.hx_worlds.specs.Scripts
-use Rattle.hx_safe.proofs.Counting.{and-first, and-second, all-map, all-le, all-find}
-use Rattle.hx_safe.proofs.Whole.{length-replicate}
-use Rattle.hx_covers.proofs.Sorting.{all-sort}
-use Rattle.hx_scripted.proofs.Lines.{step-line}
-use Rattle.hx_scripted.proofs.Asked.{IsAskedWell, instance_there, asked_well}
-use Rattle.hx_scripted.proofs.Taking.{adopted_there, history_kept, bagged_there, fetch_fetched, accepted_there}
+use Rattle.hx_safe.proofs.Counting.{and-first, and-second, all-find}
+use Rattle.hx_scripted.proofs.Asked.{instance_there, asked_well}
+use Rattle.hx_scripted.proofs.Taking.{adopted_there, history_kept, bagged_there, accepted_there}
 use Rattle.hx_cluster.specs.Ends.{is_live, message_of}
 use Rattle.hx_cluster.specs.Steps.{is_of, live_of, ended_of}
 use Rattle.hx_cluster.specs.Messages.{is_same}
@@ -63,21 +47,18 @@ use Rattle.hx_safe.proofs.Kept.{IsKept}
 use Rattle.hx_runs.proofs.Calming.{same_self}
 use Rattle.hx_runs.proofs.On.{other-live}
 use Rattle.hx_scripted.specs.OfHistory.{is_fetched, IsOfItsHistory}
-use Rattle.hx_scripted.proofs.Standing.{Last, at_line, since, ranged_there, fixed_there, scripted_other, scripted_since}
-use Rattle.hx_scripted.proofs.Keeping.{Keeps, keeps_on, keeps_then, keeps_each, keeps_those, keeps_gives, keeps_more, keeps_after}
+use Rattle.hx_scripted.proofs.Standing.{Last, at_line, since, fixed_there, scripted_since}
+use Rattle.hx_scripted.proofs.Keeping.{Keeps, keeps_more, keeps_after, happens, happens_then, done_then}
+use Rattle.hx_scripted.proofs.Walking.{StepsKeep, keeps_note, keeps_loud, settle_keeps, what_keeps}
+use Rattle.hx_scripted.proofs.DoingLines as Scripted
+use Rattle.hx_scripted.proofs.DoingLines.{fetched_history, mail_fetched, live_instances}
 use Rattle.hx_agreed.specs.InStep.{Each, of_instance, IsInBag, IsInStep}
 use Rattle.hx_agreed.proofs.Quiet.{back-without}
 use Rattle.hx_agreed.proofs.Replicas.{accept_in_step}
 use Rattle.hx_agreed.proofs.Fetching.{cluster_left, all_put_in_step, all_in_bag, bagged_now, adopt_world_in_step, mail_found}
-use Rattle.hx_agreed.proofs.Going.{whole_there, happens, happens_then, done_then, each-find, board_happens}
-use Rattle.hx_agreed.proofs.DoingTurns.{Stands, keeps_line, keeps_note, keeps_loud, keeps_entries, keeps_begin, keeps_pass, keeps_unasked, keeps_word, keeps_read}
-use Rattle.hx_agreed.proofs.Doing.{keeps_taken, keeps_write, keeps_ack, keeps_carried, keeps_message}
-
--- a fetch leaves the history, and the cluster, as they are
-pub fetched_history : (is_same : Bool) (i : InstanceId) (mail : Mail) (x : State)
-    → (Jobs.bagged mail.messages (if is_same then x else Jobs.adopt_in i mail.session x)).world.history ≡ x.world.history
-fetched_history true i mail x = refl
-fetched_history false i mail x = history_kept (Jobs.jobs_of i x) x
+use Rattle.hx_agreed.proofs.Going.{whole_there, each-find, board_happens}
+use Rattle.hx_agreed.proofs.DoingTurns.{Stands, idle_there, keeps_line, keeps_step}
+use Rattle.hx_agreed.proofs.Doing.{keeps_taken, keeps_write, keeps_ack}
 
 -- messages that are pending, as they are, and that the bag has
 abbrev pub AreFound : Cluster → List Message → Type 0
@@ -177,17 +158,9 @@ module _ (spec : Spec) (valid : IsValid spec) (last : Last) where
       let c = x.world.cluster in
       let e : Event = events.Fetch i (session_of c i) (length (messages_for c (session_of c i))) in
       record {
-        scripted = scripted_other spec last last.line x.world e (happened e x).world.weight s.scripted (instance_there spec c i (fixed_there spec last x.world s.scripted) there, refl, refl) tt s.scripted.line (λ k. refl);
+        scripted = Scripted.fetch_happens spec valid last i x there s.scripted;
         in_step = board_happens spec valid last e x s (instance_there spec c i (fixed_there spec last x.world s.scripted) there, refl, refl) refl room;
       }
-
-  pub mail_fetched : (i : InstanceId) (x : State) → Stands spec last x
-      → list_all (is_fetched spec (x.world.history ++ events.Fetch i (session_of x.world.cluster i) (length (messages_for x.world.cluster (session_of x.world.cluster i))) ∷ []))
-      (messages_for x.world.cluster (session_of x.world.cluster i)) ≡ true
-  mail_fetched i x s =
-      subst (λ (c : Cluster). list_all (is_fetched spec (x.world.history ++ events.Fetch i (session_of c i) (length (messages_for c (session_of c i))) ∷ [])) (messages_for c (session_of c i)) ≡ true)
-      (sym s.scripted.of.cluster)
-      (let c = replay (opening spec) x.world.history in fetch_fetched spec x.world.history i (session_of c i) (length (messages_for c (session_of c i))))
 
   pub fetched_now : (i : InstanceId) (x : State) → Ranges.has_instance spec i ≡ true → Stands spec last x
       → x.world.weight + weight_of (events.Fetch i (session_of x.world.cluster i) (length (messages_for x.world.cluster (session_of x.world.cluster i)))) ≤ x.world.limit
@@ -195,7 +168,7 @@ module _ (spec : Spec) (valid : IsValid spec) (last : Last) where
   fetched_now i x there s room =
       let c = x.world.cluster in
       let y = happened (events.Fetch i (session_of c i) (length (messages_for c (session_of c i)))) x in
-      mail_taken (Jobs.same_session (participant_of y.world i).session (session_of c i)) i (fetched x.world.cluster i) y there refl refl (fetch_happens i x there s room) (mail_fetched i x s) (mail_found c (kept_now x s) (session_of c i))
+      mail_taken (Jobs.same_session (participant_of y.world i).session (session_of c i)) i (fetched x.world.cluster i) y there refl refl (fetch_happens i x there s room) (mail_fetched spec valid last i x s.scripted) (mail_found c (kept_now x s) (session_of c i))
 
   pub fetched_there : (i : InstanceId) (x : State) → Ranges.has_instance spec i ≡ true → Stands spec last x
       → x.world.weight + weight_of (events.Fetch i (session_of x.world.cluster i) (length (messages_for x.world.cluster (session_of x.world.cluster i)))) ≤ x.world.limit
@@ -212,7 +185,7 @@ module _ (spec : Spec) (valid : IsValid spec) (last : Last) where
       let b = Jobs.same_session (participant_of y.world i).session mail.session in
       done_then (Stands spec last) e x (λ y. Jobs.fetched_as i mail y) g s
       (λ room. next (Jobs.fetched_as i mail y) (fetched_now i x there s room)
-      (subst (λ (h : List Event). list_all (is_fetched spec h) mail.messages ≡ true) (sym (fetched_history b i mail y)) (mail_fetched i x s)))
+      (subst (λ (h : List Event). list_all (is_fetched spec h) mail.messages ≡ true) (sym (fetched_history b i mail y)) (mail_fetched spec valid last i x s.scripted)))
 
   pub fetch_done : (i : InstanceId) (x : State) → Ranges.has_instance spec i ≡ true → Stands spec last x → Keeps (Stands spec last) (Jobs.do_fetch i x)
   fetch_done i x there s =
@@ -234,9 +207,9 @@ module _ (spec : Spec) (valid : IsValid spec) (last : Last) where
 
   pub delivered : (v : Voice) (i : InstanceId) (m : Message) (f : Option DeliverFault) (x : State) → deliver_fault (participant_of x.world i) m ≡ f → Stands spec last x → is_fetched spec x.world.history m ≡ true
       → IsInBag x.world.cluster x.world.participants m → list_any (is_same m) x.world.bag ≡ true → Keeps (Stands spec last) (Jobs.delivered v i m f x)
-  delivered v i m (Some f) x e s is its there = keeps_note spec valid last v _ x s
+  delivered v i m (Some f) x e s is its there = keeps_note (Stands spec last) (keeps_line spec valid last) v _ x s
   delivered v i m None x e s is its there =
-      keeps_loud spec valid last v 1 _ (with_participant i (accept (participant_of x.world i) m) x) (accepted_now i m x s is e its there)
+      keeps_loud (Stands spec last) (keeps_line spec valid last) v 1 _ (with_participant i (accept (participant_of x.world i) m) x) (accepted_now i m x s is e its there)
 
   pub accepted_from_bag : (i : InstanceId) (id : MsgId) (m : Message) (x : State) → Stands spec last x → Jobs.in_bag id x ≡ Some m → deliver_fault (participant_of x.world i) m ≡ None
       → Stands spec last (with_participant i (accept (participant_of x.world i) m) x)
@@ -245,7 +218,7 @@ module _ (spec : Spec) (valid : IsValid spec) (last : Last) where
       (each-find (IsInBag x.world.cluster x.world.participants) (λ m. m.id.0 == id.0) x.world.bag m s.in_step.parts.bagged is) (find-any (λ m. m.id.0 == id.0) (is_same m) x.world.bag m is (same_self m))
 
   pub from_bag : (v : Voice) (i : InstanceId) (id : MsgId) (o : Option Message) (x : State) → Stands spec last x → Jobs.in_bag id x ≡ o → Keeps (Stands spec last) (Jobs.deliver_from_bag v i o x)
-  from_bag v i id None x s is = keeps_note spec valid last v _ x s
+  from_bag v i id None x s is = keeps_note (Stands spec last) (keeps_line spec valid last) v _ x s
   from_bag v i id (Some m) x s is =
       delivered v i m _ x refl s (all-find (is_fetched spec x.world.history) (λ m. m.id.0 == id.0) x.world.bag m s.scripted.of.bag is)
       (each-find (IsInBag x.world.cluster x.world.participants) (λ m. m.id.0 == id.0) x.world.bag m s.in_step.parts.bagged is) (find-any (λ m. m.id.0 == id.0) (is_same m) x.world.bag m is (same_self m))
@@ -268,77 +241,15 @@ module _ (spec : Spec) (valid : IsValid spec) (last : Last) where
       (λ y same there now. all_delivered i ms y there now
       (subst (λ (h : List Event). list_all (is_fetched spec h) ms ≡ true) (sym same) (and-second (is_fetched spec x.world.history m) (list_all (is_fetched spec x.world.history) ms) all)))
 
-  pub work_done : (i : InstanceId) (x : State) → Ranges.has_instance spec i ≡ true → Stands spec last x → Keeps (Stands spec last) (Jobs.do_work i x)
-  work_done i x there s =
-      keeps_then (Stands spec last) _ _
-      (keeps_each (Stands spec last) (λ j y. Jobs.carry i j.message.id y) (λ j y here. keeps_carried spec valid last i j.message.id y here) (Jobs.jobs_of i x) x s) (λ y here.
-      keeps_then (Stands spec last) _ _
-      (fetched_then i y (λ z. for_each (Jobs.deliver Quiet i) (fetched y.world.cluster i).messages z) there here (λ z now all. all_delivered i (fetched y.world.cluster i).messages z now.stands now.ready all))
-      (λ z now. keeps_each (Stands spec last) (Jobs.run_message i) (λ m u so. keeps_message spec valid last i m u so) _ z now))
-
-  -- settles
-  pub live_instances : (x : State) → Stands spec last x → list_all (Ranges.has_instance spec) (map (λ e. e.1) (live_shown x.world.cluster)) ≡ true
-  live_instances x s =
-      let c = x.world.cluster in
-      let instances : length c.instances ≡ length spec.instances = (fixed_there spec last x.world s.scripted).instances ∙ length-replicate (length spec.instances) false in
-      all-map (Ranges.has_instance spec) (λ (e : SessionId × InstanceId). e.1) (live_shown c)
-      ∙ all-sort (λ (e : SessionId × InstanceId). Ranges.has_instance spec e.1) instance_before (shown_of c.live)
-      ∙ all-map (λ (e : SessionId × InstanceId). Ranges.has_instance spec e.1) (λ (l : Live). (l.session, l.instance)) c.live
-      ∙ all-le (λ (l : Live). has_instance c l.instance) (λ (l : Live). Ranges.has_instance spec l.instance) (λ (l : Live) (is : has_instance c l.instance ≡ true). ap (nat_lt l.instance.0) (sym instances) ∙ is) c.live
-      (ranged_there spec last x.world valid s.scripted).live
-
-  all_worked : (x : State) → Stands spec last x → Keeps (Stands spec last) (Settles.work_all x)
-  all_worked x s = keeps_those (Stands spec last) (Ranges.has_instance spec) Jobs.do_work (λ i y there here. work_done i y there here) (map (λ e. e.1) (live_shown x.world.cluster)) x (live_instances x s) s
-
-  round_ended : (n : ℕ) (o : Option PassOutcome) (f : State → Run Settled) → ((x : State) → Stands spec last x → Keeps (Stands spec last) (f x)) → (x : State) → Stands spec last x
-      → Keeps (Stands spec last) (Settles.unless_settled n o f x)
-  round_ended n None f k x s = keeps_then (Stands spec last) _ _ (all_worked x s) k
-  round_ended n (Some (ends.Sent sent)) f k x s = keeps_then (Stands spec last) _ _ (all_worked x s) k
-  round_ended n (Some (ends.Waiting pending)) f k x s = keeps_then (Stands spec last) _ _ (all_worked x s) k
-  round_ended n (Some (ends.Moved from to)) f k x s = keeps_then (Stands spec last) _ _ (all_worked x s) k
-  round_ended n (Some (ends.Settled report)) f k x s = record { left = s }
-
-  rounds_made : (m : ℕ) (k : ControllerId) (n : ℕ) (x : State) → Stands spec last x → Keeps (Stands spec last) (Settles.rounds m k n x)
-  rounds_made zero k n x s = record { left = s }
-  rounds_made (suc m) k n x s =
-      keeps_on (Stands spec last) _ _ (keeps_pass spec valid last Quiet k x s) (λ o y there. round_ended (n + 1) o (λ z. Settles.rounds m k (n + 1) z) (λ z here. rounds_made m k (n + 1) z here) y there)
-
-  settled : (k : Option ControllerId) (x : State) → Stands spec last x → Keeps (Stands spec last) (Settles.settle_led k x)
-  settled None x s = record { left = s }
-  settled (Some k) x s =
-      keeps_on (Stands spec last) _ (λ o y. gives y (Some o)) (rounds_made (Settles.enough_rounds x.world.cluster) k 0 x s)
-      (λ o y there. keeps_gives (Stands spec last) y (Some o) there)
-
-  report_lines : (r : Option Report) (x : State) → Stands spec last x → Keeps (Stands spec last) (Settles.say_report r x)
-  report_lines None x s = record { left = s }
-  report_lines (Some report) x s = keeps_entries spec valid last report.entries x s
-
-  settle_told : (v : Voice) (k : Option ControllerId) (o : Option Settled) (x : State) → Stands spec last x → Keeps (Stands spec last) (Settles.tell_settle v k o x)
-  settle_told v None o x s = keeps_note spec valid last v _ x s
-  settle_told v (Some k) None x s = keeps_note spec valid last v _ x s
-  settle_told v (Some k) (Some o) x s = keeps_then (Stands spec last) _ _ (keeps_line spec valid last 1 _ x s) (λ y there. report_lines o.report y there)
-
-  pub settle_done : (v : Voice) (x : State) → Stands spec last x → Keeps (Stands spec last) (Settles.do_settle v x)
-  settle_done v x s = keeps_on (Stands spec last) _ _ (settled _ x s) (λ o y there. settle_told v x.world.cluster.leader o y there)
-
   -- steps
   pub step_happens : (step : Admin) (x : State) → is_in_range x.world.cluster step ≡ true → refusal_of x.world.cluster step ≡ None → Stands spec last x
       → x.world.weight + weight_of (events.Admin step (did_of x.world.cluster step)) ≤ x.world.limit → Stands spec last (happened (events.Admin step (did_of x.world.cluster step)) x)
   step_happens step x well is s room =
       let e : Event = events.Admin step (did_of x.world.cluster step) in
       record {
-        scripted = scripted_other spec last last.line x.world e (happened e x).world.weight s.scripted (well, is, refl) tt (step-line x.world.cluster step ∙ s.scripted.line) (λ k. refl);
+        scripted = Scripted.step_happens spec valid last step x well is s.scripted;
         in_step = board_happens spec valid last e x s (well, is, refl) refl room;
       }
-
-  pub stepped : (v : Voice) (step : Admin) (f : Option StepFault) (x : State) → refusal_of x.world.cluster step ≡ f → is_in_range x.world.cluster step ≡ true → Stands spec last x
-      → Keeps (Stands spec last) (Scripts.stepped v step f x)
-  stepped v step (Some f) x is well s = keeps_note spec valid last v _ x s
-  stepped v step None x is well s = happens (Stands spec last) (events.Admin step (did_of x.world.cluster step)) x s (step_happens step x well is s)
-
-  pub asked : (v : Voice) (step : Option Admin) (x : State) → IsAskedWell x.world.cluster step → Stands spec last x → Keeps (Stands spec last) (Scripts.do_asked v step x)
-  asked v None x well s = keeps_note spec valid last v _ x s
-  asked v (Some step) x well s = stepped v step _ x refl well s
 
   end_dead : (i : InstanceId) (x : State) → Stands spec last x → (y : State) → y.world.cluster ≡ ended_of x.world.cluster (live_of x.world.cluster.live i) → Stands spec last y
       → (s : SessionId) → (of_instance y.world.participants i).session ≡ Some s → is_live y.world.cluster.live s ≡ false
@@ -361,40 +272,27 @@ module _ (spec : Spec) (valid : IsValid spec) (last : Last) where
       never : (u : SessionId) → ◌≡◌ {A = Option SessionId} None (Some u) → ⊥
       never u e = (cc)
 
-  pub died : (v : Voice) (i : InstanceId) (f : Option StepFault) (x : State) → Ranges.has_instance spec i ≡ true → refusal_of x.world.cluster (steps.End i) ≡ f → is_in_range x.world.cluster (steps.End i) ≡ true → Stands spec last x
-      → Keeps (Stands spec last) (Scripts.died v i f x)
-  died v i (Some f) x there is well s = keeps_note spec valid last v _ x s
-  died v i None x there is well s =
-      happens_then (Stands spec last) (events.Admin (steps.End i) dids.Done) x (λ y. done (Jobs.adopt_in i None y)) s (λ room. record { left = died_there i x there is well s room })
-
-  pub view_done : (x : State) → Stands spec last x → Keeps (Stands spec last) (Scripts.do_view x)
-  view_done x s =
-      keeps_each (Stands spec last) (λ p y. Scripts.say_view_of p (view_of_part y.world.cluster p) y)
-      (λ p y there. keeps_line spec valid last (1 + length (view_of_part y.world.cluster p)) (view_line y.world.spec y.world.cluster.resources p (view_of_part y.world.cluster p)) y there)
-      (viewed_parts x.world.cluster) x s
-
-  pub routed : (v : Voice) (index : ℕ) (t : StateId) (r : Option ResourceId) (x : State) → Stands spec last x → Keeps (Stands spec last) (Scripts.route_on v index t r x)
-  routed v index t None x s = keeps_note spec valid last v _ x s
-  routed v index t (Some r) x s = keeps_line spec valid last _ _ x s
-
-  pub what_done : (v : Voice) (what : What) (x : State) → Ranges.is_in_range spec what ≡ true → Stands spec last x → Keeps (Stands spec last) (Scripts.do_what v what x)
-  what_done v (asks.Die i) x is s = died v i _ x is refl (instance_there spec x.world.cluster i (fixed_there spec last x.world s.scripted) is) s
-  what_done v (asks.Begin k) x is s = keeps_unasked spec valid last _ (keeps_begin spec valid last v k x s)
-  what_done v (asks.Read k kind) x is s = keeps_read spec valid last v k kind x s
-  what_done v (asks.Send k) x is s = keeps_word spec valid last v k _ x s
-  what_done v (asks.Post k) x is s = keeps_word spec valid last v k _ x s
-  what_done v (asks.Pass k) x is s = keeps_unasked spec valid last _ (keeps_pass spec valid last v k x s)
-  what_done v (asks.Fetch i) x is s = fetch_done i x is s
-  what_done v (asks.Deliver i id) x is s = from_bag v i id _ x s refl
-  what_done v (asks.Take i id) x is s = keeps_taken spec valid last v i id _ x s refl
-  what_done v (asks.Write i id) x is s = keeps_write spec valid last v i id x s
-  what_done v (asks.Ack i id) x is s = keeps_ack spec valid last v i id x s
-  what_done v (asks.Work i) x is s = work_done i x is s
-  what_done v asks.Settle x is s = settle_done v x s
-  what_done v asks.View x is s = view_done x s
-  what_done v (asks.Route name part state) x is s = routed v part state _ x s
-  what_done v asks.Summary x is s = keeps_line spec valid last 1 _ x s
-  what_done v what x is s = asked v (step_asked x.world.cluster what) x (asked_well spec x.world.cluster what valid (fixed_there spec last x.world s.scripted) is) s
+  -- so all steps of words keep it
+  pub keep : StepsKeep spec (Stands spec last)
+  keep = record {
+    said = keeps_line spec valid last;
+    idle = λ k x s. idle_there spec valid last k x s;
+    step = keeps_step spec valid last;
+    asked = λ what x is s. asked_well spec x.world.cluster what valid (fixed_there spec last x.world s.scripted) is;
+    happens = λ step x well is s. happens (Stands spec last) (events.Admin step (did_of x.world.cluster step)) x s (λ room. step_happens step x well is s room);
+    dies = λ i x there is s.
+        let well = instance_there spec x.world.cluster i (fixed_there spec last x.world s.scripted) there in
+        happens_then (Stands spec last) (events.Admin (steps.End i) dids.Done) x (λ y. done (Jobs.adopt_in i None y)) s (λ room. record { left = died_there i x there is well s room });
+    fetch = fetch_done;
+    deliver = λ v i id x s. from_bag v i id _ x s refl;
+    take = λ v i id x s. keeps_taken spec valid last v i id _ x s refl;
+    write = keeps_write spec valid last;
+    ack = keeps_ack spec valid last;
+    bring = λ i x there s.
+        fetched_then i x (λ z. for_each (Jobs.deliver Quiet i) (fetched x.world.cluster i).messages z) there s
+        (λ z now all. all_delivered i (fetched x.world.cluster i).messages z now.stands now.ready all);
+    live = λ x s. live_instances spec valid last x s.scripted;
+  }
 
 -- it holds of a state after some line
 pub record HasStood (spec : Spec) (x : State) : Type 0 where
@@ -407,7 +305,7 @@ line_happens spec valid last n x later s room =
     let e : Event = events.Line n in
     let step = ap (λ (o : Option ℕ). is_later o n) s.scripted.line ∙ later in
     record {
-      scripted = scripted_other spec last (Some n) x.world e (happened e x).world.weight s.scripted step tt refl (λ k. refl);
+      scripted = Scripted.line_happens spec last n x later s.scripted;
       in_step = board_happens spec valid last e x s step refl room;
     }
 
@@ -421,9 +319,9 @@ line_left spec l x valid of in_step next =
     let ranged = and-second (is_later x.world.cluster.line l.number) (Ranges.is_line_in_range spec l) next in
     (happens_then (HasStood spec) (events.Line l.number) x (λ y. Scripts.do_what (Loud l.number) l.what y) (record { last = last; stands = s })
     (λ room. keeps_more (Stands spec (since (Some l.number))) (HasStood spec) (Scripts.do_what (Loud l.number) l.what (happened (events.Line l.number) x))
-    (what_done spec valid (since (Some l.number)) (Loud l.number) l.what (happened (events.Line l.number) x) ranged (line_happens spec valid last l.number x later s room))
+    (what_keeps spec (Stands spec (since (Some l.number))) (keep spec valid (since (Some l.number))) (Loud l.number) l.what (happened (events.Line l.number) x) ranged (line_happens spec valid last l.number x later s room))
     (λ y there. record { last = since (Some l.number); stands = there }))).left.stands.in_step
 
 pub settle_left : (spec : Spec) (x : State) → IsValid spec → IsOfItsHistory spec x.world → IsInStep x.world → IsInStep (state_of (Settles.settle x)).world
 settle_left spec x valid of in_step =
-    (settled spec valid (since x.world.cluster.line) x.world.cluster.leader x (record { scripted = scripted_since spec x.world of; in_step = in_step })).left.in_step
+    (settle_keeps spec (Stands spec (since x.world.cluster.line)) (keep spec valid (since x.world.cluster.line)) x.world.cluster.leader x (record { scripted = scripted_since spec x.world of; in_step = in_step })).left.in_step

@@ -34,7 +34,7 @@ use Rattle.hx_agreed.proofs.Lists.{each-filter}
 use Rattle.hx_agreed.proofs.Slots.{part_sym, slot_in-other, distinct-put, is_mine}
 use Rattle.hx_agreed.proofs.Placed.{placed_busy}
 use Rattle.hx_agreed.proofs.Frames.{same_is, one_instance, found_live, message_gone, one_number, IsOutFor, job_out, job_mine}
-use Rattle.hx_agreed.proofs.Changes.{instance_same, is_replica, change_in_step}
+use Rattle.hx_agreed.proofs.Changes.{instance_same, is_replica, HasSameBoard, change_in_step}
 use Rattle.hx_agreed.proofs.Replicas.{here_put, others_put, with_session, out_other, one_bagged}
 
 pub count-filter_kept : {X : Type 0} (p k : X → Bool) → ((x : X) → p x ≡ true → k x ≡ true) → (xs : List X) → count p (filter k xs) ≡ count p xs
@@ -104,13 +104,13 @@ module _ (c d : Cluster) (ws : List Participant) (jobs : List Job) (bag : List M
       one y e true f = absurd (apart y e f)
       one y e false f = ap not f
 
-  pub finish_in_step : d.live ≡ c.live → d.next_session ≡ c.next_session → d.next_msg ≡ c.next_msg → d.models ≡ c.models → d.resources ≡ c.resources
+  pub finish_in_step : HasSameBoard c d
       → ((t : SessionId) (p : PartId) → state_of d.rows t p ≡ state_of c.rows t p)
       → ((t : SessionId) (p : PartId) → is_replica j.message.session j.message.part t p ≡ false → message_of d.mail t p ≡ message_of c.mail t p)
       → ((n : Message) → message_of d.mail j.message.session j.message.part ≡ Some n → ⊥)
       → (is_live c.live j.message.session ≡ true → j.is_written ≡ true)
       → AreInStep d (slice_set ws j.instance.0 (finish (of_instance ws j.instance) j.message (Some j.outcome) j.handler)) (filter (λ x. not (is_job j.instance j.message.id x)) jobs) bag
-  finish_in_step live sessions messages models resources rows mail gone written =
+  finish_in_step board rows mail gone written =
       change_in_step c d ws ws' jobs jobs' bag j.instance j.message.session j.message.part k a (record {
         others = others_put ws j.instance w';
         mine = mine;
@@ -118,27 +118,25 @@ module _ (c d : Cluster) (ws : List Participant) (jobs : List Job) (bag : List M
         active = active;
         distinct = subst (λ (p : Participant). AreDistinct (map (λ z. z.part) p.slots)) (sym here) (distinct-put (of_instance ws j.instance).slots y (a.each j.instance).distinct);
         slots = slots;
-        live = live;
-        sessions = sessions;
-        messages = messages;
-        models = models;
-        resources = resources;
-        rows = λ t p e. rows t p;
-        mail = mail;
-        lent = λ n m is_held other is. kept_lent m is_held n (λ z e f. let at = and-first (z.instance.0 == n.0) (z.message.id.0 == m.id.0) (and-first (is_job n m.id z) (is_same z.message m) (and-first _ _ e)) in
-            let by = and-first (z.instance.0 == j.instance.0) (z.message.id.0 == j.message.id.0) f in
-            absurd (let no : true ≡ false = grind (arith, nat_tests, at, by, other) in (cc))) is;
-        lent_here = λ p m is_held other its is. kept_lent m is_held j.instance (λ z e f. apart p m other its.of.part its.bagged z (and-first (is_job j.instance m.id z) (is_same z.message m) (and-first _ _ e)) f) is;
+        board = record {
+          same = board;
+          rows = λ t p e. rows t p;
+          mail = mail;
+          lent = λ n m is_held other is. kept_lent m is_held n (λ z e f. let at = and-first (z.instance.0 == n.0) (z.message.id.0 == m.id.0) (and-first (is_job n m.id z) (is_same z.message m) (and-first _ _ e)) in
+              let by = and-first (z.instance.0 == j.instance.0) (z.message.id.0 == j.message.id.0) f in
+              absurd (let no : true ≡ false = grind (arith, nat_tests, at, by, other) in (cc))) is;
+          lent_here = λ p m is_held other its is. kept_lent m is_held j.instance (λ z e f. apart p m other its.of.part its.bagged z (and-first (is_job j.instance m.id z) (is_same z.message m) (and-first _ _ e)) f) is;
+          before = λ n found. absurd (gone n found);
+          pending = λ b s q its p. inr (old b s q p);
+        };
         slot = subst (λ (z : Slot). HasSlot d bag jobs' j.instance (Some j.message.session) j.message.part z) (sym now) slot;
         row_here = λ alive idle. subst (λ (z : Slot). counts_as z (initial_of d j.message.part) ≡ standing_of d j.message.session j.message.part) (sym now) (stands alive);
         mail_here = λ alive n found. absurd (gone n found);
         last = subst (λ (z : Slot). nat_le (slot_of (of_instance ws j.instance) j.message.part).last.0 z.last.0 ≡ true) (sym now) (grind (arith, nat_tests));
-        before = λ n found. absurd (gone n found);
-        pending = λ b s q its p. inr (old b s q p);
         jobs_held = each-filter (IsHeldJob c ws jobs) (IsHeldJob d ws' jobs') (λ x. not (is_job j.instance j.message.id x)) (λ x other g. record {
           only = count-filter_kept (is_job x.instance x.message.id) (λ z. not (is_job j.instance j.message.id z)) (λ z e. kept x other z e (is_job j.instance j.message.id z) refl) jobs ∙ g.only;
           out = out_other ws ws' j.instance j.message.part x (others_put ws j.instance w') slots (never x other g) g.out;
-          taken = λ alive. let before = subst (λ (ls : List Live). is_live ls x.message.session ≡ true) live alive in taken x (other_replica x other g before) (g.taken before);
+          taken = λ alive. let before = subst (λ (ls : List Live). is_live ls x.message.session ≡ true) board.live alive in taken x (other_replica x other g before) (g.taken before);
         }) jobs a.held;
       })
     where
@@ -169,16 +167,16 @@ module _ (c d : Cluster) (ws : List Participant) (jobs : List Job) (bag : List M
           ∙ slot_in-other (of_instance ws j.instance).slots (brought (slot_of (of_instance ws j.instance) j.message.part) (end_of j.message (Some j.outcome)) j.handler) p (subst (λ (r : PartId). part_eq r p ≡ false) (sym (part-slot_in (of_instance ws j.instance).slots j.message.part)) other)
 
       part_still : (r : PartId) → has_part c r ≡ true → has_part d r ≡ true
-      part_still r e = ap (λ (rs : List Resource). nat_lt r.index (parts_of rs r.resource)) resources ∙ e
+      part_still r e = ap (λ (rs : List Resource). nat_lt r.index (parts_of rs r.resource)) board.resources ∙ e
 
       initial_still : (r : PartId) → initial_of d r ≡ initial_of c r
-      initial_still r = ap (λ (ms : List ModelParts). (model_of ms d.resources r.resource).initial) models ∙ ap (λ (rs : List Resource). (model_of c.models rs r.resource).initial) resources
+      initial_still r = ap (λ (ms : List ModelParts). (model_of ms d.resources r.resource).initial) board.models ∙ ap (λ (rs : List Resource). (model_of c.models rs r.resource).initial) board.resources
 
       slot : HasSlot d bag (filter (λ z. not (is_job j.instance j.message.id z)) jobs) j.instance (Some j.message.session) j.message.part (brought (slot_of (of_instance ws j.instance) j.message.part) (end_of j.message (Some j.outcome)) j.handler)
       slot =
           let old = active j.message.part in
           record {
-            last = ap (λ (n : ℕ). nat_lt (slot_of (of_instance ws j.instance) j.message.part).last.0 n) messages ∙ old.last;
+            last = ap (λ (n : ℕ). nat_lt (slot_of (of_instance ws j.instance) j.message.part).last.0 n) board.messages ∙ old.last;
             used = λ is. part_still j.message.part (old.used is);
             initial = λ t is. old.initial t is ∙ sym (initial_still j.message.part);
             there = λ is. part_still j.message.part (old.there is);
@@ -243,7 +241,7 @@ module _ (c d : Cluster) (ws : List Participant) (jobs : List Job) (bag : List M
 pub end_in_step : (c : Cluster) (ws : List Participant) (jobs : List Job) (bag : List Message) (k : IsKept c) (a : AreInStep c ws jobs bag) (j : Job) → IsHeldJob c ws jobs j → is_live c.live j.message.session ≡ false
     → AreInStep c (slice_set ws j.instance.0 (finish (of_instance ws j.instance) j.message (Some j.outcome) j.handler)) (filter (λ x. not (is_job j.instance j.message.id x)) jobs) bag
 end_in_step c ws jobs bag k a j h dead =
-    finish_in_step c c ws jobs bag k a j h refl refl refl refl refl (λ t p. refl) (λ t p e. refl)
+    finish_in_step c c ws jobs bag k a j h (record { live = refl; sessions = refl; messages = refl; models = refl; resources = refl }) (λ t p. refl) (λ t p e. refl)
     (λ n found. let none = message_gone c k j.message.session j.message.part dead in absurd (let no : ◌≡◌ {A = Option Message} None (Some n) = sym none ∙ found in (cc)))
     (λ live. absurd (let no : true ≡ false = sym live ∙ dead in (cc)))
 
@@ -290,7 +288,7 @@ pub ack_in_step : (c : Cluster) (ws : List Participant) (jobs : List Job) (bag :
     → AreInStep (after_ack c j.message.session j.message.id) (slice_set ws j.instance.0 (finish (of_instance ws j.instance) j.message (Some j.outcome) j.handler)) (filter (λ x. not (is_job j.instance j.message.id x)) jobs) bag
 ack_in_step c ws jobs bag k a j h written live =
     let t = h.taken live in
-    finish_in_step c (after_ack c j.message.session j.message.id) ws jobs bag k a j h refl refl refl refl refl (λ u p. refl) (λ u p other. elsewhere u p other t)
+    finish_in_step c (after_ack c j.message.session j.message.id) ws jobs bag k a j h (record { live = refl; sessions = refl; messages = refl; models = refl; resources = refl }) (λ u p. refl) (λ u p other. elsewhere u p other t)
     (ack_gone c.mail j.message.session j.message.id j.message.part t.now t.found (sym (same_is j.message t.now t.taken.same).id) (k.mail.single j.message.session j.message.part))
     (λ l. written)
   where

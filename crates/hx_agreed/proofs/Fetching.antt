@@ -30,7 +30,8 @@ use Rattle.hx_runs.proofs.Waiting.{any-le}
 use Rattle.hx_agreed.specs.InStep.{Each, of_instance, IsPending, is_lent_as, HasSlot, IsUntouched, IsStale, IsPlaced, IsHeldJob, IsOldIn, IsInBag, has_number, AreInStep, IsInStep}
 use Rattle.hx_agreed.proofs.Lists.{each-le, each-filter}
 use Rattle.hx_agreed.proofs.Slots.{distinct-put, distinct-emptied, slot-emptied, mine_is}
-use Rattle.hx_agreed.proofs.Frames.{same_both, new_known, found_pending, found_live, one_number, session_live, placed_like}
+use Rattle.hx_safe.proofs.Sessions.{session_live}
+use Rattle.hx_agreed.proofs.Frames.{same_both, new_known, found_pending, found_live, one_number, placed_like}
 use Rattle.hx_agreed.proofs.Quiet.{same_parts}
 use Rattle.hx_agreed.proofs.Changes.{instance_same}
 use Rattle.hx_agreed.proofs.Replicas.{here_put, others_put}

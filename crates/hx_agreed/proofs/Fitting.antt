@@ -1,7 +1,7 @@
 -- A message that is legal for a model without a fault makes sense.
-use Rattle.std.proofs.Common.{◌≡◌, ℕ, zero, suc, ◌<◌, ◌==◌, ◌&&◌, ◌||◌, not, Bool, true, false, List, [], ◌∷◌, length, position, Option, Some, None, refl, sym, ap, ◌∙◌, subst, arith}
+use Rattle.std.proofs.Common.{◌≡◌, ℕ, zero, suc, ◌==◌, ◌&&◌, ◌||◌, Bool, true, false, List, [], ◌∷◌, length, position, Option, Some, None, refl, sym, ap, ◌∙◌, subst, arith}
 use Rattle.std.specs.Prelude.{nat_lt, is_none, slice_get, slice_index_or}
-use Rattle.std.specs.List.{list_any, list_all, prefix_len}
+use Rattle.std.specs.List.{list_any, list_all}
 use Rattle.std.specs.Option.{option_or, option_map_or}
 use Rattle.std.proofs.lemmas.Bool.Decides.{nat_tests}
 use Rattle.hx_ids.specs.declared.StateId.{StateId}
@@ -10,7 +10,7 @@ use Rattle.hx_model.specs.declared.Bound.{Bound}
 use Rattle.hx_model.specs.declared.ModelFault.{ModelFault}
 use Rattle.hx_model.specs.declared.ModelFault.TheVariants.{Reserved}
 use Rattle.hx_model.specs.declared.ModelParts.{ModelParts}
-use Rattle.hx_model.specs.Faults.{fault_of, fault_at, too_many_states, reserved_state, is_reserved, reserved_transition}
+use Rattle.hx_model.specs.Faults.{fault_of, too_many_states, reserved_state, is_reserved, reserved_transition}
 use Rattle.hx_model.specs.Model.{is_legal, is_between}
 use Rattle.hx_model.proofs.Facts.{sound_facts}
 use Rattle.hx_cluster.specs.declared.description.Resource.{Resource}
@@ -23,26 +23,12 @@ use Rattle.hx_cluster.specs.Valid.{has_no_fault, has_good_ideal}
 use Rattle.hx_replicas.specs.Participants.{IsSound, IsLike}
 use Rattle.hx_safe.proofs.Counting.{and-first, and-second}
 use Rattle.hx_runs.proofs.Waiting.{any-le}
+use Rattle.hx_model.proofs.Places.{no_place, none_passes}
 
--- no place is found where none passes
+-- the first of two faults
 none_first : (a b : Option ModelFault) → option_or a b ≡ None → (a ≡ None) × (b ≡ None)
 none_first None b e = (refl, e)
 none_first (Some f) b e = cc
-
-no_place : (fault : ℕ → ModelFault) (place : Option ℕ) → fault_at fault place ≡ None → place ≡ None
-no_place fault None e = refl
-no_place fault (Some n) e = cc
-
-all_fail : {X : Type 0} (p : X → Bool) (xs : List X) → list_any p xs ≡ true → prefix_len (λ x. not (p x)) xs < length xs
-all_fail p [] e = cc
-all_fail p (x ∷ xs) e = grind (arith, e, all_fail p xs)
-
-none_passes : {X : Type 0} (p : X → Bool) (xs : List X) → position p xs ≡ None → list_any p xs ≡ false
-none_passes p xs e = one (list_any p xs) refl
-  where
-    one : (b : Bool) → list_any p xs ≡ b → b ≡ false
-    one true is = let low = all_fail p xs is in grind (arith, nat_tests, e, low)
-    one false is = refl
 
 -- a model without a fault lists neither ERROR nor DROPPED, nothing leads from them, and nothing to ERROR
 module _ (model : ModelParts) (e : fault_of model ≡ None) where

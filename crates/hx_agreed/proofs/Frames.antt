@@ -25,7 +25,7 @@ use Rattle.hx_replicas.specs.declared.slots.Work.TheVariants.{Idle, Accepted, Ou
 use Rattle.hx_replicas.specs.Participants.{Participant, Slot, slot_of, counts_as, state_for, is_session as is_mine}
 use Rattle.hx_worlds.specs.World.{Job}
 use Rattle.hx_worlds.specs.Agree.{is_below, is_known_at, is_accepted_as, is_out_as, is_exactly, is_lent_to, is_at_end}
-use Rattle.hx_safe.proofs.Counting.{and-first, and-second, and-both, find-passes, find-any, find-single, all-find}
+use Rattle.hx_safe.proofs.Counting.{and-first, and-second, and-both, find-passes, find-single, all-find}
 use Rattle.hx_safe.proofs.Ends.{same-self, session_same, part_same}
 use Rattle.hx_safe.proofs.Kept.{IsKept, number-below}
 use Rattle.hx_agreed.specs.InStep.{of_instance, IsUntaken, IsPending, is_lent_as, IsOutHere, Each, HasWork, HasSlot, IsAlong, IsUntouched, IsStale, IsPlaced, IsTakenBy, IsHeldJob, IsOldIn, IsInBag, AreInStep}
@@ -181,17 +181,7 @@ module _ (c : Cluster) (k : IsKept c) where
       one true is = let low = live_below s is in cc
       one false is = refl
 
--- the session of an instance is live
-pub session_live : (c : Cluster) (i : InstanceId) (s : SessionId) → session_of c i ≡ Some s → is_live c.live s ≡ true
-session_live c i s is = one (live_of c.live i) refl is
-  where
-    one : (o : Option Live) → live_of c.live i ≡ o → option_map (λ l. l.session) o ≡ Some s → is_live c.live s ≡ true
-    one None found e = cc
-    one (Some l) found e =
-        let same : l.session ≡ s = cc in
-        find-any (is_of i) (is_session s) c.live l found (subst (λ (u : SessionId). (l.session.0 == u.0) ≡ true) same (same-self l.session.0))
-
--- and it has one instance
+-- the session of an instance has one instance
 pub one_instance : (c : Cluster) → IsKept c → (i j : InstanceId) (s : SessionId) → session_of c i ≡ Some s → session_of c j ≡ Some s → (i.0 == j.0) ≡ true
 one_instance c k i j s a b = one (live_of c.live i) refl a (live_of c.live j) refl b
   where

@@ -1,5 +1,5 @@
 -- What a script begins with, and what lines and settles leave, agrees; and so do parts that are idle.
-use Rattle.std.proofs.Common.{◌≡◌, ℕ, zero, suc, ◌+◌, ◌<◌, ◌&&◌, ◌||◌, ◌==◌, not, Bool, true, false, List, [], ◌∷◌, map, length, inr, refl, sym, ap, subst, arith}
+use Rattle.std.proofs.Common.{◌≡◌, ℕ, zero, suc, ◌+◌, ◌<◌, ◌&&◌, ◌||◌, ◌==◌, not, Bool, true, false, List, [], ◌∷◌, map, length, inr, refl, sym, subst, arith}
 use Rattle.std.specs.Prelude.{slice_index_or, replicate, nat_lt, is_none}
 use Rattle.std.specs.List.{All, list_all}
 use Rattle.std.proofs.lemmas.List.Elements.{All-cons, All-nil, All-head, All-tail}
@@ -22,8 +22,7 @@ use Rattle.hx_worlds.specs.Scripts
 use Rattle.hx_worlds.specs.Agree
 use Rattle.hx_safe.proofs.Counting.{and-first, and-second, all-le, and-both}
 use Rattle.hx_safe.proofs.Whole.{length-replicate}
-use Rattle.hx_scripted.specs.OfHistory.{has_fetched, IsTurnOf, IsOfItsHistory}
-use Rattle.hx_scripted.proofs.Standing.{idle_there}
+use Rattle.hx_scripted.specs.OfHistory.{IsOfItsHistory}
 use Rattle.hx_scripted.proofs.DoingLines as Scripted
 use Rattle.hx_agreed.specs.InStep.{IsPlaced, IsInStep}
 use Rattle.hx_agreed.proofs.Placed.{idle_slot}
@@ -137,36 +136,12 @@ idle_listed : (a n : ℕ) → list_all (λ p. all_idle p.plain) (Agree.stationed
 idle_listed a zero = refl
 idle_listed a (suc n) = idle_listed (a + 1) n
 
-at_listed : (a n j k : ℕ) → k ≡ a + j → slice_index_or (map (λ i. idle_controller (record { 0 = i })) (numbers_from a n)) j (idle_controller (record { 0 = k })) ≡ idle_controller (record { 0 = k })
-at_listed a zero j k same = refl
-at_listed a (suc n) zero k same = let here : a ≡ k = omega arith in ap (λ (i : ℕ). idle_controller (record { 0 = i })) here
-at_listed a (suc n) (suc j) k same = at_listed (a + 1) n j k (omega arith)
-
-many_listed : (a n : ℕ) → length (map (λ i. idle_controller (record { 0 = i })) (numbers_from a n)) ≡ n
-many_listed a zero = refl
-many_listed a (suc n) = let more = many_listed (a + 1) n in omega arith
-
-none_accepted : (spec : Spec) (n : ℕ) → list_all (has_fetched spec []) (replicate n new_participant) ≡ true
-none_accepted spec zero = refl
-none_accepted spec (suc n) = none_accepted spec n
-
-opening_of : (spec : Spec) (limit : ℕ) → IsOfItsHistory spec (opening_world spec limit)
-opening_of spec limit = record {
-  given = refl;
-  legal = tt;
-  cluster = refl;
-  controllers = many_listed 0 spec.controllers;
-  turns = λ k. subst (IsTurnOf spec [] k) (sym (at_listed 0 spec.controllers k.0 k.0 (omega arith))) (idle_there spec [] k);
-  bag = refl;
-  accepted = none_accepted spec (length spec.instances);
-}
-
 pub openings : (spec : Spec) (limit : ℕ) → IsValid spec
     → (let w = opening_world spec limit in IsInStep w × Agree.IsKept w × Agree.Agree spec (Agree.board_of w) w.controllers (Agree.stationed_from 0 w.participants))
 openings spec limit valid =
     let w = opening_world spec limit in
     let s = opening_in_step spec limit in
-    let kept = in_step_kept spec w valid (opening_of spec limit) s in
+    let kept = in_step_kept spec w valid (Scripted.opening_of spec limit) s in
     (s, kept, idle_agree spec (Agree.board_of w) w.controllers (Agree.stationed_from 0 w.participants) w.jobs w.bag kept.agree (idle_turns 0 spec.controllers) (idle_listed 0 (length spec.instances)))
 
 -- lines and settles

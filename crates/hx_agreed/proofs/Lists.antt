@@ -1,13 +1,12 @@
 -- What holds of each item of a list, and participants at their places.
-use Rattle.std.proofs.Common.{◌≡◌, ℕ, zero, suc, ◌+◌, ◌<◌, ◌≤◌, ◌||◌, ◌==◌, not, Bool, true, false, List, [], ◌∷◌, ◌++◌, filter, map, find, length, Option, Some, None, ◌⊎◌, inl, inr, refl, ap, subst, arith}
+use Rattle.std.proofs.Common.{◌≡◌, ℕ, zero, suc, ◌+◌, ◌<◌, ◌||◌, ◌==◌, Bool, true, false, List, [], ◌∷◌, ◌++◌, filter, map, length, ◌⊎◌, inl, inr, refl, ap, subst, arith}
 use Rattle.std.specs.Prelude.{slice_set, slice_index_or}
 use Rattle.std.specs.List.{list_any, list_all, All}
 use Rattle.std.proofs.lemmas.Bool.Decides.{nat_tests}
 use Rattle.std.proofs.lemmas.List.Elements.{All-cons, All-nil}
-use Rattle.hx_lists.specs.Lists.{count}
 use Rattle.hx_replicas.specs.Participants.{Participant, new_participant}
 use Rattle.hx_worlds.specs.Agree.{Stationed, stationed_from}
-use Rattle.hx_safe.proofs.Counting.{and-both, find-passes, find-single, none-find}
+use Rattle.hx_safe.proofs.Counting.{and-both}
 use Rattle.hx_agreed.specs.InStep.{Each}
 
 pub each-le : {X : Type 0} (P Q : X → Type 0) → ((x : X) → P x → Q x) → (xs : List X) → Each P xs → Each Q xs
@@ -41,22 +40,6 @@ or-first false b e = cc
 pub or-second : (a b : Bool) → b ≡ true → (a || b) ≡ true
 or-second true b e = refl
 or-second false b e = e
-
--- a test that each item passes which is the first of its kind, where there is one of each kind
-all-or-none : {X : Type 0} (q : X → Bool) (xs : List X) → list_any (λ x. not (q x)) xs ≡ false → list_all q xs ≡ true
-all-or-none q [] e = refl
-all-or-none q (x ∷ xs) e = grind (arith, e, all-or-none q xs)
-
-pub all_found : {X : Type 0} (alike : X → X → Bool) (q : X → Bool) (xs : List X) → ((x : X) → alike x x ≡ true) → ((x : X) → count (alike x) xs ≤ 1)
-    → ((x : X) → find (alike x) xs ≡ Some x → q x ≡ true) → list_all q xs ≡ true
-all_found {X} alike q xs self most h = one (find (λ x. not (q x)) xs) refl
-  where
-    one : (o : Option X) → find (λ x. not (q x)) xs ≡ o → list_all q xs ≡ true
-    one None is = all-or-none q xs (none-find (λ x. not (q x)) xs is)
-    one (Some x) is =
-        let no : not (q x) ≡ true = find-passes (λ x. not (q x)) xs x is in
-        let yes : q x ≡ true = h x (find-single (λ x. not (q x)) (alike x) xs x is (self x) (most x)) in
-        grind (arith, no, yes)
 
 -- participants
 pub all_stationed : (P : Stationed → Type 0) (n : ℕ) (ws : List Participant)

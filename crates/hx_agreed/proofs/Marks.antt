@@ -3,6 +3,7 @@ use Rattle.std.proofs.Common.{◌≡◌, ℕ, ◌&&◌, ◌==◌, Bool, true, fa
 use Rattle.std.specs.Prelude.{is_some, is_none, nat_le, slice_set, if◌then◌else◌}
 use Rattle.std.specs.List.{list_any}
 use Rattle.std.specs.Option.{option_map}
+use Rattle.std.proofs.lemmas.Bool.{cond_both}
 use Rattle.std.proofs.lemmas.Bool.Decides.{nat_tests}
 use Rattle.hx_lists.specs.Lists.{count}
 use Rattle.hx_ids.specs.declared.InstanceId.{InstanceId}
@@ -37,7 +38,7 @@ use Rattle.hx_agreed.proofs.Lent.{exactly_self}
 use Rattle.hx_agreed.proofs.Slots.{slot-found, slot_in-other, distinct-put}
 use Rattle.hx_agreed.proofs.Placed.{placed_work, placed_busy}
 use Rattle.hx_agreed.proofs.Frames.{same_is, same_sym, same_both, found_pending, one_number, job_out}
-use Rattle.hx_agreed.proofs.Changes.{is_replica, WasPending, change_in_step}
+use Rattle.hx_agreed.proofs.Changes.{is_replica, WasPending, board_stays, change_in_step}
 use Rattle.hx_agreed.proofs.Replicas.{here_put, others_put, with_session, out_other, never_here, one_bagged}
 use Rattle.hx_agreed.proofs.Ending.{mine, replica}
 
@@ -79,33 +80,17 @@ marked f u p h (m ∷ mail) = one (is_message u p m) refl (marked f u p h mail)
     one true e more = rw (h m, e) refl
     one false e more = rw (h m, e) more
 
-taken_message : (s : SessionId) (id : MsgId) (u : SessionId) (p : PartId) (m : Message) → is_message u p (as_taken s id m) ≡ is_message u p m
-taken_message s id u p m = one (has_id s id m)
-  where
-    one : (b : Bool) → is_message u p (if b then record m { taken = true } else m) ≡ is_message u p m
-    one true = refl
-    one false = refl
+pub taken_message : (s : SessionId) (id : MsgId) (u : SessionId) (p : PartId) (m : Message) → is_message u p (as_taken s id m) ≡ is_message u p m
+taken_message s id u p m = cond_both (has_id s id m) (record m { taken = true }) m (λ (x : Message). is_message u p x ≡ is_message u p m) (λ e. refl) (λ e. refl)
 
 taken_same : (s : SessionId) (id : MsgId) (m : Message) → is_same m (as_taken s id m) ≡ true
-taken_same s id m = one (has_id s id m)
-  where
-    one : (b : Bool) → is_same m (if b then record m { taken = true } else m) ≡ true
-    one true = same_self m
-    one false = same_self m
+taken_same s id m = cond_both (has_id s id m) (record m { taken = true }) m (λ (x : Message). is_same m x ≡ true) (λ e. same_self m) (λ e. same_self m)
 
 pub written_message : (s : SessionId) (id : MsgId) (u : SessionId) (p : PartId) (m : Message) → is_message u p (as_written s id m) ≡ is_message u p m
-written_message s id u p m = one (has_id s id m)
-  where
-    one : (b : Bool) → is_message u p (if b then record m { written = true } else m) ≡ is_message u p m
-    one true = refl
-    one false = refl
+written_message s id u p m = cond_both (has_id s id m) (record m { written = true }) m (λ (x : Message). is_message u p x ≡ is_message u p m) (λ e. refl) (λ e. refl)
 
 pub written_same : (s : SessionId) (id : MsgId) (m : Message) → is_same m (as_written s id m) ≡ true
-written_same s id m = one (has_id s id m)
-  where
-    one : (b : Bool) → is_same m (if b then record m { written = true } else m) ≡ true
-    one true = same_self m
-    one false = same_self m
+written_same s id m = cond_both (has_id s id m) (record m { written = true }) m (λ (x : Message). is_same m x ≡ true) (λ e. same_self m) (λ e. same_self m)
 
 option_some : (f : Message → Message) (o : Option Message) (n : Message) → option_map f o ≡ Some n → (m : Message) × (o ≡ Some m) × (f m ≡ n)
 option_some f None n e = cc
@@ -121,19 +106,19 @@ module _ (c : Cluster) (k : IsKept c) (s : SessionId) (id : MsgId) (q : PartId) 
       let two : is_message s q n ≡ true = subst (λ (m : Message). is_message s q m ≡ true) (sym same) (find-passes (is_message s q) c.mail now found) in
       sym (replica n u p s q one two) ∙ other
 
-  pub taken_elsewhere : (u : SessionId) (p : PartId) → is_replica s q u p ≡ false → message_of (map (as_taken s id) c.mail) u p ≡ message_of c.mail u p
-  taken_elsewhere u p other = marked (as_taken s id) u p (taken_message s id u p) c.mail ∙ one (message_of c.mail u p) refl
+  marked_elsewhere : (f : Message → Message) (u : SessionId) (p : PartId) → ((m : Message) → is_message u p (if has_id s id m then f m else m) ≡ is_message u p m) → is_replica s q u p ≡ false
+      → message_of (map (λ m. if has_id s id m then f m else m) c.mail) u p ≡ message_of c.mail u p
+  marked_elsewhere f u p same other = marked (λ m. if has_id s id m then f m else m) u p same c.mail ∙ one (message_of c.mail u p) refl
     where
-      one : (o : Option Message) → message_of c.mail u p ≡ o → option_map (as_taken s id) o ≡ o
+      one : (o : Option Message) → message_of c.mail u p ≡ o → option_map (λ m. if has_id s id m then f m else m) o ≡ o
       one None is = refl
       one (Some n) is = let e = unmarked u p other n is (has_id s id n) refl in rw e refl
 
+  pub taken_elsewhere : (u : SessionId) (p : PartId) → is_replica s q u p ≡ false → message_of (map (as_taken s id) c.mail) u p ≡ message_of c.mail u p
+  taken_elsewhere u p other = marked_elsewhere (λ m. record m { taken = true }) u p (taken_message s id u p) other
+
   pub written_elsewhere : (u : SessionId) (p : PartId) → is_replica s q u p ≡ false → message_of (map (as_written s id) c.mail) u p ≡ message_of c.mail u p
-  written_elsewhere u p other = marked (as_written s id) u p (written_message s id u p) c.mail ∙ one (message_of c.mail u p) refl
-    where
-      one : (o : Option Message) → message_of c.mail u p ≡ o → option_map (as_written s id) o ≡ o
-      one None is = refl
-      one (Some n) is = let e = unmarked u p other n is (has_id s id n) refl in rw e refl
+  written_elsewhere u p other = marked_elsewhere (λ m. record m { written = true }) u p (written_message s id u p) other
 
   mine_found : now.session ≡ s
   mine_found = session_same now.session s (and-first (now.session.0 == s.0) (part_eq now.part q) (find-passes (is_message s q) c.mail now found))
@@ -172,15 +157,19 @@ was_written c s id u p n is =
     let x = option_some (as_written s id) (message_of c.mail u p) n (sym (marked (as_written s id) u p (written_message s id u p) c.mail) ∙ is) in
     record { before = x.0; found = x.1; same = subst (λ (m : Message). is_same x.0 m ≡ true) x.2 (written_same s id x.0) }
 
--- a take that nothing refuses is of a live session
-pub take_live : (c : Cluster) (s : SessionId) (id : MsgId) → can_take c s id ≡ true → is_live c.live s ≡ true
-take_live c s id can = one (is_live c.live s) refl can
-  where
-    one : (b : Bool) → is_live c.live s ≡ b → is_none (if b then take_fault (pending_of c s id) else Some takes.SessionEnded) ≡ true → b ≡ true
-    one true e f = refl
-    one false e f = cc
+-- what nothing refuses is of a live session, and it is refused only where the session isn't live
+pub live_by : {F : Type 0} (live : Bool) (fault : Option F) (ended : F) → is_none (if live then fault else Some ended) ≡ true → live ≡ true
+live_by true fault ended e = refl
+live_by false fault ended e = cc
 
--- and it is refused only where the session isn't live
+pub dead_by : {F : Type 0} (live : Bool) (fault : Option F) (ended : F) → (live ≡ true → is_none fault ≡ true) → is_none (if live then fault else Some ended) ≡ false → live ≡ false
+dead_by true fault ended none e = let both = sym (none refl) ∙ e in cc
+dead_by false fault ended none e = refl
+
+-- a take that nothing refuses
+pub take_live : (c : Cluster) (s : SessionId) (id : MsgId) → can_take c s id ≡ true → is_live c.live s ≡ true
+take_live c s id can = live_by (is_live c.live s) (take_fault (pending_of c s id)) takes.SessionEnded can
+
 taken_by_none : (m : Message) → m.taken ≡ false → is_none (take_fault (Some m)) ≡ true
 taken_by_none m e = rw e refl
 
@@ -220,20 +209,13 @@ module _ (c : Cluster) (ws : List Participant) (jobs : List Job) (bag : List Mes
   active = placed_busy c bag jobs i (of_instance ws i) (a.each i) m.part (ap is_idle work)
 
   pub refused_dead : can_take c m.session m.id ≡ false → is_live c.live m.session ≡ false
-  refused_dead refused = one (is_live c.live m.session) refl
+  refused_dead refused = dead_by (is_live c.live m.session) (take_fault (pending_of c m.session m.id)) takes.SessionEnded none refused
     where
-      one : (b : Bool) → is_live c.live m.session ≡ b → b ≡ false
-      one false e = refl
-      one true e =
-          let u = accepted_here.waits e in
+      none : is_live c.live m.session ≡ true → is_none (take_fault (pending_of c m.session m.id)) ≡ true
+      none live =
+          let u = accepted_here.waits live in
           let same = same_is m u.now u.same in
-          let can : can_take c m.session m.id ≡ true = three e u.now (pending_found c k m.session m.id m.part u.now u.found (sym same.id)) u.untaken in
-          absurd (let z : true ≡ false = sym can ∙ refused in (cc))
-        where
-          three : is_live c.live m.session ≡ true → (n : Message) → pending_of c m.session m.id ≡ Some n → n.taken ≡ false → can_take c m.session m.id ≡ true
-          three live n pending untaken =
-              ap (λ (b : Bool). is_none (if b then take_fault (pending_of c m.session m.id) else Some takes.SessionEnded)) live
-              ∙ ap (λ (o : Option Message). is_none (take_fault o)) pending ∙ taken_by_none n untaken
+          ap (λ (o : Option Message). is_none (take_fault o)) (pending_found c k m.session m.id m.part u.now u.found (sym same.id)) ∙ taken_by_none u.now u.untaken
 
   not_out : is_out (slot_of (of_instance ws i) m.part).work ≡ false
   not_out = ap is_out work
@@ -265,15 +247,19 @@ module _ (c : Cluster) (ws : List Participant) (jobs : List Job) (bag : List Mes
         distinct = subst (λ (p : Participant). AreDistinct (map (λ z. z.part) p.slots)) (sym here)
             (subst (λ (xs : List Slot). AreDistinct (map (λ z. z.part) xs)) (sym (slots-hand_out (of_instance ws i) m failed)) (distinct-put (of_instance ws i).slots (y failed) (a.each i).distinct));
         slots = slots failed;
-        live = refl;
-        sessions = refl;
-        messages = refl;
-        models = refl;
-        resources = refl;
-        rows = λ t p e. refl;
-        mail = λ t p e. taken_elsewhere c k m.session m.id m.part u.now u.found (sym (same_is m u.now u.same).id) t p e;
-        lent = λ n x h e is. any-append (is_lent_as n x h) jobs (job ∷ []) ∙ or-first _ _ is;
-        lent_here = λ p x h e f is. any-append (is_lent_as i x h) jobs (job ∷ []) ∙ or-first _ _ is;
+        board = record {
+          same = record { live = refl; sessions = refl; messages = refl; models = refl; resources = refl };
+          rows = λ t p e. refl;
+          mail = λ t p e. taken_elsewhere c k m.session m.id m.part u.now u.found (sym (same_is m u.now u.same).id) t p e;
+          lent = λ n x h e is. any-append (is_lent_as n x h) jobs (job ∷ []) ∙ or-first _ _ is;
+          lent_here = λ p x h e f is. any-append (is_lent_as i x h) jobs (job ∷ []) ∙ or-first _ _ is;
+          before = λ n found. was_taken c m.session m.id m.session m.part n found;
+          pending = λ b s q its p. inl (record {
+            now = as_taken m.session m.id p.now;
+            found = marked (as_taken m.session m.id) b.session b.part (taken_message m.session m.id b.session b.part) c.mail ∙ ap (option_map (as_taken m.session m.id)) p.found;
+            same = same_both b p.now (as_taken m.session m.id p.now) p.same (taken_same m.session m.id p.now);
+          });
+        };
         slot = subst (λ (z : Slot). HasSlot d bag (jobs ++ job ∷ []) i (Some m.session) m.part z) (sym now) (record {
           last = (active m.part).last;
           used = (active m.part).used;
@@ -288,12 +274,6 @@ module _ (c : Cluster) (ws : List Participant) (jobs : List Job) (bag : List Mes
         row_here = λ live idle. absurd (let out : is_out (slot_of (of_instance ws' i) m.part).work ≡ true = ap (λ (z : Slot). is_out z.work) now in let no : true ≡ false = sym out ∙ idle in (cc));
         mail_here = λ live n found. subst (λ (z : Slot). is_known_at z n ≡ true) (sym now) (or-second _ (is_same n m) (let e = some_is (record u.now { taken = true }) n (sym now_taken ∙ found) in subst (λ (x : Message). is_same x m ≡ true) e (same_sym m u.now u.same)));
         last = subst (λ (z : Slot). nat_le (slot_of (of_instance ws i) m.part).last.0 z.last.0 ≡ true) (sym now) (grind (arith, nat_tests));
-        before = λ n found. was_taken c m.session m.id m.session m.part n found;
-        pending = λ b s q its p. inl (record {
-          now = as_taken m.session m.id p.now;
-          found = marked (as_taken m.session m.id) b.session b.part (taken_message m.session m.id b.session b.part) c.mail ∙ ap (option_map (as_taken m.session m.id)) p.found;
-          same = same_both b p.now (as_taken m.session m.id p.now) p.same (taken_same m.session m.id p.now);
-        });
         jobs_held = each-append (IsHeldJob d ws' (jobs ++ job ∷ [])) jobs job (each-le (IsHeldJob c ws jobs) (IsHeldJob d ws' (jobs ++ job ∷ [])) old jobs a.held) new;
       })
     where
@@ -417,15 +397,7 @@ module _ (c : Cluster) (ws : List Participant) (jobs : List Job) (bag : List Mes
             (subst (λ (xs : List Slot). AreDistinct (map (λ z. z.part) xs)) (sym (slots-hand_out (of_instance ws i) m failed))
             (distinct-put (of_instance ws i).slots (emptied_for (made_ready (slot_of (of_instance ws i) m.part) m failed) m) (a.each i).distinct))));
         slots = slots;
-        live = refl;
-        sessions = refl;
-        messages = refl;
-        models = refl;
-        resources = refl;
-        rows = λ t p e. refl;
-        mail = λ t p e. refl;
-        lent = λ n x h e is. is;
-        lent_here = λ p x h e f is. is;
+        board = board_stays c ws ws2 jobs bag i m.session m.part;
         slot = subst (λ (z : Slot). HasSlot c bag jobs i (Some m.session) m.part z) (sym now) (record {
           last = (active m.part).last;
           used = (active m.part).used;
@@ -436,8 +408,6 @@ module _ (c : Cluster) (ws : List Participant) (jobs : List Job) (bag : List Mes
         row_here = λ live idle. absurd (never live);
         mail_here = λ live n found. absurd (never live);
         last = subst (λ (z : Slot). nat_le (slot_of (of_instance ws i) m.part).last.0 z.last.0 ≡ true) (sym now) (grind (arith, nat_tests));
-        before = λ n found. record { before = n; found = found; same = same_self n };
-        pending = λ b s q its p. inl p;
         jobs_held = each-le (IsHeldJob c ws jobs) (IsHeldJob c ws2 jobs)
             (λ x g. record {
               only = g.only;

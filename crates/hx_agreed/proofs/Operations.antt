@@ -42,7 +42,7 @@ use Rattle.hx_runs.proofs.Calming.{same_self}
 use Rattle.hx_runs.proofs.Waiting.{any-le}
 use Rattle.hx_scripted.specs.OfHistory.{IsOfItsHistory}
 use Rattle.hx_scripted.proofs.Standing.{Last, at_line, since, ranged_there, fixed_there, scripted_since}
-use Rattle.hx_scripted.proofs.Keeping.{Keeps}
+use Rattle.hx_scripted.proofs.Keeping.{Keeps, happens}
 use Rattle.hx_agreed.specs.InStep.{Each, of_instance, is_lent_as, HasWork, IsHeldJob, IsInBag, IsInStep}
 use Rattle.hx_agreed.proofs.Lists.{each-le, each-filter}
 use Rattle.hx_agreed.proofs.Slots.{all_slots, slot_in-other}
@@ -52,11 +52,13 @@ use Rattle.hx_agreed.proofs.Frames.{same_is}
 use Rattle.hx_agreed.proofs.Changes.{instance_same}
 use Rattle.hx_agreed.proofs.Replicas.{here_put, others_put}
 use Rattle.hx_agreed.proofs.Fetching.{any-sort, of_instance_all, distinct_left}
-use Rattle.hx_agreed.proofs.Going.{happens, each-find}
+use Rattle.hx_agreed.proofs.Going.{each-find}
 use Rattle.hx_agreed.proofs.Fitting.{sound_message, like_all, part_model}
-use Rattle.hx_agreed.proofs.DoingTurns.{Stands, idle_there, keeps_line, keeps_note, keeps_loud, keeps_step}
+use Rattle.hx_scripted.proofs.Walking as Walking
+use Rattle.hx_scripted.proofs.Walking.{keeps_note, keeps_loud}
+use Rattle.hx_agreed.proofs.DoingTurns.{Stands, idle_there, keeps_line, keeps_step}
 use Rattle.hx_agreed.proofs.Doing.{keeps_taken, keeps_write, keeps_ack}
-use Rattle.hx_agreed.proofs.DoingLines.{HasStood, line_happens, in_range_now, kept_now, fetch_happens, fetch_done, from_bag, stepped, died}
+use Rattle.hx_agreed.proofs.DoingLines.{HasStood, line_happens, in_range_now, kept_now, fetch_happens, fetch_done, from_bag, keep}
 
 -- a world of its history that is in step stands, at its last line
 pub stands_there : (spec : Spec) (x : State) → IsOfItsHistory spec x.world → IsInStep x.world → Stands spec (since x.world.cluster.line) x
@@ -192,10 +194,10 @@ module _ (spec : Spec) (valid : IsValid spec) (last : Last) where
   say_keeps charge text x s = keeps_line spec valid last charge text x s
 
   pub note_keeps : (v : Voice) (n : Note) (x : State) → Stands spec last x → Keeps (Stands spec last) (note v n x)
-  note_keeps v n x s = keeps_note spec valid last v n x s
+  note_keeps v n x s = keeps_note (Stands spec last) (keeps_line spec valid last) v n x s
 
   pub loud_keeps : (v : Voice) (charge : ℕ) (text : List ℕ) (x : State) → Stands spec last x → Keeps (Stands spec last) (say_if_loud v charge text x)
-  loud_keeps v charge text x s = keeps_loud spec valid last v charge text x s
+  loud_keeps v charge text x s = keeps_loud (Stands spec last) (keeps_line spec valid last) v charge text x s
 
   -- lines that are taken
   pub line_stands : (n : ℕ) (x : State) → Stands spec last x → is_later last.line n ≡ true → x.world.weight + weight_of (events.Line n) ≤ x.world.limit → Stands spec (at_line last (Some n)) (happened (events.Line n) x)
@@ -222,10 +224,10 @@ module _ (spec : Spec) (valid : IsValid spec) (last : Last) where
 
   -- steps of the cluster
   pub step_keeps : (v : Voice) (step : Admin) (x : State) → Stands spec last x → is_in_range x.world.cluster step ≡ true → Keeps (Stands spec last) (Scripts.do_step v step x)
-  step_keeps v step x s well = stepped spec valid last v step (refusal_of x.world.cluster step) x refl well s
+  step_keeps v step x s well = Walking.step_keeps spec (Stands spec last) (keep spec valid last) v step (refusal_of x.world.cluster step) x refl well s
 
   pub die_keeps : (v : Voice) (i : InstanceId) (x : State) → Stands spec last x → has_instance x.world.cluster i ≡ true → Keeps (Stands spec last) (Scripts.do_die v i x)
-  die_keeps v i x s there = died spec valid last v i _ x (ranged_instance i x s there) refl there s
+  die_keeps v i x s there = Walking.die_keeps spec (Stands spec last) (keep spec valid last) v i _ x (ranged_instance i x s there) refl s
 
   -- messages come
   pub fetch_stands : (i : InstanceId) (x : State) → Stands spec last x → has_instance x.world.cluster i ≡ true

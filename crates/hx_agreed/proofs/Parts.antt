@@ -25,7 +25,8 @@ use Rattle.hx_agreed.specs.OfParts.{IsOrderly}
 use Rattle.hx_agreed.proofs.Lists.{in_range}
 use Rattle.hx_agreed.proofs.Slots.{mine_is}
 use Rattle.hx_agreed.proofs.Placed.{idle_slot, idle_is}
-use Rattle.hx_agreed.proofs.Frames.{new_known, found_session, found_part, session_live, one_instance}
+use Rattle.hx_safe.proofs.Sessions.{session_live}
+use Rattle.hx_agreed.proofs.Frames.{new_known, found_session, found_part, one_instance}
 use Rattle.hx_agreed.proofs.Changes.{instance_same}
 use Rattle.hx_agreed.proofs.Replicas.{with_session}
 use Rattle.hx_agreed.proofs.Sent.{AreSent, found_sent}

@@ -26,7 +26,8 @@ use Rattle.hx_runs.proofs.Fronts.{front-get}
 use Rattle.hx_runs.proofs.On.{other-live}
 use Rattle.hx_agreed.specs.InStep.{of_instance, IsPending, IsUntouched, IsHeldJob, IsOldIn, IsInBag, IsSent, AreInStep}
 use Rattle.hx_agreed.proofs.Lists.{each-le}
-use Rattle.hx_agreed.proofs.Frames.{IsLike, HasParts, initial_like, pending_like, untouched_like, taken_like, row_gone, message_gone, found_live, found_pending, not_live_above, session_live, placed_like, job_mine, mine_below, in_bag_like}
+use Rattle.hx_safe.proofs.Sessions.{session_live}
+use Rattle.hx_agreed.proofs.Frames.{IsLike, HasParts, initial_like, pending_like, untouched_like, taken_like, row_gone, message_gone, found_live, found_pending, not_live_above, placed_like, job_mine, mine_below, in_bag_like}
 
 -- parts stay where resources are added at the end alone
 pub on_parts : (c d : Cluster) → IsOn c d → HasParts c d

@@ -25,14 +25,13 @@ use Rattle.hx_worlds.specs.Agree.{is_known_at, is_accepted_as, is_out_as, is_len
 use Rattle.hx_safe.proofs.Counting.{and-both}
 use Rattle.hx_safe.proofs.Ends.{same-self, part_same}
 use Rattle.hx_safe.proofs.Kept.{IsKept}
-use Rattle.hx_runs.proofs.Calming.{same_self}
 use Rattle.hx_runs.proofs.Waiting.{any-one, any-single}
 use Rattle.hx_agreed.specs.InStep.{of_instance, IsUntaken, IsPending, HasSlot, IsHeldJob, IsOldIn, IsInBag, has_number, AreInStep}
 use Rattle.hx_agreed.proofs.Lists.{each-le, or-first, in_range, put_here, put_other}
 use Rattle.hx_agreed.proofs.Slots.{slot_in-other, distinct-put, is_mine, mine_is}
 use Rattle.hx_agreed.proofs.Placed.{placed_named}
 use Rattle.hx_agreed.proofs.Frames.{same_is, same_sym, same_both, one_instance}
-use Rattle.hx_agreed.proofs.Changes.{instance_same, change_in_step}
+use Rattle.hx_agreed.proofs.Changes.{instance_same, board_stays, change_in_step}
 
 -- a participant that is put
 pub here_put : (ws : List Participant) (i : InstanceId) (y : Participant) → i.0 < length ws → of_instance (slice_set ws i.0 y) i ≡ y
@@ -159,15 +158,7 @@ module _ (c : Cluster) (ws : List Participant) (jobs : List Job) (bag : List Mes
     active = placed_named c bag jobs i w (a.each i) m (is_mine w.session m.session ok.mine) bagged;
     distinct = subst (λ (p : Participant). AreDistinct (map (λ y. y.part) p.slots)) (sym here) (distinct-put w.slots y (a.each i).distinct);
     slots = slots;
-    live = refl;
-    sessions = refl;
-    messages = refl;
-    models = refl;
-    resources = refl;
-    rows = λ t p e. refl;
-    mail = λ t p e. refl;
-    lent = λ j n is_held e is. is;
-    lent_here = λ p n is_held e f is. is;
+    board = board_stays c ws ws' jobs bag i m.session m.part;
     slot = subst (λ (z : Slot). HasSlot c bag jobs i (Some m.session) m.part z) (sym now) (record {
       last = b.id;
       used = λ is. b.part;
@@ -178,8 +169,6 @@ module _ (c : Cluster) (ws : List Participant) (jobs : List Job) (bag : List Mes
     row_here = λ live out. subst (λ (z : Slot). counts_as z (initial_of c m.part) ≡ standing_of c m.session m.part) (sym now) (stands live);
     mail_here = λ live n found. subst (λ (z : Slot). is_known_at z n ≡ true) (sym now) (known live n found);
     last = subst (λ (z : Slot). nat_le x.last.0 z.last.0 ≡ true) (sym now) (let f = ok.above in grind (arith, nat_tests, f));
-    before = λ n found. record { before = n; found = found; same = same_self n };
-    pending = λ n e f its p. inl p;
     jobs_held = each-le (IsHeldJob c ws jobs) (IsHeldJob c ws' jobs) (λ j h. record { only = h.only; out = out_other ws ws' i m.part j (others_put ws i w') slots (never_here ws i m.part j (ap is_out ok.idle) h.out) h.out; taken = h.taken }) jobs a.held;
   })
     where

@@ -69,13 +69,7 @@ sent_placed c q s (placings.Sent id) is =
           ∙ and-both (list_all (is_sent d) c.mail) (list_all (is_sent d) (message_from c id q ∷ [])) s.all
           (and-both (is_sent d (message_from c id q)) true (and-both (nat_lt 0 id.0) ((initial_of c q.part).0 == (initial_of c q.part).0) low (same-self (initial_of c q.part).0)) refl);
     }
-sent_placed c q s placings.Ended is = s
-sent_placed c q s placings.ResourceDropped is = s
-sent_placed c q s (placings.Busy id) is = s
-sent_placed c q s (placings.WrongFrom has) is = s
-sent_placed c q s placings.Illegal is = s
-sent_placed c q s (placings.OverBound n limit) is = s
-sent_placed c q s (placings.OverThrottle n load limit) is = s
+sent_placed c q s _ is = s
 
 sent_event : (c : Cluster) (e : Event) → IsKept c → AreSent c → IsStep c e → AreSent (next c e)
 sent_event c (events.Dispatch n epoch pass qs answer) k s step =

@@ -12,7 +12,7 @@ use Rattle.hx_replicas.proofs.Putting.{put-step, find-step}
 use Rattle.hx_lists.specs.Lists.{count}
 use Rattle.hx_safe.proofs.Counting.{count-none, find-single}
 use Rattle.hx_safe.proofs.Ends.{same-self, session_same}
-use Rattle.hx_agreed.proofs.Lists.{all_found}
+use Rattle.hx_safe.proofs.Counting.{all_found}
 
 abbrev pub parts_in : List Slot → List PartId
 parts_in xs = map (λ x. x.part) xs

@@ -189,15 +189,19 @@ module _ (c : Cluster) (ws : List Participant) (jobs : List Job) (bag : List Mes
         active = active;
         distinct = (a.each j.instance).distinct;
         slots = λ p e. refl;
-        live = refl;
-        sessions = refl;
-        messages = refl;
-        models = refl;
-        resources = refl;
-        rows = rows_written;
-        mail = written_elsewhere c k j.message.session j.message.id j.message.part t.now t.found (sym same.id);
-        lent = λ n m is_held e is. lent_marked j.instance n j.message.id m is_held jobs is;
-        lent_here = λ p m is_held e f is. lent_marked j.instance j.instance j.message.id m is_held jobs is;
+        board = record {
+          same = record { live = refl; sessions = refl; messages = refl; models = refl; resources = refl };
+          rows = rows_written;
+          mail = written_elsewhere c k j.message.session j.message.id j.message.part t.now t.found (sym same.id);
+          lent = λ n m is_held e is. lent_marked j.instance n j.message.id m is_held jobs is;
+          lent_here = λ p m is_held e f is. lent_marked j.instance j.instance j.message.id m is_held jobs is;
+          before = λ n found. was_written c j.message.session j.message.id j.message.session j.message.part n found;
+          pending = λ b s q its p. inl (record {
+            now = as_written j.message.session j.message.id p.now;
+            found = marked (as_written j.message.session j.message.id) b.session b.part (written_message j.message.session j.message.id b.session b.part) c.mail ∙ ap (option_map (as_written j.message.session j.message.id)) p.found;
+            same = same_both b p.now (as_written j.message.session j.message.id p.now) p.same (written_same j.message.session j.message.id p.now);
+          });
+        };
         slot = record {
           last = (active j.message.part).last;
           used = (active j.message.part).used;
@@ -210,12 +214,6 @@ module _ (c : Cluster) (ws : List Participant) (jobs : List Job) (bag : List Mes
             (let e = some_is (record t.now { written = true }) n (sym (written_now c k j.message.session j.message.id j.message.part t.now t.found (sym same.id)) ∙ found) in
             subst (λ (x : Message). is_same x out.message ≡ true) e (same_both t.now j.message out.message (same_sym j.message t.now t.taken.same) out.same));
         last = grind (arith, nat_tests);
-        before = λ n found. was_written c j.message.session j.message.id j.message.session j.message.part n found;
-        pending = λ b s q its p. inl (record {
-          now = as_written j.message.session j.message.id p.now;
-          found = marked (as_written j.message.session j.message.id) b.session b.part (written_message j.message.session j.message.id b.session b.part) c.mail ∙ ap (option_map (as_written j.message.session j.message.id)) p.found;
-          same = same_both b p.now (as_written j.message.session j.message.id p.now) p.same (written_same j.message.session j.message.id p.now);
-        });
         jobs_held = each-map (λ x. IsHeldJob c ws jobs x × (is_job j.instance j.message.id x ≡ true → x ≡ j))
             (IsHeldJob (written_of c j.message.session j.message.id j.outcome (Some t.now)) ws (map (as_written_job j.instance j.message.id) jobs)) (as_written_job j.instance j.message.id)
             (λ x g. job_held x g.0 g.1 (is_job j.instance j.message.id x) refl) jobs

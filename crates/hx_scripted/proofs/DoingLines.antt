@@ -4,23 +4,18 @@ use Rattle.std.specs.Prelude.{Option, None, Some, not, nat_lt, if◌then◌else�
 use Rattle.std.specs.List.{list_all}
 use Rattle.hx_lists.specs.Lists.{numbers_from}
 use Rattle.hx_ids.specs.declared.InstanceId.{InstanceId}
-use Rattle.hx_ids.specs.declared.ControllerId.{ControllerId}
 use Rattle.hx_ids.specs.declared.SessionId.{SessionId}
 use Rattle.hx_ids.specs.declared.MsgId.{MsgId}
-use Rattle.hx_ids.specs.declared.ResourceId.{ResourceId}
-use Rattle.hx_ids.specs.declared.StateId.{StateId}
 use Rattle.hx_ids.specs.declared.Live.{Live}
 use Rattle.hx_cluster.specs.declared.description.Spec.{Spec}
 use Rattle.hx_cluster.specs.declared.state.Message.{Message}
 use Rattle.hx_cluster.specs.declared.state.Cluster.{Cluster}
-use Rattle.hx_cluster.specs.declared.planning.Report.{Report}
 use Rattle.hx_cluster.specs.declared.happenings.Admin.{Admin}
 use Rattle.hx_cluster.specs.declared.happenings.Admin.TheVariants as steps
 use Rattle.hx_cluster.specs.declared.happenings.Did.TheVariants as dids
 use Rattle.hx_cluster.specs.declared.happenings.Event.{Event}
 use Rattle.hx_cluster.specs.declared.happenings.Event.TheVariants as events
 use Rattle.hx_cluster.specs.declared.happenings.Mail.{Mail}
-use Rattle.hx_cluster.specs.declared.happenings.StepFault.{StepFault}
 use Rattle.hx_cluster.specs.Ends.{shown_of}
 use Rattle.hx_cluster.specs.Steps.{opening, refusal_of, did_of, has_instance, is_in_range, session_of}
 use Rattle.hx_cluster.specs.Reads.{instance_before, live_shown, messages_for, fetched}
@@ -28,24 +23,17 @@ use Rattle.hx_cluster.specs.Events.{replay, is_later, can_take, can_write, can_a
 use Rattle.hx_cluster.specs.Weight.{weight_of}
 use Rattle.hx_cluster.specs.Valid.{IsValid}
 use Rattle.hx_pass.specs.Lawful.{IsProperAlong, IsLawful}
-use Rattle.hx_print.specs.declared.Note.TheVariants as notes
-use Rattle.hx_print.specs.Texts.{view_line, view_of_part, viewed_parts}
 use Rattle.hx_replicas.specs.declared.DeliverFault.{DeliverFault}
 use Rattle.hx_replicas.specs.Participants.{new_participant, slot_of, deliver_fault, accept, accepted_by, makes, hand_out}
 use Rattle.hx_script.specs.declared.What.{What}
-use Rattle.hx_script.specs.declared.What.TheVariants as asks
 use Rattle.hx_script.specs.declared.Line.{Line}
-use Rattle.hx_script.specs.Asked.{step_asked}
 use Rattle.hx_script.specs.Ranges as Ranges
-use Rattle.hx_control.specs.declared.PassOutcome.{PassOutcome}
-use Rattle.hx_control.specs.declared.PassOutcome.TheVariants as ends
 use Rattle.hx_control.specs.Controllers.{idle_controller}
-use Rattle.hx_worlds.specs.World.{State, Job, participant_of, with_participant}
-use Rattle.hx_worlds.specs.declared.Settled.{Settled}
+use Rattle.hx_worlds.specs.World.{State, Job, opening_world, participant_of, with_participant}
 use Rattle.hx_worlds.specs.declared.Voice.{Voice}
 use Rattle.hx_worlds.specs.declared.Voice.TheVariants.{Quiet, Loud}
 use Rattle.hx_worlds.specs.Items.{Item, Happens}
-use Rattle.hx_worlds.specs.Runs.{Run, Deed, GoesOn, Stops, state_of, done, gives, and_then, happened, make, for_each}
+use Rattle.hx_worlds.specs.Runs.{Deed, GoesOn, Stops, state_of, done, and_then, happened, make, happen, for_each}
 use Rattle.hx_worlds.specs.Jobs
 use Rattle.hx_worlds.specs.Settles
 use Rattle.hx_worlds.specs.Scripts
@@ -58,13 +46,15 @@ use Rattle.hx_lawful.proofs.Holding.{holds_of_lawful}
 use Rattle.hx_scripted.specs.OfHistory.{is_fetched, has_fetched, IsTurnOf, IsOfItsHistory}
 use Rattle.hx_scripted.proofs.Standing.{Last, at_line, since, ranged_there, fixed_there, idle_there, scripted_other, scripted_since}
 use Rattle.hx_scripted.proofs.Lines.{step-line, write-line}
-use Rattle.hx_scripted.proofs.Asked.{IsAskedWell, instance_there, asked_well}
-use Rattle.hx_scripted.proofs.Keeping.{Keeps, keeps_on, keeps_then, keeps_each, keeps_those, keeps_gives, keeps_more, keeps_after, happens, happens_then, makes_then, done_then, line_then, choice}
+use Rattle.hx_scripted.proofs.Asked.{instance_there, asked_well}
+use Rattle.hx_scripted.proofs.Keeping.{Keeps, keeps_then, keeps_more, keeps_after, happens, happens_then, makes_then, done_then, line_then, choice}
+use Rattle.hx_scripted.proofs.Stepping.{fault_there}
 use Rattle.hx_scripted.proofs.Taking.{jobs_there, job_ended, adopted_there, history_kept, bagged_there, fetch_fetched, handed_there, put_back_there, accepted_there, accepted_fetched, participant_there}
-use Rattle.hx_scripted.proofs.DoingTurns.{Stands, keeps_line, keeps_note, keeps_loud, keeps_entries, keeps_begin, keeps_pass, keeps_unasked, keeps_word, keeps_read}
+use Rattle.hx_scripted.proofs.Walking.{StepsKeep, keeps_note, keeps_call, keeps_loud, view_said, settle_keeps, what_keeps}
+use Rattle.hx_scripted.proofs.DoingTurns.{Stands, keeps_line, keeps_step}
 
 -- a fetch leaves the history as it is
-fetched_history : (is_same : Bool) (i : InstanceId) (mail : Mail) (x : State)
+pub fetched_history : (is_same : Bool) (i : InstanceId) (mail : Mail) (x : State)
     → (Jobs.bagged mail.messages (if is_same then x else Jobs.adopt_in i mail.session x)).world.history ≡ x.world.history
 fetched_history true i mail x = refl
 fetched_history false i mail x = history_kept (Jobs.jobs_of i x) x
@@ -78,14 +68,14 @@ module _ (spec : Spec) (valid : IsValid spec) (last : Last) where
       bagged_there spec last mail.messages (Jobs.adopt_in i mail.session x) (adopted_there spec last i mail.session x s)
       (subst (λ (h : List Event). list_all (is_fetched spec h) mail.messages ≡ true) (sym (history_kept (Jobs.jobs_of i x) x)) all)
 
-  fetch_happens : (i : InstanceId) (x : State) → Ranges.has_instance spec i ≡ true → Stands spec last x
+  pub fetch_happens : (i : InstanceId) (x : State) → Ranges.has_instance spec i ≡ true → Stands spec last x
       → Stands spec last (happened (events.Fetch i (session_of x.world.cluster i) (length (messages_for x.world.cluster (session_of x.world.cluster i)))) x)
   fetch_happens i x there s =
       let c = x.world.cluster in
       let e : Event = events.Fetch i (session_of c i) (length (messages_for c (session_of c i))) in
       scripted_other spec last last.line x.world e (happened e x).world.weight s (instance_there spec c i (fixed_there spec last x.world s) there, refl, refl) tt s.line (λ k. refl)
 
-  mail_fetched : (i : InstanceId) (x : State) → Stands spec last x
+  pub mail_fetched : (i : InstanceId) (x : State) → Stands spec last x
       → list_all (is_fetched spec (x.world.history ++ events.Fetch i (session_of x.world.cluster i) (length (messages_for x.world.cluster (session_of x.world.cluster i))) ∷ []))
       (messages_for x.world.cluster (session_of x.world.cluster i)) ≡ true
   mail_fetched i x s =
@@ -103,7 +93,7 @@ module _ (spec : Spec) (valid : IsValid spec) (last : Last) where
       let b = Jobs.same_session (participant_of y.world i).session mail.session in
       let all = mail_fetched i x s in
       done_then (Stands spec last) e x (λ y. Jobs.fetched_as i mail y) g s
-      (next (Jobs.fetched_as i mail y) (mail_taken b i mail y (fetch_happens i x there s) all)
+      (λ room. next (Jobs.fetched_as i mail y) (mail_taken b i mail y (fetch_happens i x there s) all)
       (subst (λ (h : List Event). list_all (is_fetched spec h) mail.messages ≡ true) (sym (fetched_history b i mail y)) all))
 
   fetch_done : (i : InstanceId) (x : State) → Ranges.has_instance spec i ≡ true → Stands spec last x → Keeps (Stands spec last) (Jobs.do_fetch i x)
@@ -112,17 +102,17 @@ module _ (spec : Spec) (valid : IsValid spec) (last : Last) where
       let e : Event = events.Fetch i mail.session (length mail.messages) in
       let y = happened e x in
       happens_then (Stands spec last) e x (λ y. done (Jobs.fetched_as i mail y)) s
-      (record { left = mail_taken (Jobs.same_session (participant_of y.world i).session mail.session) i mail y (fetch_happens i x there s) (mail_fetched i x s) })
+      (λ room. record { left = mail_taken (Jobs.same_session (participant_of y.world i).session mail.session) i mail y (fetch_happens i x there s) (mail_fetched i x s) })
 
   -- deliveries
   delivered : (v : Voice) (i : InstanceId) (m : Message) (f : Option DeliverFault) (x : State) → Stands spec last x → is_fetched spec x.world.history m ≡ true
       → Keeps (Stands spec last) (Jobs.delivered v i m f x)
-  delivered v i m (Some f) x s is = keeps_note spec valid last v _ x s
+  delivered v i m (Some f) x s is = keeps_note (Stands spec last) (keeps_line spec valid last) v _ x s
   delivered v i m None x s is =
-      keeps_loud spec valid last v 1 _ (with_participant i (accept (participant_of x.world i) m) x) (accepted_there spec last i m x s is)
+      keeps_loud (Stands spec last) (keeps_line spec valid last) v 1 _ (with_participant i (accept (participant_of x.world i) m) x) (accepted_there spec last i m x s is)
 
   from_bag : (v : Voice) (i : InstanceId) (id : MsgId) (o : Option Message) (x : State) → Stands spec last x → Jobs.in_bag id x ≡ o → Keeps (Stands spec last) (Jobs.deliver_from_bag v i o x)
-  from_bag v i id None x s is = keeps_note spec valid last v _ x s
+  from_bag v i id None x s is = keeps_note (Stands spec last) (keeps_line spec valid last) v _ x s
   from_bag v i id (Some m) x s is = delivered v i m _ x s (all-find (is_fetched spec x.world.history) (λ m. m.id.0 == id.0) x.world.bag m s.of.bag is)
 
   delivered_then : (i : InstanceId) (m : Message) (f : Option DeliverFault) (x : State) (g : State → Deed) → Stands spec last x → is_fetched spec x.world.history m ≡ true
@@ -163,11 +153,11 @@ module _ (spec : Spec) (valid : IsValid spec) (last : Last) where
       choice (Stands spec last) (can_take x.world.cluster m.session m.id) _ _
       (λ can. makes_then (Stands spec last) e x (λ y. done (Jobs.ran i m handler y))
       (record { left = job_ran i m handler (happened e x) (scripted_other spec last last.line x.world e (happened e x).world.weight s can is s.line (λ k. refl)) }))
-      (λ can. keeps_note spec valid last v _ (Jobs.put_back i m handler x) (put_back_there spec last i m handler x s))
+      (λ can. keeps_note (Stands spec last) (keeps_line spec valid last) v _ (Jobs.put_back i m handler x) (put_back_there spec last i m handler x s))
 
   taken : (v : Voice) (i : InstanceId) (id : MsgId) (o : Option Message) (x : State) → Stands spec last x → accepted_by (participant_of x.world i) id ≡ o
       → Keeps (Stands spec last) (Jobs.take_accepted v i o x)
-  taken v i id None x s is = keeps_note spec valid last v _ x s
+  taken v i id None x s is = keeps_note (Stands spec last) (keeps_line spec valid last) v _ x s
   taken v i id (Some m) x s is =
       let is_faulted = Jobs.fails_to_make i m x in
       let made = makes (slot_of (participant_of x.world i) m.part) m in
@@ -177,45 +167,25 @@ module _ (spec : Spec) (valid : IsValid spec) (last : Last) where
       (accepted_fetched spec x.world.history (participant_of x.world i) id m (participant_there spec last x.world i s) is))
 
   written : (v : Voice) (j : Option Job) (x : State) → Stands spec last x → Keeps (Stands spec last) (Jobs.write_job v j x)
-  written v None x s = keeps_note spec valid last v _ x s
+  written v None x s = keeps_note (Stands spec last) (keeps_line spec valid last) v _ x s
   written v (Some j) x s =
       let e : Event = events.Write j.message.session j.message.id j.outcome in
       let y = happened e x in
-      choice (Stands spec last) j.is_written _ _ (λ is. keeps_note spec valid last v _ x s)
-      (λ is. choice (Stands spec last) (can_write x.world.cluster j.message.session j.message.id) _ _
-      (λ can. makes_then (Stands spec last) e x (λ y. done (Jobs.with_written j.instance j.message.id y))
-      (record {
-        left = jobs_there spec last y.world (map (Jobs.as_written_job j.instance j.message.id) y.world.jobs)
-            (scripted_other spec last last.line x.world e y.world.weight s can tt (write-line x.world.cluster j.message.session j.message.id j.outcome ∙ s.line) (λ k. refl));
-      }))
-      (λ can. keeps_note spec valid last v notes.SessionEnded (Jobs.end_job j x) (job_ended spec last j x s)))
+      keeps_call (Stands spec last) (keeps_line spec valid last) v j x j.is_written (can_write x.world.cluster j.message.session j.message.id) e (Jobs.with_written j.instance j.message.id) s
+      (λ on can. jobs_there spec last y.world (map (Jobs.as_written_job j.instance j.message.id) y.world.jobs)
+      (scripted_other spec last last.line x.world e y.world.weight s can tt (write-line x.world.cluster j.message.session j.message.id j.outcome ∙ s.line) (λ k. refl)))
+      (λ on refused. job_ended spec last j x s)
 
   acked : (v : Voice) (j : Option Job) (x : State) → Stands spec last x → Keeps (Stands spec last) (Jobs.ack_job v j x)
-  acked v None x s = keeps_note spec valid last v _ x s
+  acked v None x s = keeps_note (Stands spec last) (keeps_line spec valid last) v _ x s
   acked v (Some j) x s =
       let e : Event = events.Ack j.message.session j.message.id in
-      choice (Stands spec last) (not j.is_written) _ _ (λ is. keeps_note spec valid last v _ x s)
-      (λ is. choice (Stands spec last) (can_ack x.world.cluster j.message.session j.message.id) _ _
-      (λ can. makes_then (Stands spec last) e x (λ y. done (Jobs.end_job j y))
-      (record { left = job_ended spec last j (happened e x) (scripted_other spec last last.line x.world e (happened e x).world.weight s can tt s.line (λ k. refl)) }))
-      (λ can. keeps_note spec valid last v notes.SessionEnded (Jobs.end_job j x) (job_ended spec last j x s)))
+      keeps_call (Stands spec last) (keeps_line spec valid last) v j x (not j.is_written) (can_ack x.world.cluster j.message.session j.message.id) e (Jobs.end_job j) s
+      (λ on can. job_ended spec last j (happened e x) (scripted_other spec last last.line x.world e (happened e x).world.weight s can tt s.line (λ k. refl)))
+      (λ on refused. job_ended spec last j x s)
 
-  carried : (i : InstanceId) (id : MsgId) (x : State) → Stands spec last x → Keeps (Stands spec last) (Jobs.carry i id x)
-  carried i id x s = keeps_then (Stands spec last) _ _ (written Quiet _ x s) (λ y there. acked Quiet _ y there)
-
-  message_run : (i : InstanceId) (m : Message) (x : State) → Stands spec last x → Keeps (Stands spec last) (Jobs.run_message i m x)
-  message_run i m x s = keeps_then (Stands spec last) _ _ (taken Quiet i m.id _ x s refl) (λ y there. carried i m.id y there)
-
-  work_done : (i : InstanceId) (x : State) → Ranges.has_instance spec i ≡ true → Stands spec last x → Keeps (Stands spec last) (Jobs.do_work i x)
-  work_done i x there s =
-      keeps_then (Stands spec last) _ _
-      (keeps_each (Stands spec last) (λ j y. Jobs.carry i j.message.id y) (λ j y here. carried i j.message.id y here) (Jobs.jobs_of i x) x s) (λ y here.
-      keeps_then (Stands spec last) _ _
-      (fetched_then i y (λ z. for_each (Jobs.deliver Quiet i) (fetched y.world.cluster i).messages z) there here (λ z now all. all_delivered i (fetched y.world.cluster i).messages z now all))
-      (λ z now. keeps_each (Stands spec last) (Jobs.run_message i) (λ m u so. message_run i m u so) _ z now))
-
-  -- settles
-  live_instances : (x : State) → Stands spec last x → list_all (Ranges.has_instance spec) (map (λ e. e.1) (live_shown x.world.cluster)) ≡ true
+  -- the instances of live sessions are of the description
+  pub live_instances : (x : State) → Stands spec last x → list_all (Ranges.has_instance spec) (map (λ e. e.1) (live_shown x.world.cluster)) ≡ true
   live_instances x s =
       let c = x.world.cluster in
       let instances : length c.instances ≡ length spec.instances = (fixed_there spec last x.world s).instances ∙ length-replicate (length spec.instances) false in
@@ -225,91 +195,41 @@ module _ (spec : Spec) (valid : IsValid spec) (last : Last) where
       ∙ all-le (λ (l : Live). has_instance c l.instance) (λ (l : Live). Ranges.has_instance spec l.instance) (λ (l : Live) (is : has_instance c l.instance ≡ true). ap (nat_lt l.instance.0) (sym instances) ∙ is) c.live
       (ranged_there spec last x.world valid s).live
 
-  all_worked : (x : State) → Stands spec last x → Keeps (Stands spec last) (Settles.work_all x)
-  all_worked x s = keeps_those (Stands spec last) (Ranges.has_instance spec) Jobs.do_work (λ i y there here. work_done i y there here) (map (λ e. e.1) (live_shown x.world.cluster)) x (live_instances x s) s
-
-  round_ended : (n : ℕ) (o : Option PassOutcome) (f : State → Run Settled) → ((x : State) → Stands spec last x → Keeps (Stands spec last) (f x)) → (x : State) → Stands spec last x
-      → Keeps (Stands spec last) (Settles.unless_settled n o f x)
-  round_ended n None f k x s = keeps_then (Stands spec last) _ _ (all_worked x s) k
-  round_ended n (Some (ends.Sent sent)) f k x s = keeps_then (Stands spec last) _ _ (all_worked x s) k
-  round_ended n (Some (ends.Waiting pending)) f k x s = keeps_then (Stands spec last) _ _ (all_worked x s) k
-  round_ended n (Some (ends.Moved from to)) f k x s = keeps_then (Stands spec last) _ _ (all_worked x s) k
-  round_ended n (Some (ends.Settled report)) f k x s = record { left = s }
-
-  rounds_made : (m : ℕ) (k : ControllerId) (n : ℕ) (x : State) → Stands spec last x → Keeps (Stands spec last) (Settles.rounds m k n x)
-  rounds_made zero k n x s = record { left = s }
-  rounds_made (suc m) k n x s =
-      keeps_on (Stands spec last) _ _ (keeps_pass spec valid last Quiet k x s) (λ o y there. round_ended (n + 1) o (λ z. Settles.rounds m k (n + 1) z) (λ z here. rounds_made m k (n + 1) z here) y there)
-
-  settled : (k : Option ControllerId) (x : State) → Stands spec last x → Keeps (Stands spec last) (Settles.settle_led k x)
-  settled None x s = record { left = s }
-  settled (Some k) x s =
-      keeps_on (Stands spec last) _ (λ o y. gives y (Some o)) (rounds_made (Settles.enough_rounds x.world.cluster) k 0 x s)
-      (λ o y there. keeps_gives (Stands spec last) y (Some o) there)
-
-  report_lines : (r : Option Report) (x : State) → Stands spec last x → Keeps (Stands spec last) (Settles.say_report r x)
-  report_lines None x s = record { left = s }
-  report_lines (Some report) x s = keeps_entries spec valid last report.entries x s
-
-  settle_told : (v : Voice) (k : Option ControllerId) (o : Option Settled) (x : State) → Stands spec last x → Keeps (Stands spec last) (Settles.tell_settle v k o x)
-  settle_told v None o x s = keeps_note spec valid last v _ x s
-  settle_told v (Some k) None x s = keeps_note spec valid last v _ x s
-  settle_told v (Some k) (Some o) x s = keeps_then (Stands spec last) _ _ (keeps_line spec valid last 1 _ x s) (λ y there. report_lines o.report y there)
-
-  settle_done : (v : Voice) (x : State) → Stands spec last x → Keeps (Stands spec last) (Settles.do_settle v x)
-  settle_done v x s = keeps_on (Stands spec last) _ _ (settled _ x s) (λ o y there. settle_told v x.world.cluster.leader o y there)
-
   -- steps
-  step_happens : (step : Admin) (x : State) → is_in_range x.world.cluster step ≡ true → refusal_of x.world.cluster step ≡ None → Stands spec last x
+  pub step_happens : (step : Admin) (x : State) → is_in_range x.world.cluster step ≡ true → refusal_of x.world.cluster step ≡ None → Stands spec last x
       → Stands spec last (happened (events.Admin step (did_of x.world.cluster step)) x)
   step_happens step x well is s =
       let e : Event = events.Admin step (did_of x.world.cluster step) in
       scripted_other spec last last.line x.world e (happened e x).world.weight s (well, is, refl) tt (step-line x.world.cluster step ∙ s.line) (λ k. refl)
 
-  stepped : (v : Voice) (step : Admin) (f : Option StepFault) (x : State) → refusal_of x.world.cluster step ≡ f → is_in_range x.world.cluster step ≡ true → Stands spec last x
-      → Keeps (Stands spec last) (Scripts.stepped v step f x)
-  stepped v step (Some f) x is well s = keeps_note spec valid last v _ x s
-  stepped v step None x is well s = happens (Stands spec last) (events.Admin step (did_of x.world.cluster step)) x s (step_happens step x well is s)
-
-  asked : (v : Voice) (step : Option Admin) (x : State) → IsAskedWell x.world.cluster step → Stands spec last x → Keeps (Stands spec last) (Scripts.do_asked v step x)
-  asked v None x well s = keeps_note spec valid last v _ x s
-  asked v (Some step) x well s = stepped v step _ x refl well s
-
-  died : (v : Voice) (i : InstanceId) (f : Option StepFault) (x : State) → refusal_of x.world.cluster (steps.End i) ≡ f → is_in_range x.world.cluster (steps.End i) ≡ true → Stands spec last x
-      → Keeps (Stands spec last) (Scripts.died v i f x)
-  died v i (Some f) x is well s = keeps_note spec valid last v _ x s
-  died v i None x is well s =
+  died_there : (i : InstanceId) (x : State) → Ranges.has_instance spec i ≡ true → refusal_of x.world.cluster (steps.End i) ≡ None → Stands spec last x
+      → Keeps (Stands spec last) (and_then (happen (events.Admin (steps.End i) dids.Done) x) (λ y. done (Jobs.adopt_in i None y)))
+  died_there i x there is s =
       let e : Event = events.Admin (steps.End i) dids.Done in
-      happens_then (Stands spec last) e x (λ y. done (Jobs.adopt_in i None y)) s (record { left = adopted_there spec last i None (happened e x) (step_happens (steps.End i) x well is s) })
+      let well = instance_there spec x.world.cluster i (fixed_there spec last x.world s) there in
+      happens_then (Stands spec last) e x (λ y. done (Jobs.adopt_in i None y)) s (λ room. record { left = adopted_there spec last i None (happened e x) (step_happens (steps.End i) x well is s) })
 
-  view_done : (x : State) → Stands spec last x → Keeps (Stands spec last) (Scripts.do_view x)
-  view_done x s =
-      keeps_each (Stands spec last) (λ p y. Scripts.say_view_of p (view_of_part y.world.cluster p) y)
-      (λ p y there. keeps_line spec valid last (1 + length (view_of_part y.world.cluster p)) (view_line y.world.spec y.world.cluster.resources p (view_of_part y.world.cluster p)) y there)
-      (viewed_parts x.world.cluster) x s
-
-  routed : (v : Voice) (index : ℕ) (t : StateId) (r : Option ResourceId) (x : State) → Stands spec last x → Keeps (Stands spec last) (Scripts.route_on v index t r x)
-  routed v index t None x s = keeps_note spec valid last v _ x s
-  routed v index t (Some r) x s = keeps_line spec valid last _ _ x s
+  -- so all steps of words keep it
+  keep : StepsKeep spec (Stands spec last)
+  keep = record {
+    said = keeps_line spec valid last;
+    idle = λ k x s. fault_there spec last x k s;
+    step = keeps_step spec valid last;
+    asked = λ what x is s. asked_well spec x.world.cluster what valid (fixed_there spec last x.world s) is;
+    happens = λ step x well is s. happens (Stands spec last) (events.Admin step (did_of x.world.cluster step)) x s (λ room. step_happens step x well is s);
+    dies = died_there;
+    fetch = fetch_done;
+    deliver = λ v i id x s. from_bag v i id _ x s refl;
+    take = λ v i id x s. taken v i id _ x s refl;
+    write = λ v i id x s. written v _ x s;
+    ack = λ v i id x s. acked v _ x s;
+    bring = λ i x there s.
+        fetched_then i x (λ z. for_each (Jobs.deliver Quiet i) (fetched x.world.cluster i).messages z) there s (λ z now all. all_delivered i (fetched x.world.cluster i).messages z now all);
+    live = live_instances;
+  }
 
   what_done : (v : Voice) (what : What) (x : State) → Ranges.is_in_range spec what ≡ true → Stands spec last x → Keeps (Stands spec last) (Scripts.do_what v what x)
-  what_done v (asks.Die i) x is s = died v i _ x refl (instance_there spec x.world.cluster i (fixed_there spec last x.world s) is) s
-  what_done v (asks.Begin k) x is s = keeps_unasked spec valid last _ (keeps_begin spec valid last v k x s)
-  what_done v (asks.Read k kind) x is s = keeps_read spec valid last v k kind x s
-  what_done v (asks.Send k) x is s = keeps_word spec valid last v k _ x s
-  what_done v (asks.Post k) x is s = keeps_word spec valid last v k _ x s
-  what_done v (asks.Pass k) x is s = keeps_unasked spec valid last _ (keeps_pass spec valid last v k x s)
-  what_done v (asks.Fetch i) x is s = fetch_done i x is s
-  what_done v (asks.Deliver i id) x is s = from_bag v i id _ x s refl
-  what_done v (asks.Take i id) x is s = taken v i id _ x s refl
-  what_done v (asks.Write i id) x is s = written v _ x s
-  what_done v (asks.Ack i id) x is s = acked v _ x s
-  what_done v (asks.Work i) x is s = work_done i x is s
-  what_done v asks.Settle x is s = settle_done v x s
-  what_done v asks.View x is s = view_done x s
-  what_done v (asks.Route name part state) x is s = routed v part state _ x s
-  what_done v asks.Summary x is s = keeps_line spec valid last 1 _ x s
-  what_done v what x is s = asked v (step_asked x.world.cluster what) x (asked_well spec x.world.cluster what valid (fixed_there spec last x.world s) is) s
+  what_done v what x is s = what_keeps spec (Stands spec last) keep v what x is s
 
 -- it holds of a state after some line
 record HasStood (spec : Spec) (is_lawful : Bool) (x : State) : Type 0 where
@@ -317,10 +237,10 @@ record HasStood (spec : Spec) (is_lawful : Bool) (x : State) : Type 0 where
   pub stands : Stands spec (record { line = line; is_lawful = is_lawful }) x
 
 -- lines, one after the other
-line_happens : (spec : Spec) (last : Last) (l : Line) (x : State) → is_later last.line l.number ≡ true → Stands spec last x → Stands spec (at_line last (Some l.number)) (happened (events.Line l.number) x)
-line_happens spec last l x later s =
-    let e : Event = events.Line l.number in
-    scripted_other spec last (Some l.number) x.world e (happened e x).world.weight s (ap (λ (o : Option ℕ). is_later o l.number) s.line ∙ later) tt refl (λ k. refl)
+pub line_happens : (spec : Spec) (last : Last) (n : ℕ) (x : State) → is_later last.line n ≡ true → Stands spec last x → Stands spec (at_line last (Some n)) (happened (events.Line n) x)
+line_happens spec last n x later s =
+    let e : Event = events.Line n in
+    scripted_other spec last (Some n) x.world e (happened e x).world.weight s (ap (λ (o : Option ℕ). is_later o n) s.line ∙ later) tt refl (λ k. refl)
 
 lines_done : (spec : Spec) → IsValid spec → (last : Last) (ls : List Line) (x : State) → Scripts.are_next_lines spec last.line ls ≡ true → Stands spec last x
     → Keeps (HasStood spec last.is_lawful) (for_each Scripts.do_line ls x)
@@ -331,7 +251,7 @@ lines_done spec valid last (l ∷ ls) x all s =
     let ranged = and-second (is_later last.line l.number) (Ranges.is_line_in_range spec l) first in
     line_then (Stands spec (at_line last (Some l.number))) (HasStood spec last.is_lawful) (events.Line l.number) x (λ y. Scripts.do_what (Loud l.number) l.what y) (λ y. for_each Scripts.do_line ls y)
     (record { line = last.line; stands = s })
-    (what_done spec valid (at_line last (Some l.number)) (Loud l.number) l.what (happened (events.Line l.number) x) ranged (line_happens spec last l x later s))
+    (what_done spec valid (at_line last (Some l.number)) (Loud l.number) l.what (happened (events.Line l.number) x) ranged (line_happens spec last l.number x later s))
     (λ y there. record { line = Some l.number; stands = there })
     (λ y there. lines_done spec valid (at_line last (Some l.number)) ls y (and-second (Scripts.is_next_line spec last.line l) (Scripts.are_next_lines spec (Some l.number) ls) all) there)
 
@@ -349,20 +269,19 @@ none_accepted : (spec : Spec) (n : ℕ) → list_all (has_fetched spec []) (repl
 none_accepted spec zero = refl
 none_accepted spec (suc n) = none_accepted spec n
 
-opening_stands : (spec : Spec) → Stands spec (record { line = None; is_lawful = true }) (Scripts.opening_state spec)
-opening_stands spec = record {
-  of = record {
-    given = refl;
-    legal = tt;
-    cluster = refl;
-    controllers = many_listed 0 spec.controllers;
-    turns = λ k. subst (IsTurnOf spec [] k) (sym (idle_listed 0 spec.controllers k.0 k.0 (omega arith))) (idle_there spec [] k);
-    bag = refl;
-    accepted = none_accepted spec (length spec.instances);
-  };
-  line = refl;
-  proper = λ is. tt;
+pub opening_of : (spec : Spec) (limit : ℕ) → IsOfItsHistory spec (opening_world spec limit)
+opening_of spec limit = record {
+  given = refl;
+  legal = tt;
+  cluster = refl;
+  controllers = many_listed 0 spec.controllers;
+  turns = λ k. subst (IsTurnOf spec [] k) (sym (idle_listed 0 spec.controllers k.0 k.0 (omega arith))) (idle_there spec [] k);
+  bag = refl;
+  accepted = none_accepted spec (length spec.instances);
 }
+
+opening_stands : (spec : Spec) → Stands spec (record { line = None; is_lawful = true }) (Scripts.opening_state spec)
+opening_stands spec = record { of = opening_of spec Scripts.most_weight; line = refl; proper = λ is. tt }
 
 -- a whole script
 script_done : (spec : Spec) → IsValid spec → (lines : List Line) → Scripts.are_next_lines spec None lines ≡ true → Keeps (HasStood spec true) (Scripts.sim_run spec lines)
@@ -370,7 +289,7 @@ script_done spec valid lines all =
     keeps_then (HasStood spec true) (for_each Scripts.do_line lines (Scripts.opening_state spec)) Scripts.do_view
     (lines_done spec valid (record { line = None; is_lawful = true }) lines (Scripts.opening_state spec) all (opening_stands spec))
     (λ y there. keeps_more (Stands spec (record { line = there.line; is_lawful = true })) (HasStood spec true) (Scripts.do_view y)
-    (view_done spec valid (record { line = there.line; is_lawful = true }) y there.stands) (λ z here. record { line = there.line; stands = here }))
+    (view_said (Stands spec (record { line = there.line; is_lawful = true })) (keeps_line spec valid (record { line = there.line; is_lawful = true })) y there.stands) (λ z here. record { line = there.line; stands = here }))
 
 lawful_stood : (spec : Spec) (x : State) → HasStood spec true x → IsLawful spec x.world.history
 lawful_stood spec x s = (s.stands.of.legal, s.stands.proper refl)
@@ -387,9 +306,9 @@ line_stood spec l x is_lawful valid of proper next =
     let s : Stands spec last x = record { of = of; line = refl; proper = proper } in
     let later = and-first (is_later x.world.cluster.line l.number) (Ranges.is_line_in_range spec l) next in
     let ranged = and-second (is_later x.world.cluster.line l.number) (Ranges.is_line_in_range spec l) next in
-    let k = what_done spec valid (at_line last (Some l.number)) (Loud l.number) l.what (happened (events.Line l.number) x) ranged (line_happens spec last l x later s) in
+    let k = what_done spec valid (at_line last (Some l.number)) (Loud l.number) l.what (happened (events.Line l.number) x) ranged (line_happens spec last l.number x later s) in
     (happens_then (HasStood spec is_lawful) (events.Line l.number) x (λ y. Scripts.do_what (Loud l.number) l.what y) (record { line = x.world.cluster.line; stands = s })
-    (keeps_more (Stands spec (at_line last (Some l.number))) (HasStood spec is_lawful) (Scripts.do_what (Loud l.number) l.what (happened (events.Line l.number) x)) k
+    (λ room. keeps_more (Stands spec (at_line last (Some l.number))) (HasStood spec is_lawful) (Scripts.do_what (Loud l.number) l.what (happened (events.Line l.number) x)) k
     (λ y there. record { line = Some l.number; stands = there }))).left
 
 pub line_left : (spec : Spec) (l : Line) (x : State) → IsValid spec → IsOfItsHistory spec x.world → Scripts.is_next_line spec x.world.cluster.line l ≡ true
@@ -416,10 +335,10 @@ line_done spec l x y is valid of next ends =
     let ranged = and-second (is_later x.world.cluster.line l.number) (Ranges.is_line_in_range spec l) next in
     let e : Event = events.Line l.number in
     line_on spec l.number (nat_lt x.world.limit (x.world.weight + weight_of e)) e x y is (λ z. Scripts.do_what (Loud l.number) l.what z)
-    (what_done spec valid (since (Some l.number)) (Loud l.number) l.what (happened e x) ranged (line_happens spec last l x later s)) ends
+    (what_done spec valid (since (Some l.number)) (Loud l.number) l.what (happened e x) ranged (line_happens spec last l.number x later s)) ends
 
 settle_stands : (spec : Spec) (last : Last) (x : State) → IsValid spec → Stands spec last x → Stands spec last (state_of (Settles.settle x))
-settle_stands spec last x valid s = (settled spec valid last x.world.cluster.leader x s).left
+settle_stands spec last x valid s = (settle_keeps spec (Stands spec last) (keep spec valid last) x.world.cluster.leader x s).left
 
 pub settle_left : (spec : Spec) (x : State) → IsValid spec → IsOfItsHistory spec x.world → IsOfItsHistory spec (state_of (Settles.settle x)).world
 settle_left spec x valid of = (settle_stands spec (since x.world.cluster.line) x valid (scripted_since spec x.world of)).of

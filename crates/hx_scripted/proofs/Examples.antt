@@ -1,10 +1,7 @@
 -- A script whose history is lawful, and why its lines have to be in range, with numbers that rise.
-use Rattle.std.proofs.Common.{◌≡◌, ℕ, true, false, List, [], ◌∷◌, length, refl, arith}
-use Rattle.std.specs.Prelude.{None, codes}
-use Rattle.hx_ids.specs.Words.{instance, model, controller}
-use Rattle.hx_model.specs.Builtin.{builtin_states, builtin_names, builtin_models}
-use Rattle.hx_ideal.specs.declared.Mode.TheVariants as modes
-use Rattle.hx_cluster.specs.declared.description.Spec.{Spec}
+use Rattle.std.proofs.Common.{◌≡◌, ℕ, true, List, [], ◌∷◌, length, refl, rules}
+use Rattle.std.specs.Prelude.{None}
+use Rattle.hx_ids.specs.Words.{instance, controller}
 use Rattle.hx_cluster.specs.Valid.{IsValid}
 use Rattle.hx_pass.specs.Lawful.{IsLawful}
 use Rattle.hx_script.specs.declared.What.{What}
@@ -12,46 +9,10 @@ use Rattle.hx_script.specs.declared.What.TheVariants as asks
 use Rattle.hx_script.specs.declared.Line.{Line}
 use Rattle.hx_worlds.specs.Scripts.{are_next_lines, sim_history}
 use Rattle.hx_scripted.proofs.DoingLines.{lawful_scripts}
-
--- one instance, and one partition that it is to lead
-abbrev spec : Spec
-spec = record {
-  instances = codes "n1" ∷ [];
-  states = builtin_states;
-  resource_names = codes "db" ∷ [];
-  model_names = builtin_names;
-  models = builtin_models;
-  controllers = 1;
-  timeout = 30;
-  rules = [];
-  resources = record { name = 0; model = model 0; ideal = record { replicas = 1; parts = 1; mode = modes.Semi ((instance 0 ∷ []) ∷ []) }; dropped = false } ∷ [];
-  failures = [];
-}
+use Rattle.hx_worlds.proofs.Examples.{spec}
 
 valid : IsValid spec
-valid = record {
-  instances = refl;
-  some_instances = refl;
-  controllers = refl;
-  timeout = refl;
-  states = refl;
-  few_states = omega arith;
-  builtin_states = refl;
-  models = refl;
-  few_models = omega arith;
-  builtin_models = refl;
-  model_names = refl;
-  builtin_names = refl;
-  each_named = refl;
-  rules = refl;
-  few_rules = omega arith;
-  resource_names = refl;
-  resources = refl;
-  few_resources = omega arith;
-  apart = refl;
-  failures = refl;
-  few_failures = omega arith;
-}
+valid = search rules
 
 abbrev line : ℕ → What → Line
 line n what = record { number = n; what = what }

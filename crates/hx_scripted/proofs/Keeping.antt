@@ -1,7 +1,8 @@
 -- Operations that keep what holds of a state.
-use Rattle.std.proofs.Common.{◌≡◌, ℕ, ◌+◌, Bool, true, false, List, [], ◌∷◌, ◌++◌, refl}
+use Rattle.std.proofs.Common.{◌≡◌, ℕ, ◌+◌, ◌≤◌, Bool, true, false, List, [], ◌∷◌, ◌++◌, refl, arith}
 use Rattle.std.specs.Prelude.{if◌then◌else◌, nat_lt}
 use Rattle.std.specs.List.{list_all}
+use Rattle.std.proofs.lemmas.Bool.Decides.{nat_tests}
 use Rattle.hx_cluster.specs.declared.happenings.Event.{Event}
 use Rattle.hx_cluster.specs.Weight.{weight_of}
 use Rattle.hx_safe.proofs.Counting.{and-first, and-second}
@@ -40,34 +41,40 @@ keeps_those I p f keep (i ∷ is) x all here =
 pub keeps_gives : {A : Type 0} (I : State → Type 0) (x : State) (answer : A) → I x → Keeps I (gives x answer)
 keeps_gives I x answer here = record { left = here }
 
+-- where there is room
+room_is : (limit n : ℕ) → nat_lt limit n ≡ false → n ≤ limit
+room_is limit n e = grind (arith, nat_tests, e)
+
 -- an event happens, and what follows it is done, or the history has no room
-happens_on : {B : Type 0} (I : State → Type 0) (stops : Bool) (e : Event) (x : State) (f : State → Run B) → I x → Keeps I (f (happened e x))
-    → Keeps I (and_then (if stops then Stops [] x else make e x) f)
-happens_on I true e x f here more = record { left = here }
-happens_on I false e x f here more = keeps_after I (Happens e ∷ []) (f (happened e x)) more
+happens_on : {B : Type 0} (I : State → Type 0) (stops : Bool) (e : Event) (x : State) (f : State → Run B) → nat_lt x.world.limit (x.world.weight + weight_of e) ≡ stops → I x
+    → (x.world.weight + weight_of e ≤ x.world.limit → Keeps I (f (happened e x))) → Keeps I (and_then (if stops then Stops [] x else make e x) f)
+happens_on I true e x f is here more = record { left = here }
+happens_on I false e x f is here more = keeps_after I (Happens e ∷ []) (f (happened e x)) (more (room_is x.world.limit (x.world.weight + weight_of e) is))
 
-pub happens_then : {B : Type 0} (I : State → Type 0) (e : Event) (x : State) (f : State → Run B) → I x → Keeps I (f (happened e x)) → Keeps I (and_then (happen e x) f)
-happens_then I e x f here more = happens_on I (nat_lt x.world.limit (x.world.weight + weight_of e)) e x f here more
+pub happens_then : {B : Type 0} (I : State → Type 0) (e : Event) (x : State) (f : State → Run B) → I x → (x.world.weight + weight_of e ≤ x.world.limit → Keeps I (f (happened e x)))
+    → Keeps I (and_then (happen e x) f)
+happens_then I e x f here more = happens_on I (nat_lt x.world.limit (x.world.weight + weight_of e)) e x f refl here more
 
-happens_or : (I : State → Type 0) (stops : Bool) (e : Event) (x : State) → I x → I (happened e x) → Keeps I (if stops then Stops [] x else make e x)
-happens_or I true e x here there = record { left = here }
-happens_or I false e x here there = record { left = there }
+happens_or : (I : State → Type 0) (stops : Bool) (e : Event) (x : State) → nat_lt x.world.limit (x.world.weight + weight_of e) ≡ stops → I x → (x.world.weight + weight_of e ≤ x.world.limit → I (happened e x))
+    → Keeps I (if stops then Stops [] x else make e x)
+happens_or I true e x is here there = record { left = here }
+happens_or I false e x is here there = record { left = there (room_is x.world.limit (x.world.weight + weight_of e) is) }
 
-pub happens : (I : State → Type 0) (e : Event) (x : State) → I x → I (happened e x) → Keeps I (happen e x)
-happens I e x here there = happens_or I (nat_lt x.world.limit (x.world.weight + weight_of e)) e x here there
+pub happens : (I : State → Type 0) (e : Event) (x : State) → I x → (x.world.weight + weight_of e ≤ x.world.limit → I (happened e x)) → Keeps I (happen e x)
+happens I e x here there = happens_or I (nat_lt x.world.limit (x.world.weight + weight_of e)) e x refl here there
 
 -- an event that is made without asking for room
 pub makes_then : {B : Type 0} (I : State → Type 0) (e : Event) (x : State) (f : State → Run B) → Keeps I (f (happened e x)) → Keeps I (and_then (make e x) f)
 makes_then I e x f more = keeps_after I (Happens e ∷ []) (f (happened e x)) more
 
 -- a line is said, or the history has no room
-says_or : (I : State → Type 0) (stops : Bool) (charge : ℕ) (text : List ℕ) (x : State) → I x → I (charged charge x)
+says_or : (I : State → Type 0) (stops : Bool) (charge : ℕ) (text : List ℕ) (x : State) → nat_lt x.world.limit (x.world.weight + charge) ≡ stops → I x → (x.world.weight + charge ≤ x.world.limit → I (charged charge x))
     → Keeps {A = Unit {0}} I (if stops then Stops [] x else GoesOn (Says charge text ∷ []) (charged charge x) tt)
-says_or I true charge text x here there = record { left = here }
-says_or I false charge text x here there = record { left = there }
+says_or I true charge text x is here there = record { left = here }
+says_or I false charge text x is here there = record { left = there (room_is x.world.limit (x.world.weight + charge) is) }
 
-pub says : (I : State → Type 0) (charge : ℕ) (text : List ℕ) (x : State) → I x → I (charged charge x) → Keeps I (say charge text x)
-says I charge text x here there = says_or I (nat_lt x.world.limit (x.world.weight + charge)) charge text x here there
+pub says : (I : State → Type 0) (charge : ℕ) (text : List ℕ) (x : State) → I x → (x.world.weight + charge ≤ x.world.limit → I (charged charge x)) → Keeps I (say charge text x)
+says I charge text x here there = says_or I (nat_lt x.world.limit (x.world.weight + charge)) charge text x refl here there
 
 -- one of two operations, whose test may be used
 pub choice : {A : Type 0} (I : State → Type 0) (b : Bool) (r s : Run A) → (b ≡ true → Keeps I r) → (b ≡ false → Keeps I s) → Keeps I (if b then r else s)
@@ -93,11 +100,11 @@ pub line_then : (I J : State → Type 0) (e : Event) (x : State) (f g : State �
 line_then I J e x f g here k more next = line_on I J (nat_lt x.world.limit (x.world.weight + weight_of e)) e x f g here k more next
 
 -- what is done at once after an event, and what comes then
-done_on : (I : State → Type 0) (stops : Bool) (e : Event) (x : State) (f : State → State) (g : State → Deed) → I x → Keeps I (g (f (happened e x)))
-    → Keeps I (and_then (and_then (if stops then Stops [] x else make e x) (λ y. done (f y))) g)
-done_on I true e x f g here k = record { left = here }
-done_on I false e x f g here k = keeps_after I (Happens e ∷ [] ++ []) (g (f (happened e x))) k
+done_on : (I : State → Type 0) (stops : Bool) (e : Event) (x : State) (f : State → State) (g : State → Deed) → nat_lt x.world.limit (x.world.weight + weight_of e) ≡ stops → I x
+    → (x.world.weight + weight_of e ≤ x.world.limit → Keeps I (g (f (happened e x)))) → Keeps I (and_then (and_then (if stops then Stops [] x else make e x) (λ y. done (f y))) g)
+done_on I true e x f g is here k = record { left = here }
+done_on I false e x f g is here k = keeps_after I (Happens e ∷ [] ++ []) (g (f (happened e x))) (k (room_is x.world.limit (x.world.weight + weight_of e) is))
 
-pub done_then : (I : State → Type 0) (e : Event) (x : State) (f : State → State) (g : State → Deed) → I x → Keeps I (g (f (happened e x)))
+pub done_then : (I : State → Type 0) (e : Event) (x : State) (f : State → State) (g : State → Deed) → I x → (x.world.weight + weight_of e ≤ x.world.limit → Keeps I (g (f (happened e x))))
     → Keeps I (and_then (and_then (happen e x) (λ y. done (f y))) g)
-done_then I e x f g here k = done_on I (nat_lt x.world.limit (x.world.weight + weight_of e)) e x f g here k
+done_then I e x f g here k = done_on I (nat_lt x.world.limit (x.world.weight + weight_of e)) e x f g refl here k

@@ -2,6 +2,7 @@ pub mod Standing
 pub mod Lines
 pub mod Asked
 pub mod Keeping
+pub mod Walking
 pub mod Taking
 pub mod Stepping
 pub mod DoingTurns

@@ -11,7 +11,7 @@ use Rattle.hx_cluster.specs.declared.state.Cluster.{Cluster}
 use Rattle.hx_cluster.specs.declared.happenings.Event.{Event}
 use Rattle.hx_cluster.specs.Steps.{opening}
 use Rattle.hx_cluster.specs.Messages.{has_id}
-use Rattle.hx_cluster.specs.Events.{next, replay, IsStep, IsLegal}
+use Rattle.hx_cluster.specs.Events.{next, replay, IsStep}
 use Rattle.hx_cluster.specs.Valid.{IsValid}
 use Rattle.hx_cluster.specs.Ranged.{IsRanged}
 use Rattle.hx_pass.specs.Lawful.{shown_by, fetched_from, IsProper, IsProperAlong}
@@ -28,6 +28,7 @@ use Rattle.hx_safe.proofs.Fixed.{IsFixed}
 use Rattle.hx_safe.proofs.Whole.{reached_ranged}
 use Rattle.hx_covers.proofs.Covered.{replay_more}
 use Rattle.hx_covers.proofs.Whole.{fixed_along}
+use Rattle.hx_pass.proofs.Longer.{legal_more, proper_more}
 
 -- the last line of a world, and whether its history was lawful from the beginning
 pub record Last : Type 0 where
@@ -57,17 +58,7 @@ ranged_there spec last w valid s = subst IsRanged (sym s.of.cluster) (reached_ra
 pub fixed_there : (spec : Spec) (last : Last) (w : World) → IsScripted spec last w → IsFixed (opening spec) w.cluster
 fixed_there spec last w s = subst (λ (c : Cluster). IsFixed (opening spec) c) (sym s.of.cluster) (fixed_along (opening spec) w.history)
 
--- a lawful history with one event more
-legal_more : (c : Cluster) (h : List Event) (e : Event) → IsLegal c h → IsStep (replay c h) e → IsLegal c (h ++ e ∷ [])
-legal_more c [] e legal step = (step, tt)
-legal_more c (x ∷ h) e legal step = (legal.0, legal_more (next c x) h e legal.1 step)
-
-proper_more : (spec : Spec) (before h : List Event) (e : Event) → IsProperAlong spec before h → IsProper spec (before ++ h) e → IsProperAlong spec before (h ++ e ∷ [])
-proper_more spec before [] e proper here = (subst (λ (es : List Event). IsProper spec es e) (append-nil before) here, tt)
-proper_more spec before (x ∷ h) e proper here =
-    (proper.0, proper_more spec (before ++ x ∷ []) h e proper.1 (subst (λ (es : List Event). IsProper spec es e) (sym (append_assoc before (x ∷ []) h)) here))
-
--- and the messages that it showed
+-- the messages that a history with one event more showed
 pub fetched_more : (c : Cluster) (h : List Event) (e : Event) → fetched_from c (h ++ e ∷ []) ≡ fetched_from c h ++ shown_by (replay c h) e
 fetched_more c [] e = append-nil (shown_by c e)
 fetched_more c (x ∷ h) e =

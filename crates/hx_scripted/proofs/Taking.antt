@@ -28,68 +28,38 @@ use Rattle.hx_safe.proofs.Ideals.{all-put}
 use Rattle.hx_scripted.specs.OfHistory.{is_fetched, is_work_fetched, is_slot_fetched, has_fetched}
 use Rattle.hx_scripted.proofs.Standing.{Last, IsScripted, fetched_more, or-second, item_at}
 
--- worlds that differ in what the history doesn't tell
-pub weighed_there : (spec : Spec) (last : Last) (w : World) (weight : ℕ) → IsScripted spec last w → IsScripted spec last (record w { weight = weight })
-weighed_there spec last w weight s = record {
+-- worlds that differ in what the history doesn't tell, where what they hold was fetched
+told_alike : (spec : Spec) (last : Last) (w : World) (weight : ℕ) (participants : List Participant) (jobs : List Job) (bag : List Message) → IsScripted spec last w
+    → list_all (is_fetched spec w.history) bag ≡ true → list_all (has_fetched spec w.history) participants ≡ true
+    → IsScripted spec last (record w { weight = weight; participants = participants; jobs = jobs; bag = bag })
+told_alike spec last w weight participants jobs bag s bagged accepted = record {
   of = record {
     given = s.of.given;
     legal = s.of.legal;
     cluster = s.of.cluster;
     controllers = s.of.controllers;
     turns = s.of.turns;
-    bag = s.of.bag;
-    accepted = s.of.accepted;
+    bag = bagged;
+    accepted = accepted;
   };
   line = s.line;
   proper = s.proper;
 }
 
+pub weighed_there : (spec : Spec) (last : Last) (w : World) (weight : ℕ) → IsScripted spec last w → IsScripted spec last (record w { weight = weight })
+weighed_there spec last w weight s = told_alike spec last w weight w.participants w.jobs w.bag s s.of.bag s.of.accepted
+
 pub jobs_there : (spec : Spec) (last : Last) (w : World) (jobs : List Job) → IsScripted spec last w → IsScripted spec last (record w { jobs = jobs })
-jobs_there spec last w jobs s = record {
-  of = record {
-    given = s.of.given;
-    legal = s.of.legal;
-    cluster = s.of.cluster;
-    controllers = s.of.controllers;
-    turns = s.of.turns;
-    bag = s.of.bag;
-    accepted = s.of.accepted;
-  };
-  line = s.line;
-  proper = s.proper;
-}
+jobs_there spec last w jobs s = told_alike spec last w w.weight w.participants jobs w.bag s s.of.bag s.of.accepted
 
 bag_there : (spec : Spec) (last : Last) (w : World) (bag : List Message) → IsScripted spec last w → list_all (is_fetched spec w.history) bag ≡ true
     → IsScripted spec last (record w { bag = bag })
-bag_there spec last w bag s all = record {
-  of = record {
-    given = s.of.given;
-    legal = s.of.legal;
-    cluster = s.of.cluster;
-    controllers = s.of.controllers;
-    turns = s.of.turns;
-    bag = all;
-    accepted = s.of.accepted;
-  };
-  line = s.line;
-  proper = s.proper;
-}
+bag_there spec last w bag s all = told_alike spec last w w.weight w.participants w.jobs bag s all s.of.accepted
 
 pub participant_put : (spec : Spec) (last : Last) (w : World) (i : InstanceId) (p : Participant) → IsScripted spec last w → has_fetched spec w.history p ≡ true
     → IsScripted spec last (record w { participants = slice_set w.participants i.0 p })
-participant_put spec last w i p s is = record {
-  of = record {
-    given = s.of.given;
-    legal = s.of.legal;
-    cluster = s.of.cluster;
-    controllers = s.of.controllers;
-    turns = s.of.turns;
-    bag = s.of.bag;
-    accepted = all-put (has_fetched spec w.history) w.participants i.0 p s.of.accepted is;
-  };
-  line = s.line;
-  proper = s.proper;
-}
+participant_put spec last w i p s is =
+    told_alike spec last w w.weight (slice_set w.participants i.0 p) w.jobs w.bag s s.of.bag (all-put (has_fetched spec w.history) w.participants i.0 p s.of.accepted is)
 
 pub participant_there : (spec : Spec) (last : Last) (w : World) (i : InstanceId) → IsScripted spec last w → has_fetched spec w.history (participant_of w i) ≡ true
 participant_there spec last w i s = item_at (has_fetched spec w.history) w.participants i.0 new_participant s.of.accepted refl

@@ -3,81 +3,59 @@ use Rattle.std.specs.List.{sum_by}
 use Rattle.hx_lists.specs.Lists.{numbers_below}
 use Rattle.hx_control.specs.Controllers.{Controller}
 use Rattle.hx_replicas.specs.Jobs.{ParticipantState}
+use Rattle.hx_worlds.specs.Agree.{Agree}
 use Rattle.hx_worlds.specs.Summaries.{joined_in, sent_in}
-use Rattle.hx_agree.specs.Tests.{stationed, are_cared_for}
+use Rattle.hx_agree.specs.Tests.{board_state, stationed, are_cared_for}
 use Rattle.hx_agree.proofs.Boards.{next_session_is, next_message_is}
 use Rattle.hx_agree.proofs.Lists.{in_order_numbers, numbers_in_order}
-use Rattle.hx_agree.proofs.Whole.{tested_agree, agree_tested, fails}
+use Rattle.hx_agree.proofs.Whole.{IsTested, tested_agree, agree_tested, fails}
 use Rattle.hx_agree.proofs.agree.Goals as goal
+use Rattle.hx_agree.proofs.agree.Goals.{After-history}
+use Rattle.hx_agree.proofs.agree.Given.{Over}
+
+-- parts that agree pass the tests
+tested : (g : Over) (c : After-history g) → Agree c.args.spec.now (board_state c.args.board.now) c.args.controllers.now (map stationed c.args.participants.now)
+    → IsTested c.args.spec.now c.args.board.now c.args.controllers.now c.args.participants.now (sum_by joined_in c.args.board.now.history) (sum_by sent_in c.args.board.now.history)
+tested g c =
+    let b = c.args.board.now in
+    let told = c.history.ensures.history in
+    agree_tested c.args.spec.now b told (sum_by joined_in b.history) (sum_by sent_in b.history) (next_session_is b told) (next_message_is b told) c.args.controllers.now c.args.participants.now
 
 pub returns-then-not-of_spec : goal.returns-then-not-of_spec
 returns-then-not-of_spec g c = fails c.of_spec.result c.if-not-of_spec.true (λ a. c.of_spec.ensures.1 a.staffed.spec)
 
 pub returns-then-not-are_controllers : goal.returns-then-not-are_controllers
 returns-then-not-are_controllers g c =
-    let spec = c.args.spec.now in
-    let b = c.args.board.now in
-    let told = c.history.ensures.history in
-    let ks = c.args.controllers.now in
-    let ps = c.args.participants.now in
     fails c.are_controllers.result c.if-not-are_controllers.true
-    (λ a. let t = agree_tested spec b told (sum_by joined_in b.history) (sum_by sent_in b.history) (next_session_is b told) (next_message_is b told) ks ps a in
-    c.are_controllers.ensures ∙ numbers_in_order (λ (k : Controller). k.id.0) ks spec.controllers t.controllers)
+    (λ a. c.are_controllers.ensures ∙ numbers_in_order (λ (k : Controller). k.id.0) c.args.controllers.now c.args.spec.now.controllers (tested g (goal.at.returns-then-not-are_controllers g c).After-history a).controllers)
 
 pub returns-then-not-are_participants : goal.returns-then-not-are_participants
 returns-then-not-are_participants g c =
-    let spec = c.args.spec.now in
-    let b = c.args.board.now in
-    let told = c.history.ensures.history in
-    let ks = c.args.controllers.now in
-    let ps = c.args.participants.now in
-    let n = c.len-instances.result in
-    let many : length spec.instances ≡ n = sym c.len-instances.ensures.len in
+    let many : length c.args.spec.now.instances ≡ c.len-instances.result = sym c.len-instances.ensures.len in
     fails c.are_participants.result c.if-not-are_participants.true
-    (λ a. let t = agree_tested spec b told (sum_by joined_in b.history) (sum_by sent_in b.history) (next_session_is b told) (next_message_is b told) ks ps a in
-    c.are_participants.ensures ∙ numbers_in_order (λ (p : ParticipantState). p.instance.0) ps n (t.participants ∙ ap numbers_below many))
+    (λ a. c.are_participants.ensures
+    ∙ numbers_in_order (λ (p : ParticipantState). p.instance.0) c.args.participants.now c.len-instances.result ((tested g (goal.at.returns-then-not-are_participants g c).After-history a).participants ∙ ap numbers_below many))
 
 pub returns-then-not-are_idle : goal.returns-then-not-are_idle
-returns-then-not-are_idle g c =
-    let spec = c.args.spec.now in
-    let b = c.args.board.now in
-    let told = c.history.ensures.history in
-    let ks = c.args.controllers.now in
-    let ps = c.args.participants.now in
-    fails c.are_idle.result c.if-not-are_idle.true (λ a. c.are_idle.ensures.1 a.turns)
+returns-then-not-are_idle g c = fails c.are_idle.result c.if-not-are_idle.true (λ a. c.are_idle.ensures.1 a.turns)
 
 pub returns-then-not-are_quiet : goal.returns-then-not-are_quiet
 returns-then-not-are_quiet g c =
-    let spec = c.args.spec.now in
-    let b = c.args.board.now in
-    let told = c.history.ensures.history in
-    let ks = c.args.controllers.now in
-    let ps = c.args.participants.now in
     fails c.are_quiet.result c.if-not-are_quiet.true
-    (λ a. let t = agree_tested spec b told (sum_by joined_in b.history) (sum_by sent_in b.history) (next_session_is b told) (next_message_is b told) ks ps a in c.are_quiet.ensures ∙ t.quiet)
+    (λ a. c.are_quiet.ensures ∙ (tested g (goal.at.returns-then-not-are_quiet g c).After-history a).quiet)
 
 pub returns-then-not-have_begun : goal.returns-then-not-have_begun
 returns-then-not-have_begun g c =
-    let spec = c.args.spec.now in
     let b = c.args.board.now in
     let told = c.history.ensures.history in
-    let ks = c.args.controllers.now in
-    let ps = c.args.participants.now in
     fails c.have_begun.result c.if-not-have_begun.true
-    (λ a. let t = agree_tested spec b told c.joined_on.result (sum_by sent_in b.history) c.joined_on.ensures (next_message_is b told) ks ps a in
+    (λ a. let t = agree_tested c.args.spec.now b told c.joined_on.result (sum_by sent_in b.history) c.joined_on.ensures (next_message_is b told) c.args.controllers.now c.args.participants.now a in
     c.have_begun.ensures ∙ t.begun)
 
 pub returns-then-not-are_cared_for : goal.returns-then-not-are_cared_for
 returns-then-not-are_cared_for g c =
-    let spec = c.args.spec.now in
-    let b = c.args.board.now in
-    let told = c.history.ensures.history in
-    let ks = c.args.controllers.now in
-    let ps = c.args.participants.now in
-    let many : length spec.instances ≡ c.len-instances.result = sym c.len-instances.ensures.len in
     fails c.are_cared_for.result c.if-not-are_cared_for.true
-    (λ a. let t = agree_tested spec b told (sum_by joined_in b.history) (sum_by sent_in b.history) (next_session_is b told) (next_message_is b told) ks ps a in
-    c.are_cared_for.ensures ∙ ap (λ (n : ℕ). are_cared_for n b.cluster (map stationed ps)) (sym many) ∙ t.cared)
+    (λ a. c.are_cared_for.ensures ∙ ap (λ (n : ℕ). are_cared_for n c.args.board.now.cluster (map stationed c.args.participants.now)) c.len-instances.ensures.len ∙ (tested g (goal.at.returns-then-not-are_cared_for g c).After-history a).cared)
 
 pub returns : goal.returns
 returns g c =
