@@ -146,8 +146,20 @@ with_model_kept table name listed model new states same no_fault good = record {
       named = each_so (λ (s : StateId). s.0 < length table.states) (λ (s : StateId). s.0 < length listed.names) (λ s lt. omega (arith, lt, states.more)) (states_of m) is.named;
     }
 
-model_kept : (table after : ModelTable) (d : Data) → AreModels table → model_in table d ≡ Ok after → AreModels after
-model_kept table after d good is =
+-- a model that was read behind others, step by step
+record IsModelRead (table after : ModelTable) (d : Data) : Type 0 where
+  members : Members
+  name : List ℕ
+  listed : StateTable
+  model : ModelParts
+  named : required (codes "name") (new_name_in table.names) members ≡ Ok name
+  states : required (codes "states") (states_in table.states) members ≡ Ok listed
+  own : listed.states ≡ model.states
+  no_fault : fault_of model ≡ None
+  made : with_model table name listed.names model ≡ after
+
+model_read : (table after : ModelTable) (d : Data) → model_in table d ≡ Ok after → IsModelRead table after d
+model_read table after d is =
     let members = then_ok (object_in (codes "name" ∷ codes "states" ∷ codes "initial" ∷ codes "transitions" ∷ []) d) _ after is in
     let name = then_ok (required (codes "name") (new_name_in table.names) members.0) _ after members.2 in
     let listed = then_ok (required (codes "states") (states_in table.states) members.0) _ after name.2 in
@@ -155,11 +167,25 @@ model_kept table after d good is =
     let model : ModelParts = record { states = listed.0.states; initial = steps.0.0; transitions = steps.0.1 } in
     let found = then_ok (checked model) _ after steps.2 in
     let faultless = unless_none (fault_of model) model found.0 found.1 in
-    let read = required_ok (codes "name") (new_name_in table.names) members.0 name.0 name.1 in
-    let new = new_name table.names read.0 name.0 read.1 in
-    let states = states_read table.states members.0 listed.0 good.states good.first_states listed.1 in
-    let same = ap (λ (m : ModelParts). with_model table name.0 listed.0.names m) faultless.1 ∙ ok_same (with_model table name.0 listed.0.names found.0) after found.2 in
-    subst AreModels same (with_model_kept table name.0 listed.0 model new states refl faultless.0 good)
+    record {
+      members = members.0;
+      name = name.0;
+      listed = listed.0;
+      model = model;
+      named = name.1;
+      states = listed.1;
+      own = refl;
+      no_fault = faultless.0;
+      made = ap (λ (m : ModelParts). with_model table name.0 listed.0.names m) faultless.1 ∙ ok_same (with_model table name.0 listed.0.names found.0) after found.2;
+    }
+
+model_kept : (table after : ModelTable) (d : Data) → AreModels table → model_in table d ≡ Ok after → AreModels after
+model_kept table after d good is =
+    let m = model_read table after d is in
+    let read = required_ok (codes "name") (new_name_in table.names) m.members m.name m.named in
+    let new = new_name table.names read.0 m.name read.1 in
+    let states = states_read table.states m.members m.listed good.states good.first_states m.states in
+    subst AreModels m.made (with_model_kept table m.name m.listed m.model new states m.own m.no_fault good)
 
 built_in_good : AreModels built_in
 built_in_good = record {
@@ -191,15 +217,8 @@ states_few names members t is =
 
 model_grows : (t u : ModelTable) (d : Data) → model_in t d ≡ Ok u → Grows t u
 model_grows t u d is =
-    let members = then_ok (object_in (codes "name" ∷ codes "states" ∷ codes "initial" ∷ codes "transitions" ∷ []) d) _ u is in
-    let name = then_ok (required (codes "name") (new_name_in t.names) members.0) _ u members.2 in
-    let listed = then_ok (required (codes "states") (states_in t.states) members.0) _ u name.2 in
-    let steps = then_ok (steps_in listed.0 members.0) _ u listed.2 in
-    let model : ModelParts = record { states = listed.0.states; initial = steps.0.0; transitions = steps.0.1 } in
-    let found = then_ok (checked model) _ u steps.2 in
-    let faultless = unless_none (fault_of model) model found.0 found.1 in
-    let same = ap (λ (m : ModelParts). with_model t name.0 listed.0.names m) faultless.1 ∙ ok_same (with_model t name.0 listed.0.names found.0) u found.2 in
-    subst (λ (v : ModelTable). Grows t v) same (record { states = states_few t.states members.0 listed.0 listed.1; models = length-append t.models (model ∷ []) })
+    let m = model_read t u d is in
+    subst (λ (v : ModelTable). Grows t v) m.made (record { states = states_few t.states m.members m.listed m.states; models = length-append t.models (m.model ∷ []) })
 
 pub record AreFewModels (table : ModelTable) : Type 0 where
   pub good : AreModels table

@@ -1,5 +1,5 @@
 -- Each description that is read is valid.
-use Rattle.std.proofs.Common.{◌≡◌, ℕ, ◌-◌, ◌^◌, ◌≤◌, Bool, true, false, List, [], length, Option, None, Some, Result, Ok, Err, inl, inr, refl, subst, arith}
+use Rattle.std.proofs.Common.{◌≡◌, ℕ, ◌-◌, ◌^◌, ◌≤◌, Bool, true, false, List, [], length, Option, None, Some, Result, Ok, Err, inl, inr, refl, subst, rules, arith}
 use Rattle.std.specs.Prelude.{if◌then◌else◌, IfOk, codes}
 use Rattle.serde_json.specs.Data.{Data, Members}
 use Rattle.hx_text.specs.Lines.{cut_of}
@@ -99,29 +99,7 @@ json_valid None spec is = cc
 json_valid (Some d) spec is = described_valid d spec is
 
 demo_valid : IsValid demo
-demo_valid = record {
-  instances = refl;
-  some_instances = refl;
-  controllers = refl;
-  timeout = refl;
-  states = refl;
-  few_states = omega arith;
-  builtin_states = refl;
-  models = refl;
-  few_models = omega arith;
-  builtin_models = refl;
-  model_names = refl;
-  builtin_names = refl;
-  each_named = refl;
-  rules = refl;
-  few_rules = omega arith;
-  resource_names = refl;
-  resources = refl;
-  few_resources = omega arith;
-  apart = refl;
-  failures = refl;
-  few_failures = omega arith;
-}
+demo_valid = search (rules, arith)
 
 spec_valid : (bytes : List ℕ) (spec : Spec) → spec_of bytes ≡ Ok spec → IsRead spec
 spec_valid bytes spec is = one (is_demo bytes) is

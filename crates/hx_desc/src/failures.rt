@@ -103,7 +103,7 @@ fn failed_turn(alloc: Global, object: &Object) -> Result<(bool, u32), DescRefusa
 /// The members of a failure.
 const FAILURE_KEYS: [&str; 5] = ["instance", "resource", "part", "run", "make"];
 
-/// A failure, over the instances and the resources.
+/// A failure, or all of them, over the instances and the resources.
 #[derive(Clone, Copy)]
 struct FailureForm<'a> {
     instances: &'a Names,
@@ -137,25 +137,14 @@ impl ItemForm for FailureForm<'_> {
     }
 }
 
-/// All failures.
-#[derive(Clone, Copy)]
-struct FailuresForm<'a> {
-    instances: &'a Names,
-    table: &'a ResourceTable,
-}
-
-impl Form for FailuresForm<'_> {
+impl Form for FailureForm<'_> {
     type Output = Seq<Failure>;
 
     ghost found = { λ form d. Spec.failures_in form.instances.now form.table.now d };
 
     fn read(self, alloc: Global, value: &Value) -> Result<Seq<Failure>, DescRefusal> {
         let values = array_up_to(alloc, MOST_FAILURES, value)?;
-        let form = FailureForm {
-            instances: self.instances,
-            table: self.table,
-        };
-        read_all(alloc, &form, Seq::new(alloc), values)
+        read_all(alloc, &self, Seq::new(alloc), values)
     }
 }
 
@@ -173,6 +162,6 @@ pub(crate) fn failures(
     object.optional(
         "failures",
         Seq::new(alloc),
-        FailuresForm { instances, table },
+        FailureForm { instances, table },
     )
 }

@@ -90,7 +90,7 @@ const RESOURCE_KEYS: [&str; 7] = [
     "maps",
 ];
 
-/// A resource, over the instances and the models.
+/// A resource, or all of them, over the instances and the models.
 #[derive(Clone, Copy)]
 struct ResourceForm<'a> {
     instances: &'a Names,
@@ -133,26 +133,14 @@ impl ItemForm for ResourceForm<'_> {
     }
 }
 
-/// All resources.
-#[derive(Clone, Copy)]
-struct ResourcesForm<'a> {
-    instances: &'a Names,
-    models: &'a ModelTable,
-    ghost few: { AreFew models.now },
-}
-
-impl Form for ResourcesForm<'_> {
+impl Form for ResourceForm<'_> {
     type Output = ResourceTable;
 
     ghost found = { λ form d. Spec.resources_in form.instances.now form.models.now d };
 
     fn read(self, alloc: Global, value: &Value) -> Result<ResourceTable, DescRefusal> {
         let values = array_up_to(alloc, MOST_RESOURCES, value)?;
-        let form = ResourceForm {
-            instances: self.instances,
-            models: self.models,
-        };
-        read_all(alloc, &form, no_resources(alloc), values)
+        read_all(alloc, &self, no_resources(alloc), values)
     }
 }
 
@@ -171,6 +159,6 @@ pub(crate) fn resources(
     object.optional(
         "resources",
         no_resources(alloc),
-        ResourcesForm { instances, models },
+        ResourceForm { instances, models },
     )
 }

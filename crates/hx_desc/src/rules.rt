@@ -83,7 +83,7 @@ fn transition(
     }
 }
 
-/// A rule, over the names of all states.
+/// A rule, or all of them, over the names of all states.
 #[derive(Clone, Copy)]
 struct RuleForm<'a> {
     states: &'a Names,
@@ -125,24 +125,14 @@ impl ItemForm for RuleForm<'_> {
     }
 }
 
-/// All rules.
-#[derive(Clone, Copy)]
-struct RulesForm<'a> {
-    states: &'a Names,
-    ghost few: { length states.now ≤ 256 },
-}
-
-impl Form for RulesForm<'_> {
+impl Form for RuleForm<'_> {
     type Output = Seq<Rule>;
 
     ghost found = { λ form d. Spec.rules_in form.states.now d };
 
     fn read(self, alloc: Global, value: &Value) -> Result<Seq<Rule>, DescRefusal> {
         let values = array_up_to(alloc, MOST_RULES, value)?;
-        let form = RuleForm {
-            states: self.states,
-        };
-        read_all(alloc, &form, Seq::new(alloc), values)
+        read_all(alloc, &self, Seq::new(alloc), values)
     }
 }
 
@@ -156,5 +146,5 @@ pub(crate) fn rules(
     ensures { Reads result
         (optional (codes "throttles") [] (Spec.rules_in states.now) (members_of object.now)) }
 {
-    object.optional("throttles", Seq::new(alloc), RulesForm { states })
+    object.optional("throttles", Seq::new(alloc), RuleForm { states })
 }

@@ -1,6 +1,6 @@
 //! What may be wrong with a description, and where.
-ghost use Rattle.std.specs.Prelude.{◌≡◌, [], ◌++◌, codes, decimal, IfOk};
-ghost use Rattle.hx_forms.specs.declared.faults.DescRefusal.TheVariants.{Fault};
+ghost use Rattle.std.specs.Prelude.{◌≡◌, [], ◌++◌, codes, decimal, IfOk, OnErr};
+ghost use Rattle.hx_forms.specs.declared.faults.DescRefusal.TheVariants.{Fault, OutOfMemory};
 ghost use Rattle.hx_forms.specs.Reading.{IsWithin};
 
 use std::alloc::{AllocError, AllocFailed, Global};
@@ -164,6 +164,17 @@ pub fn fault(alloc: Global, kind: DescKind) -> DescRefusal
     })
 }
 
+/// A fault at a path, or want of memory where there is none.
+fn fault_at(kind: DescKind, path: Result<Path, AllocError>) -> DescRefusal
+    ensures ok { IfOk path (λ path. result ≡ Fault (record { kind = kind; path = path })) }
+    ensures err { OnErr path (result ≡ OutOfMemory) }
+{
+    match path {
+        Ok(path) => DescRefusal::Fault(DescFault { kind, path }),
+        Err(_) => DescRefusal::OutOfMemory,
+    }
+}
+
 impl DescRefusal {
     /// The refusal of the value of which this one's is a member.
     pub fn in_member(self, alloc: Global, name: &str) -> DescRefusal
@@ -172,13 +183,7 @@ impl DescRefusal {
         let DescRefusal::Fault(fault) = self else {
             return DescRefusal::OutOfMemory;
         };
-        match fault.path.in_member(alloc, name) {
-            Ok(path) => DescRefusal::Fault(DescFault {
-                kind: fault.kind,
-                path,
-            }),
-            Err(_) => DescRefusal::OutOfMemory,
-        }
+        fault_at(fault.kind, fault.path.in_member(alloc, name))
     }
 
     /// The refusal of a whole description, which this one's value is.
@@ -188,13 +193,7 @@ impl DescRefusal {
         let DescRefusal::Fault(fault) = self else {
             return DescRefusal::OutOfMemory;
         };
-        match fault.path.in_description(alloc) {
-            Ok(path) => DescRefusal::Fault(DescFault {
-                kind: fault.kind,
-                path,
-            }),
-            Err(_) => DescRefusal::OutOfMemory,
-        }
+        fault_at(fault.kind, fault.path.in_description(alloc))
     }
 
     /// The refusal of the array of which this one's value is an item.
@@ -204,12 +203,6 @@ impl DescRefusal {
         let DescRefusal::Fault(fault) = self else {
             return DescRefusal::OutOfMemory;
         };
-        match fault.path.in_item(alloc, place) {
-            Ok(path) => DescRefusal::Fault(DescFault {
-                kind: fault.kind,
-                path,
-            }),
-            Err(_) => DescRefusal::OutOfMemory,
-        }
+        fault_at(fault.kind, fault.path.in_item(alloc, place))
     }
 }

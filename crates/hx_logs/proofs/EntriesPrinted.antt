@@ -24,14 +24,15 @@ use Rattle.hx_print.specs.Texts.{name_at, instance_name, state_name, model_name,
 use Rattle.hx_script.specs.declared.faults.ScriptKind.{ScriptKind}
 use Rattle.hx_script.specs.declared.faults.ScriptKind.TheVariants as kinds
 use Rattle.hx_script.specs.declared.log.LogMove.{LogMove}
+use Rattle.hx_script.specs.declared.log.LogPart.{LogPart}
 use Rattle.hx_script.specs.declared.log.LogEntry.{LogEntry}
 use Rattle.hx_script.specs.declared.log.LogEntry.TheVariants as logs
 use Rattle.hx_script.specs.declared.log.LogVerb.{LogVerb}
 use Rattle.hx_script.specs.declared.log.LogVerb.TheVariants as verbs
 use Rattle.hx_script.specs.Grammar.{map_ok, then_ok, one_word, two_words, three_words, five_words, instance_word, state_word, model_word, controller_word, mode_word, pair_word, all_words, instance_alone, controller_alone}
 use Rattle.hx_script.specs.LineTexts.{mode_text}
-use Rattle.hx_script.specs.Logs.{exact_words, short_number, long_number, session_word, message_id_word, epoch_word, pass_word, unless_dash, is_hash, name_before, resource_number, resource_named, part_named, move_word, outcome_word, one_and_more, instance_and_session, controller_and_epoch, controller_and_pass, pass_and_session, epoch_and_pass, session_and_message, add_entry, drop_entry, list_entry, map_entry, reset_entry, fetch_entry, write_entry, ended_words, tick_entry, move_of, then_move, is_of, bare_answer, answer_with, bound_answer, throttle_answer, move_words, dispatch_entry, alone, told_by, log_verb_name, all_log_verbs, is_log_verb, log_verb_of, told_words, second_word}
-use Rattle.hx_script.proofs.FormsAgain.{one_from, two_from, three_from, five_from}
+use Rattle.hx_script.specs.Logs.{exact_words, short_number, long_number, session_word, message_id_word, epoch_word, pass_word, unless_dash, is_hash, name_before, resource_number, resource_named, part_named, move_word, outcome_word, one_and_more, instance_and_session, controller_and_epoch, controller_and_pass, pass_and_session, epoch_and_pass, session_and_message, add_entry, drop_entry, reset_entry, fetch_entry, write_entry, ended_words, tick_entry, move_of, then_move, is_of, bare_answer, answer_with, bound_answer, throttle_answer, move_words, dispatch_entry, alone, told_by, log_verb_name, all_log_verbs, is_log_verb, log_verb_of, told_words, second_word}
+use Rattle.hx_script.proofs.LineParts.{one_from, two_from, three_from, five_from}
 use Rattle.hx_script.proofs.Joined.{joined}
 use Rattle.hx_script.proofs.Later.{with_names}
 use Rattle.hx_script.proofs.WordsAgain.{map_ok_from, then_ok_from, or_fault_from, same_bytes, instance_again, state_again, model_again, controller_again, mode_again, pair_again, all_again}
@@ -109,6 +110,23 @@ three_read one two three f ws y e =
     let c = map_ok_from (f a.0 b.0) (three t.0.2) y b.2 in
     record { u = t.0.0; v = t.0.1; w = t.0.2; a = a.0; b = b.0; c = c.0; are = three_from ws t.0 t.1; first = a.1; second = b.1; third = c.1; made = c.2 }
 
+-- which, written again, are the words
+two_again : {A B : Type 0} (one : List ℕ → Result A ScriptKind) (two : List ℕ → Result B ScriptKind) (text : A → List ℕ) (other : B → List ℕ)
+    → ((w : List ℕ) (a : A) → one w ≡ Ok a → text a ≡ w) → ((w : List ℕ) (b : B) → two w ≡ Ok b → other b ≡ w)
+    → (ws : List (List ℕ)) (t : A × B) → then_ok (two_words ws) (λ t. then_ok (one t.0) (λ a. map_ok (λ b. (a, b)) (two t.1))) ≡ Ok t → text t.0 ∷ other t.1 ∷ [] ≡ ws
+two_again {A} {B} one two text other first second ws t e =
+    let r = two_read one two (λ a b. (a, b)) ws t e in
+    ap (λ (t : A × B). text t.0 ∷ other t.1 ∷ []) (sym r.made) ∙ two_same (text r.a) (other r.b) r.v r.w ws r.are (first r.v r.a r.first) (second r.w r.b r.second)
+
+three_again : {A B C : Type 0} (one : List ℕ → Result A ScriptKind) (two : List ℕ → Result B ScriptKind) (three : List ℕ → Result C ScriptKind) (text : A → List ℕ) (other : B → List ℕ) (last : C → List ℕ)
+    → ((w : List ℕ) (a : A) → one w ≡ Ok a → text a ≡ w) → ((w : List ℕ) (b : B) → two w ≡ Ok b → other b ≡ w) → ((w : List ℕ) (c : C) → three w ≡ Ok c → last c ≡ w)
+    → (ws : List (List ℕ)) (t : A × B × C) → then_ok (three_words ws) (λ t. then_ok (one t.0) (λ a. then_ok (two t.1) (λ b. map_ok (λ c. (a, b, c)) (three t.2)))) ≡ Ok t
+    → text t.0 ∷ other t.1 ∷ last t.2 ∷ [] ≡ ws
+three_again {A} {B} {C} one two three text other last first second third ws t e =
+    let r = three_read one two three (λ a b c. (a, b, c)) ws t e in
+    ap (λ (t : A × B × C). text t.0 ∷ other t.1 ∷ last t.2 ∷ []) (sym r.made)
+    ∙ three_same (text r.a) (other r.b) (last r.c) r.u r.v r.w ws r.are (first r.u r.a r.first) (second r.v r.b r.second) (third r.w r.c r.third)
+
 -- any number of lines
 lines_printed : {A : Type 0} (word : List (List ℕ) → Result A ScriptKind) (text : A → List (List ℕ)) (test : A → Bool) → ((ws : List (List ℕ)) (x : A) → word ws ≡ Ok x → test x ≡ true → text x ≡ ws)
     → (ls : List (List ℕ)) (xs : List A) → all_words (λ l. word (exact_words l)) ls ≡ Ok xs → list_all test xs ≡ true → map joined (map text xs) ≡ ls
@@ -149,25 +167,15 @@ HasAdded spec names words entry =
 
 -- an added resource, word by word
 record Added (spec : Spec) (ws : List (List ℕ)) (entry : LogEntry) : Type 0 where
-  u : List ℕ
-  v : List ℕ
-  w : List ℕ
-  x : List ℕ
-  y : List ℕ
-  name : List ℕ
-  resource : ResourceId
-  model : ModelId
-  replicas : ℕ
-  parts : ℕ
-  mode : ℕ
-  are : ws ≡ u ∷ v ∷ w ∷ x ∷ y ∷ []
-  named : name_before u ≡ Ok name
-  numbered : resource_number (after_first is_hash u) ≡ Ok resource
-  modelled : model_word spec v ≡ Ok model
-  replicated : short_number w ≡ Ok replicas
-  parted : short_number x ≡ Ok parts
-  moded : mode_word y ≡ Ok mode
-  made : logs.Add (place_after spec.resource_names name) resource model replicas parts mode ≡ entry
+  texts : List ℕ × List ℕ × List ℕ × List ℕ × List ℕ
+  are : ws ≡ texts.0 ∷ texts.1 ∷ texts.2 ∷ texts.3 ∷ texts.4 ∷ []
+  name : (t : List ℕ) × (name_before texts.0 ≡ Ok t)
+  resource : (r : ResourceId) × (resource_number (after_first is_hash texts.0) ≡ Ok r)
+  model : (m : ModelId) × (model_word spec texts.1 ≡ Ok m)
+  replicas : (n : ℕ) × (short_number texts.2 ≡ Ok n)
+  parts : (n : ℕ) × (short_number texts.3 ≡ Ok n)
+  mode : (n : ℕ) × (mode_word texts.4 ≡ Ok n)
+  made : logs.Add (place_after spec.resource_names name.0) resource.0 model.0 replicas.0 parts.0 mode.0 ≡ entry
 
 module _ (spec : Spec) (names : List (List ℕ)) (more : printed.HasMore spec names) (named : are_names spec.states ≡ true) where
   abbrev after : Spec
@@ -207,55 +215,37 @@ module _ (spec : Spec) (names : List (List ℕ)) (more : printed.HasMore spec na
   session_text t = instance_name spec t.0 ∷ session_name t.1 ∷ []
 
   session_words : (ws : List (List ℕ)) (t : InstanceId × SessionId) → instance_and_session spec ws ≡ Ok t → session_text t ≡ ws
-  session_words ws t e =
-      let r = two_read (instance_word spec) session_word (λ i s. (i, s)) ws t e in
-      ap session_text (sym r.made)
-      ∙ two_same (instance_name spec r.a) (session_name r.b) r.v r.w ws r.are (instance_again spec r.v r.a r.first) (printed.session_again r.w r.b r.second)
+  session_words ws t e = two_again (instance_word spec) session_word (instance_name spec) session_name (instance_again spec) printed.session_again ws t e
 
   abbrev epoch_text : ControllerId × Epoch → List (List ℕ)
   epoch_text t = controller_name t.0 ∷ epoch_name t.1 ∷ []
 
   epoch_words : (ws : List (List ℕ)) (t : ControllerId × Epoch) → controller_and_epoch spec ws ≡ Ok t → epoch_text t ≡ ws
-  epoch_words ws t e =
-      let r = two_read (controller_word spec) epoch_word (λ k e. (k, e)) ws t e in
-      ap epoch_text (sym r.made)
-      ∙ two_same (controller_name r.a) (epoch_name r.b) r.v r.w ws r.are (controller_again spec r.v r.a r.first) (printed.epoch_again r.w r.b r.second)
+  epoch_words ws t e = two_again (controller_word spec) epoch_word controller_name epoch_name (controller_again spec) printed.epoch_again ws t e
 
   abbrev pass_text : ControllerId × PassNo → List (List ℕ)
   pass_text t = controller_name t.0 ∷ pass_name t.1 ∷ []
 
   pass_words : (ws : List (List ℕ)) (t : ControllerId × PassNo) → controller_and_pass spec ws ≡ Ok t → pass_text t ≡ ws
-  pass_words ws t e =
-      let r = two_read (controller_word spec) pass_word (λ k p. (k, p)) ws t e in
-      ap pass_text (sym r.made)
-      ∙ two_same (controller_name r.a) (pass_name r.b) r.v r.w ws r.are (controller_again spec r.v r.a r.first) (printed.pass_again r.w r.b r.second)
+  pass_words ws t e = two_again (controller_word spec) pass_word controller_name pass_name (controller_again spec) printed.pass_again ws t e
 
   abbrev read_text : ControllerId × PassNo × SessionId → List (List ℕ)
   read_text t = controller_name t.0 ∷ pass_name t.1 ∷ session_name t.2 ∷ []
 
   read_words : (ws : List (List ℕ)) (t : ControllerId × PassNo × SessionId) → pass_and_session spec ws ≡ Ok t → read_text t ≡ ws
-  read_words ws t e =
-      let r = three_read (controller_word spec) pass_word session_word (λ k p s. (k, p, s)) ws t e in
-      ap read_text (sym r.made)
-      ∙ three_same (controller_name r.a) (pass_name r.b) (session_name r.c) r.u r.v r.w ws r.are (controller_again spec r.u r.a r.first) (printed.pass_again r.v r.b r.second) (printed.session_again r.w r.c r.third)
+  read_words ws t e = three_again (controller_word spec) pass_word session_word controller_name pass_name session_name (controller_again spec) printed.pass_again printed.session_again ws t e
 
   abbrev turn_text : ControllerId × Epoch × PassNo → List (List ℕ)
   turn_text t = controller_name t.0 ∷ epoch_name t.1 ∷ pass_name t.2 ∷ []
 
   turn_words : (ws : List (List ℕ)) (t : ControllerId × Epoch × PassNo) → epoch_and_pass spec ws ≡ Ok t → turn_text t ≡ ws
-  turn_words ws t e =
-      let r = three_read (controller_word spec) epoch_word pass_word (λ k e p. (k, e, p)) ws t e in
-      ap turn_text (sym r.made)
-      ∙ three_same (controller_name r.a) (epoch_name r.b) (pass_name r.c) r.u r.v r.w ws r.are (controller_again spec r.u r.a r.first) (printed.epoch_again r.v r.b r.second) (printed.pass_again r.w r.c r.third)
+  turn_words ws t e = three_again (controller_word spec) epoch_word pass_word controller_name epoch_name pass_name (controller_again spec) printed.epoch_again printed.pass_again ws t e
 
   abbrev mark_text : SessionId × MsgId → List (List ℕ)
   mark_text t = session_name t.0 ∷ message_name t.1 ∷ []
 
   mark_words : (ws : List (List ℕ)) (t : SessionId × MsgId) → session_and_message ws ≡ Ok t → mark_text t ≡ ws
-  mark_words ws t e =
-      let r = two_read session_word message_id_word (λ s m. (s, m)) ws t e in
-      ap mark_text (sym r.made)
-      ∙ two_same (session_name r.a) (message_name r.b) r.v r.w ws r.are (printed.session_again r.v r.a r.first) (printed.message_again r.w r.b r.second)
+  mark_words ws t e = two_again session_word message_id_word session_name message_name printed.session_again printed.message_again ws t e
 
   -- the other forms
   line_form : (ws : List (List ℕ)) (entry : LogEntry) → then_ok (one_word ws) (λ w. map_ok logs.Line (short_number w)) ≡ Ok entry → IsBare after entry (log_verb_name verbs.Line ∷ ws)
@@ -274,37 +264,29 @@ module _ (spec : Spec) (names : List (List ℕ)) (more : printed.HasMore spec na
       let parts = then_ok_from (short_number t.0.3) _ entry replicas.2 in
       let mode = map_ok_from (logs.Add (place_after spec.resource_names name.0) r.0 model.0 replicas.0 parts.0) (mode_word t.0.4) entry parts.2 in
       record {
-        u = t.0.0;
-        v = t.0.1;
-        w = t.0.2;
-        x = t.0.3;
-        y = t.0.4;
-        name = name.0;
-        resource = r.0;
-        model = model.0;
-        replicas = replicas.0;
-        parts = parts.0;
-        mode = mode.0;
+        texts = t.0;
         are = five_from ws t.0 t.1;
-        named = name.1;
-        numbered = r.1;
-        modelled = model.1;
-        replicated = replicas.1;
-        parted = parts.1;
-        moded = mode.1;
+        name = (name.0, name.1);
+        resource = (r.0, r.1);
+        model = (model.0, model.1);
+        replicas = (replicas.0, replicas.1);
+        parts = (parts.0, parts.1);
+        mode = (mode.0, mode.1);
         made = mode.2;
       }
 
   add_form : (first : List ℕ) (ws : List (List ℕ)) (entry : LogEntry) → HasAdded spec names (first ∷ ws) entry → Added spec ws entry → IsBare after entry (log_verb_name verbs.Add ∷ ws)
   add_form first ws entry added a =
-      let second : before_first is_hash (second_word (first ∷ ws)) ≡ a.name = ap (λ us. before_first is_hash (second_word (first ∷ us))) a.are ∙ printed.name_from a.u a.name a.named in
-      let stands : name_at names (place_after spec.resource_names a.name) ≡ a.name =
+      let t = a.texts in
+      let second : before_first is_hash (second_word (first ∷ ws)) ≡ a.name.0 = ap (λ us. before_first is_hash (second_word (first ∷ us))) a.are ∙ printed.name_from t.0 a.name.0 a.name.1 in
+      let stands : name_at names (place_after spec.resource_names a.name.0) ≡ a.name.0 =
       ap (λ v. name_at names (place_after spec.resource_names v)) (sym second) ∙ added (ap is_added (sym a.made)) ∙ second in
-      bare (logs.Add (place_after spec.resource_names a.name) a.resource a.model a.replicas a.parts a.mode) entry verbs.Add
-      (numbered (name_at names (place_after spec.resource_names a.name)) a.resource ∷ model_name spec a.model ∷ decimal a.replicas ∷ decimal a.parts ∷ mode_text a.mode ∷ []) ws a.made refl refl
-      (five_same (numbered (name_at names (place_after spec.resource_names a.name)) a.resource) (model_name spec a.model) (decimal a.replicas) (decimal a.parts) (mode_text a.mode) a.u a.v a.w a.x a.y ws a.are
-      (ap (λ v. numbered v a.resource) stands ∙ printed.numbered_printed a.u a.name a.resource a.named a.numbered) (model_again spec a.v a.model a.modelled)
-      (printed.short_again a.w a.replicas a.replicated) (printed.short_again a.x a.parts a.parted) (mode_again a.y a.mode a.moded))
+      let text = numbered (name_at names (place_after spec.resource_names a.name.0)) a.resource.0 in
+      bare (logs.Add (place_after spec.resource_names a.name.0) a.resource.0 a.model.0 a.replicas.0 a.parts.0 a.mode.0) entry verbs.Add
+      (text ∷ model_name spec a.model.0 ∷ decimal a.replicas.0 ∷ decimal a.parts.0 ∷ mode_text a.mode.0 ∷ []) ws a.made refl refl
+      (five_same text (model_name spec a.model.0) (decimal a.replicas.0) (decimal a.parts.0) (mode_text a.mode.0) t.0 t.1 t.2 t.3 t.4 ws a.are
+      (ap (λ v. numbered v a.resource.0) stands ∙ printed.numbered_printed t.0 a.name.0 a.resource.0 a.name.1 a.resource.1) (model_again spec t.1 a.model.0 a.model.1)
+      (printed.short_again t.2 a.replicas.0 a.replicas.1) (printed.short_again t.3 a.parts.0 a.parts.1) (mode_again t.4 a.mode.0 a.mode.1))
 
   drop_form : (ws : List (List ℕ)) (entry : LogEntry) → has_names entry ≡ true → drop_entry spec ws ≡ Ok entry → IsBare after entry (log_verb_name verbs.Drop ∷ ws)
   drop_form ws entry known e =
@@ -314,54 +296,50 @@ module _ (spec : Spec) (names : List (List ℕ)) (more : printed.HasMore spec na
       bare (logs.Drop r.0.0 r.0.1) entry verbs.Drop (text ∷ []) ws r.2 refl refl
       (one_same text w.0 ws (one_from ws w.0 w.1) (printed.resource_printed spec names more w.0 r.0 r.1 (ap has_names r.2 ∙ known)))
 
-  list_form : (ws : List (List ℕ)) (entry : LogEntry) → has_names entry ≡ true → list_entry spec ws ≡ Ok entry → IsBare after entry (log_verb_name verbs.List ∷ ws)
-  list_form ws entry known e =
+  rest_form : {A : Type 0} (f : LogPart → List A → LogEntry) (verb : LogVerb) (word : List ℕ → Result A ScriptKind) (text : A → List ℕ) (ws : List (List ℕ)) (entry : LogEntry)
+      → ((p : LogPart) (xs : List A) → words_told after (f p xs) ≡ log_verb_name verb ∷ part_text after p ∷ map text xs) → ((p : LogPart) (xs : List A) → indented_told after (f p xs) ≡ [])
+      → ((p : LogPart) (xs : List A) → f p xs ≡ entry → is_some p.name ≡ true) → ((w : List ℕ) (x : A) → word w ≡ Ok x → text x ≡ w)
+      → then_ok (one_and_more ws) (λ t. then_ok (part_named spec t.0) (λ p. map_ok (f p) (all_words word t.1))) ≡ Ok entry → IsBare after entry (log_verb_name verb ∷ ws)
+  rest_form f verb word text ws entry words none some again e =
       let t = then_ok_from (one_and_more ws) _ entry e in
       let p = then_ok_from (part_named spec t.0.0) _ entry t.2 in
-      let list = map_ok_from (logs.List p.0) (all_words (instance_word spec) t.0.1) entry p.2 in
-      bare (logs.List p.0 list.0) entry verbs.List (part_text after p.0 ∷ map (instance_name spec) list.0) ws list.2 refl refl
-      (ap (λ v. v ∷ map (instance_name spec) list.0) (printed.part_printed spec names more t.0.0 p.0 p.1 (ap has_names list.2 ∙ known))
-      ∙ ap (λ vs. t.0.0 ∷ vs) (all_again (instance_word spec) (instance_name spec) (instance_again spec) t.0.1 list.0 list.1)
+      let xs = map_ok_from (f p.0) (all_words word t.0.1) entry p.2 in
+      bare (f p.0 xs.0) entry verb (part_text after p.0 ∷ map text xs.0) ws xs.2 (words p.0 xs.0) (none p.0 xs.0)
+      (ap (λ v. v ∷ map text xs.0) (printed.part_printed spec names more t.0.0 p.0 p.1 (some p.0 xs.0 xs.2))
+      ∙ ap (λ vs. t.0.0 ∷ vs) (all_again word text again t.0.1 xs.0 xs.1)
       ∙ sym (some_from ws t.0 t.1))
 
-  map_form : (ws : List (List ℕ)) (entry : LogEntry) → has_names entry ≡ true → map_entry spec ws ≡ Ok entry → IsBare after entry (log_verb_name verbs.Map ∷ ws)
-  map_form ws entry known e =
-      let t = then_ok_from (one_and_more ws) _ entry e in
-      let p = then_ok_from (part_named spec t.0.0) _ entry t.2 in
-      let entries = map_ok_from (logs.Map p.0) (all_words (pair_word spec) t.0.1) entry p.2 in
-      bare (logs.Map p.0 entries.0) entry verbs.Map (part_text after p.0 ∷ map (mapped_name spec) entries.0) ws entries.2 refl refl
-      (ap (λ v. v ∷ map (mapped_name spec) entries.0) (printed.part_printed spec names more t.0.0 p.0 p.1 (ap has_names entries.2 ∙ known))
-      ∙ ap (λ vs. t.0.0 ∷ vs) (all_again (pair_word spec) (mapped_name spec) (pair_again spec) t.0.1 entries.0 entries.1)
-      ∙ sym (some_from ws t.0 t.1))
+  three_form : {A B C : Type 0} (one : List ℕ → Result A ScriptKind) (two : List ℕ → Result B ScriptKind) (three : List ℕ → Result C ScriptKind) (f : A → B → C → LogEntry) (verb : LogVerb)
+      (text : A → List ℕ) (other : B → List ℕ) (last : C → List ℕ) (ws : List (List ℕ)) (entry : LogEntry)
+      → ((a : A) (b : B) (c : C) → words_told after (f a b c) ≡ log_verb_name verb ∷ text a ∷ other b ∷ last c ∷ []) → ((a : A) (b : B) (c : C) → indented_told after (f a b c) ≡ [])
+      → ((w : List ℕ) (a : A) → one w ≡ Ok a → text a ≡ w) → ((w : List ℕ) (b : B) → two w ≡ Ok b → other b ≡ w)
+      → ((w : List ℕ) (a : A) (b : B) (c : C) → f a b c ≡ entry → three w ≡ Ok c → last c ≡ w)
+      → then_ok (three_words ws) (λ t. then_ok (one t.0) (λ a. then_ok (two t.1) (λ b. map_ok (f a b) (three t.2)))) ≡ Ok entry → IsBare after entry (log_verb_name verb ∷ ws)
+  three_form one two three f verb text other last ws entry words none first second third e =
+      let r = three_read one two three f ws entry e in
+      bare (f r.a r.b r.c) entry verb (text r.a ∷ other r.b ∷ last r.c ∷ []) ws r.made (words r.a r.b r.c) (none r.a r.b r.c)
+      (three_same (text r.a) (other r.b) (last r.c) r.u r.v r.w ws r.are (first r.u r.a r.first) (second r.v r.b r.second) (third r.w r.a r.b r.c r.made r.third))
 
   reset_form : (ws : List (List ℕ)) (entry : LogEntry) → has_names entry ≡ true → reset_entry spec ws ≡ Ok entry → IsBare after entry (log_verb_name verbs.Reset ∷ ws)
   reset_form ws entry known e =
-      let r = three_read (instance_word spec) session_word (part_named spec) logs.Reset ws entry e in
-      bare (logs.Reset r.a r.b r.c) entry verbs.Reset (instance_name spec r.a ∷ session_name r.b ∷ part_text after r.c ∷ []) ws r.made refl refl
-      (three_same (instance_name spec r.a) (session_name r.b) (part_text after r.c) r.u r.v r.w ws r.are
-      (instance_again spec r.u r.a r.first) (printed.session_again r.v r.b r.second) (printed.part_printed spec names more r.w r.c r.third (ap has_names r.made ∙ known)))
+      three_form (instance_word spec) session_word (part_named spec) logs.Reset verbs.Reset (instance_name spec) session_name (part_text after) ws entry (λ a b c. refl) (λ a b c. refl) (instance_again spec) printed.session_again
+      (λ w a b p made is. printed.part_printed spec names more w p is (ap has_names made ∙ known)) e
 
   post_form : (ws : List (List ℕ)) (entry : LogEntry) → then_ok (three_words ws) (λ t. then_ok (controller_word spec t.0) (λ k. then_ok (epoch_word t.1) (λ e. map_ok (logs.Post k e) (short_number t.2)))) ≡ Ok entry
       → IsBare after entry (log_verb_name verbs.Post ∷ ws)
   post_form ws entry e =
-      let r = three_read (controller_word spec) epoch_word short_number logs.Post ws entry e in
-      bare (logs.Post r.a r.b r.c) entry verbs.Post (controller_name r.a ∷ epoch_name r.b ∷ decimal r.c ∷ []) ws r.made refl refl
-      (three_same (controller_name r.a) (epoch_name r.b) (decimal r.c) r.u r.v r.w ws r.are
-      (controller_again spec r.u r.a r.first) (printed.epoch_again r.v r.b r.second) (printed.short_again r.w r.c r.third))
+      three_form (controller_word spec) epoch_word short_number logs.Post verbs.Post controller_name epoch_name decimal ws entry (λ a b c. refl) (λ a b c. refl) (controller_again spec) printed.epoch_again
+      (λ w a b n made is. printed.short_again w n is) e
 
   fetch_form : (ws : List (List ℕ)) (entry : LogEntry) → fetch_entry spec ws ≡ Ok entry → IsBare after entry (log_verb_name verbs.Fetch ∷ ws)
   fetch_form ws entry e =
-      let r = three_read (instance_word spec) (unless_dash session_word) short_number logs.Fetch ws entry e in
-      bare (logs.Fetch r.a r.b r.c) entry verbs.Fetch (instance_name spec r.a ∷ or_dash session_name r.b ∷ decimal r.c ∷ []) ws r.made refl refl
-      (three_same (instance_name spec r.a) (or_dash session_name r.b) (decimal r.c) r.u r.v r.w ws r.are
-      (instance_again spec r.u r.a r.first) (printed.or_dash_again session_word session_name printed.session_again r.v r.b r.second) (printed.short_again r.w r.c r.third))
+      three_form (instance_word spec) (unless_dash session_word) short_number logs.Fetch verbs.Fetch (instance_name spec) (or_dash session_name) decimal ws entry (λ a b c. refl) (λ a b c. refl) (instance_again spec)
+      (printed.or_dash_again session_word session_name printed.session_again) (λ w a b n made is. printed.short_again w n is) e
 
   write_form : (ws : List (List ℕ)) (entry : LogEntry) → write_entry ws ≡ Ok entry → IsBare after entry (log_verb_name verbs.Write ∷ ws)
   write_form ws entry e =
-      let r = three_read session_word message_id_word outcome_word logs.Write ws entry e in
-      bare (logs.Write r.a r.b r.c) entry verbs.Write (session_name r.a ∷ message_name r.b ∷ outcome_name r.c ∷ []) ws r.made refl refl
-      (three_same (session_name r.a) (message_name r.b) (outcome_name r.c) r.u r.v r.w ws r.are
-      (printed.session_again r.u r.a r.first) (printed.message_again r.v r.b r.second) (printed.outcome_again r.w r.c r.third))
+      three_form session_word message_id_word outcome_word logs.Write verbs.Write session_name message_name outcome_name ws entry (λ a b c. refl) (λ a b c. refl) printed.session_again printed.message_again
+      (λ w a b o made is. printed.outcome_again w o is) e
 
   -- a tick with the sessions that it ended
   ended_printed : (ws : List (List ℕ)) (t : InstanceId × SessionId) → ended_words spec ws ≡ Ok t → ended_told after t ≡ ws
@@ -503,8 +481,8 @@ module _ (spec : Spec) (names : List (List ℕ)) (more : printed.HasMore spec na
   verb_printed verbs.Undrain first ws ls entry known added e = written verbs.Undrain ws ls _ entry (form logs.Undrain (λ i. instance_name spec i ∷ []) verbs.Undrain (instance_alone spec ws) ws entry (λ i. refl) (λ i. refl) (instance_words ws)) e
   verb_printed verbs.Add first ws ls entry known added e = written verbs.Add ws ls _ entry (λ e. add_form first ws entry added (add_read ws entry e)) e
   verb_printed verbs.Drop first ws ls entry known added e = written verbs.Drop ws ls _ entry (drop_form ws entry known) e
-  verb_printed verbs.List first ws ls entry known added e = written verbs.List ws ls _ entry (list_form ws entry known) e
-  verb_printed verbs.Map first ws ls entry known added e = written verbs.Map ws ls _ entry (map_form ws entry known) e
+  verb_printed verbs.List first ws ls entry known added e = written verbs.List ws ls _ entry (rest_form logs.List verbs.List (instance_word spec) (instance_name spec) ws entry (λ p xs. refl) (λ p xs. refl) (λ p xs made. ap has_names made ∙ known) (instance_again spec)) e
+  verb_printed verbs.Map first ws ls entry known added e = written verbs.Map ws ls _ entry (rest_form logs.Map verbs.Map (pair_word spec) (mapped_name spec) ws entry (λ p xs. refl) (λ p xs. refl) (λ p xs made. ap has_names made ∙ known) (pair_again spec)) e
   verb_printed verbs.Reset first ws ls entry known added e = written verbs.Reset ws ls _ entry (reset_form ws entry known) e
   verb_printed verbs.Lead first ws ls entry known added e =
       written verbs.Lead ws ls _ entry (form (λ (t : ControllerId × Epoch). logs.Lead t.0 t.1) epoch_text verbs.Lead (controller_and_epoch spec ws) ws entry (λ t. refl) (λ t. refl) (epoch_words ws)) e

@@ -3,6 +3,7 @@ pub mod Cuts
 pub mod EntriesPrinted
 pub mod EntriesRead
 mod Examples
+pub mod IndentedLines
 pub mod OnRoll
 pub mod PrintedLogs
 pub mod ReadLogs

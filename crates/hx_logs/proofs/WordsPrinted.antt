@@ -9,6 +9,7 @@ use Rattle.std.proofs.lemmas.List.Sums.{passes_at_first, split_at_first}
 use Rattle.std.proofs.lemmas.Option.{unwrap_or-slice_get}
 use Rattle.std.proofs.Math.Seq.{get_or-append_seam}
 use Rattle.std.specs.Fmt.{decimal}
+use Rattle.std.specs.Option.{option_map}
 use Rattle.std.specs.List.{list_any, position_or_len, before_first, after_first}
 use Rattle.std.specs.Str.{bytes_eq}
 use Rattle.hx_ids.specs.Names.{place_of, place_after, interned}
@@ -27,7 +28,7 @@ use Rattle.hx_print.specs.Texts.{name_at, state_name, session_name, message_name
 use Rattle.hx_script.specs.declared.faults.ScriptKind.{ScriptKind}
 use Rattle.hx_script.specs.declared.faults.ScriptKind.TheVariants as kinds
 use Rattle.hx_script.specs.declared.log.LogPart.{LogPart}
-use Rattle.hx_script.specs.Grammar.{map_ok, state_word, numbered_by}
+use Rattle.hx_script.specs.Grammar.{map_ok, or_fault, state_word, numbered_by}
 use Rattle.hx_script.specs.Logs.{short_number, long_number, session_word, message_id_word, epoch_word, pass_word, is_dash, unless_dash, is_hash, is_slash, is_arrow, name_before, resource_number, resource_named, part_at, part_numbers, part_named, move_word, outcome_word}
 use Rattle.hx_script.proofs.Later.{with_names}
 use Rattle.hx_script.proofs.WordsAgain.{map_ok_from, then_ok_from, or_fault_from, option_map_from, same_bytes, any_within, none_first, first_at, name_again, state_again, number_again, numbered_again}
@@ -40,25 +41,24 @@ short_again w n e = number_again 0 (2 ^ 32 - 1) w n e
 pub long_again : (w : List ℕ) (n : ℕ) → long_number w ≡ Ok n → decimal n ≡ w
 long_again w n e = number_again 0 (2 ^ 64 - 1) w n e
 
+-- a letter and a number
+lettered_again : {A : Type 0} (made : ℕ → A) (text : A → List ℕ) (letter : ℕ) → ((n : ℕ) → text (made n) ≡ letter ∷ decimal n) → (kind : ScriptKind) (w : List ℕ) (x : A)
+    → or_fault kind (option_map made (numbered_by letter w)) ≡ Ok x → text x ≡ w
+lettered_again made text letter is kind w x e =
+    let from = option_map_from made (numbered_by letter w) x (or_fault_from kind _ x e) in
+    ap text (sym from.2) ∙ is from.0 ∙ numbered_again letter w from.0 from.1
+
 pub session_again : (w : List ℕ) (s : SessionId) → session_word w ≡ Ok s → session_name s ≡ w
-session_again w s e =
-    let from = option_map_from (λ (n : ℕ). let s : SessionId = record { 0 = n } in s) (numbered_by 115 w) s (or_fault_from _ _ s e) in
-    ap session_name (sym from.2) ∙ numbered_again 115 w from.0 from.1
+session_again w s e = lettered_again (λ (n : ℕ). let s : SessionId = record { 0 = n } in s) session_name 115 (λ n. refl) _ w s e
 
 pub message_again : (w : List ℕ) (m : MsgId) → message_id_word w ≡ Ok m → message_name m ≡ w
-message_again w m e =
-    let from = option_map_from (λ (n : ℕ). let m : MsgId = record { 0 = n } in m) (numbered_by 109 w) m (or_fault_from _ _ m e) in
-    ap message_name (sym from.2) ∙ numbered_again 109 w from.0 from.1
+message_again w m e = lettered_again (λ (n : ℕ). let m : MsgId = record { 0 = n } in m) message_name 109 (λ n. refl) _ w m e
 
 pub epoch_again : (w : List ℕ) (k : Epoch) → epoch_word w ≡ Ok k → epoch_name k ≡ w
-epoch_again w k e =
-    let from = option_map_from (λ (n : ℕ). let k : Epoch = record { 0 = n } in k) (numbered_by 101 w) k (or_fault_from _ _ k e) in
-    ap epoch_name (sym from.2) ∙ numbered_again 101 w from.0 from.1
+epoch_again w k e = lettered_again (λ (n : ℕ). let k : Epoch = record { 0 = n } in k) epoch_name 101 (λ n. refl) _ w k e
 
 pub pass_again : (w : List ℕ) (p : PassNo) → pass_word w ≡ Ok p → pass_name p ≡ w
-pass_again w p e =
-    let from = option_map_from (λ (n : ℕ). let p : PassNo = record { 0 = n } in p) (numbered_by 112 w) p (or_fault_from _ _ p e) in
-    ap pass_name (sym from.2) ∙ numbered_again 112 w from.0 from.1
+pass_again w p e = lettered_again (λ (n : ℕ). let p : PassNo = record { 0 = n } in p) pass_name 112 (λ n. refl) _ w p e
 
 resource_again : (w : List ℕ) (r : ResourceId) → resource_number w ≡ Ok r → decimal r.0 ≡ w
 resource_again w r e =

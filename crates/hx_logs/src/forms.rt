@@ -42,6 +42,7 @@ pub fn tick_number(words: &[&str]) -> Result<u64, ScriptKind>
 }
 
 /// An instance and a session.
+#[tactic(auto, using(hx_script::proofs::Shapes::words_2))]
 pub fn instance_and_session(
     spec: &Spec,
     words: &[&str],
@@ -55,6 +56,7 @@ pub fn instance_and_session(
 }
 
 /// A controller and an epoch.
+#[tactic(auto, using(hx_script::proofs::Shapes::words_2))]
 fn controller_and_epoch(spec: &Spec, words: &[&str]) -> Result<(ControllerId, Epoch), ScriptKind>
     ensures { result ≡ Logs.controller_and_epoch spec.now (map (λ w. w.now) words.now) }
 {
@@ -65,6 +67,7 @@ fn controller_and_epoch(spec: &Spec, words: &[&str]) -> Result<(ControllerId, Ep
 }
 
 /// A controller and a pass.
+#[tactic(auto, using(hx_script::proofs::Shapes::words_2))]
 fn controller_and_pass(spec: &Spec, words: &[&str]) -> Result<(ControllerId, PassNo), ScriptKind>
     ensures { result ≡ Logs.controller_and_pass spec.now (map (λ w. w.now) words.now) }
 {
@@ -75,6 +78,7 @@ fn controller_and_pass(spec: &Spec, words: &[&str]) -> Result<(ControllerId, Pas
 }
 
 /// A controller, a pass and a session.
+#[tactic(auto, using(hx_script::proofs::Shapes::words_3))]
 fn pass_and_session(
     spec: &Spec,
     words: &[&str],
@@ -90,6 +94,7 @@ fn pass_and_session(
 }
 
 /// A controller, an epoch and a pass.
+#[tactic(auto, using(hx_script::proofs::Shapes::words_3))]
 pub fn epoch_and_pass(
     spec: &Spec,
     words: &[&str],
@@ -105,6 +110,7 @@ pub fn epoch_and_pass(
 }
 
 /// A session and a message.
+#[tactic(auto, using(hx_script::proofs::Shapes::words_2))]
 fn session_and_message(words: &[&str]) -> Result<(SessionId, MsgId), ScriptKind>
     ensures { result ≡ Logs.session_and_message (map (λ w. w.now) words.now) }
 {
@@ -115,6 +121,7 @@ fn session_and_message(words: &[&str]) -> Result<(SessionId, MsgId), ScriptKind>
 }
 
 /// A new resource.
+#[tactic(auto, using(hx_script::proofs::Shapes::words_5))]
 fn add_entry(spec: &Spec, words: &[&str]) -> Result<LogEntry, ScriptKind>
     requires { length spec.now.model_names ≤ 256 }
     ensures { result ≡ Logs.add_entry spec.now (map (λ w. w.now) words.now) }
@@ -189,6 +196,7 @@ fn map_entry(
 }
 
 /// A reset.
+#[tactic(auto, using(hx_script::proofs::Shapes::words_3))]
 fn reset_entry(spec: &Spec, words: &[&str]) -> Result<LogEntry, ScriptKind>
     ensures { result ≡ Logs.reset_entry spec.now (map (λ w. w.now) words.now) }
 {
@@ -206,6 +214,7 @@ fn reset_entry(spec: &Spec, words: &[&str]) -> Result<LogEntry, ScriptKind>
 }
 
 /// A post, with the number of its rows.
+#[tactic(auto, using(hx_script::proofs::Shapes::words_3))]
 fn post_entry(spec: &Spec, words: &[&str]) -> Result<LogEntry, ScriptKind>
     ensures { result ≡ Logs.post_entry spec.now (map (λ w. w.now) words.now) }
 {
@@ -219,6 +228,7 @@ fn post_entry(spec: &Spec, words: &[&str]) -> Result<LogEntry, ScriptKind>
 }
 
 /// A fetch, with the number of its messages.
+#[tactic(auto, using(hx_script::proofs::Shapes::words_3))]
 fn fetch_entry(spec: &Spec, words: &[&str]) -> Result<LogEntry, ScriptKind>
     ensures { result ≡ Logs.fetch_entry spec.now (map (λ w. w.now) words.now) }
 {
@@ -236,6 +246,7 @@ fn fetch_entry(spec: &Spec, words: &[&str]) -> Result<LogEntry, ScriptKind>
 }
 
 /// A write, with its outcome.
+#[tactic(auto, using(hx_script::proofs::Shapes::words_3))]
 fn write_entry(words: &[&str]) -> Result<LogEntry, ScriptKind>
     ensures { result ≡ Logs.write_entry (map (λ w. w.now) words.now) }
 {

@@ -118,6 +118,7 @@ fn move_of(
 }
 
 /// What became of a proposal, by the words of its line.
+#[tactic(auto, using(crate::proofs::Shapes::move_shapes))]
 fn move_words(spec: &Spec, words: &[&str]) -> Result<LogMove, ScriptKind>
     requires { length spec.now.states ≤ 256 }
     ensures { result ≡ Logs.move_words spec.now (map (λ w. w.now) words.now) }

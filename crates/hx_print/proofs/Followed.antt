@@ -26,7 +26,7 @@ use Rattle.hx_cluster.specs.declared.happenings.Placed.TheVariants as placings
 use Rattle.hx_cluster.specs.declared.happenings.Event.{Event}
 use Rattle.hx_cluster.specs.declared.happenings.Event.TheVariants as events
 use Rattle.hx_cluster.specs.Ends.{shown_of, session_in, resource_at}
-use Rattle.hx_cluster.specs.Steps.{is_of, is_leader, live_of, ended_of, beaten_of, asked_of, changed_at, marked_down, without_leader, with_resource, after, did_of}
+use Rattle.hx_cluster.specs.Steps.{is_leader, live_of, ended_of, beaten_of, asked_of, changed_at, marked_down, after, did_of}
 use Rattle.hx_cluster.specs.Steps as Steps
 use Rattle.hx_cluster.specs.Messages.{after_placed, after_proposals, raised_pass, next_pass, pending_of, written_of, placed_of}
 use Rattle.hx_cluster.specs.Events.{next, IsStep, IsLegal}
@@ -45,7 +45,7 @@ shown-without s (l ∷ live) = one (l.session.0 == s.0) refl (shown-without s li
     one false is rest = rw is (ap (λ es. (l.session, l.instance) ∷ es) rest)
 
 -- the session of an instance
-session-shown : (i : InstanceId) (live : List Live) → session_in (shown_of live) i ≡ option_map (λ l. l.session) (live_of live i)
+pub session-shown : (i : InstanceId) (live : List Live) → session_in (shown_of live) i ≡ option_map (λ l. l.session) (live_of live i)
 session-shown i [] = refl
 session-shown i (l ∷ live) = one (l.instance.0 == i.0) refl (session-shown i live)
   where

@@ -1,4 +1,5 @@
 //! Outcomes, views and the other lines that are neither log lines nor notes.
+ghost use Rattle.std.specs.Prelude.{[], ◌∷◌, codes, decimal};
 ghost use Rattle.hx_text.specs.Texts.{Prints};
 ghost use Rattle.hx_print.specs.Texts;
 
@@ -9,28 +10,37 @@ use hx_ids::{ControllerId, InstanceId, MsgId, PartId, SessionId, StateId};
 use hx_text::Page;
 use std::alloc::AllocError;
 
-/// Prints that a dispatch sent so many messages.
-pub fn print_sent(controller: ControllerId, n: u32, page: &mut Page) -> Result<(), AllocError>
-    ensures { Prints (Texts.sent_text controller n) page.old result page.new }
+/// Prints what a controller's turn told, and how many.
+fn print_count(
+    controller: ControllerId,
+    told: &str,
+    n: u32,
+    page: &mut Page,
+) -> Result<(), AllocError>
+    ensures { Prints
+        (Texts.line_of (codes "?" ∷ Texts.controller_name controller ∷ told.now ∷ decimal n ∷ []))
+        page.old result page.new }
 {
     let n = Token::Number(n as u64);
     print_line(
         "?",
-        &[Token::Controller(controller), Token::Text("sent"), n],
+        &[Token::Controller(controller), Token::Text(told), n],
         page,
     )
+}
+
+/// Prints that a dispatch sent so many messages.
+pub fn print_sent(controller: ControllerId, n: u32, page: &mut Page) -> Result<(), AllocError>
+    ensures { Prints (Texts.sent_text controller n) page.old result page.new }
+{
+    print_count(controller, "sent", n, page)
 }
 
 /// Prints that a pass waits for so many pending messages.
 pub fn print_waiting(controller: ControllerId, n: u32, page: &mut Page) -> Result<(), AllocError>
     ensures { Prints (Texts.waiting_text controller n) page.old result page.new }
 {
-    let n = Token::Number(n as u64);
-    print_line(
-        "?",
-        &[Token::Controller(controller), Token::Text("waiting"), n],
-        page,
-    )
+    print_count(controller, "waiting", n, page)
 }
 
 /// Prints that the cluster changed under a pass, with the change numbers before and after.

@@ -25,6 +25,12 @@ all_words-more now word words i d done x lt good so_far =
     ∙ ap (behind done) (all_words-drop now word words i d lt ∙ ap (λ r. then_ok r (λ x. map_ok (λ xs. x ∷ xs) (all_words word (map now (drop (i + 1) words))))) good)
     ∙ behind-more done x (all_words word (map now (drop (i + 1) words)))
 
+-- which is put behind what was read
+pub all_words-put : {W A : Type 0} (now : W → List ℕ) (word : List ℕ → Result A ScriptKind) (words : List W) (i : ℕ) (d : W) (done more : List A) (x : A) → i < length words
+    → word (now (get_or words i d)) ≡ Ok x → more ≡ done ++ x ∷ [] → all_words word (map now words) ≡ behind done (all_words word (map now (drop i words)))
+    → all_words word (map now words) ≡ behind more (all_words word (map now (drop (i + 1) words)))
+all_words-put now word words i d done more x lt good put so_far = rw put (all_words-more now word words i d done x lt good so_far)
+
 -- a word that is not
 pub all_words-fault : {W A : Type 0} (now : W → List ℕ) (word : List ℕ → Result A ScriptKind) (words : List W) (i : ℕ) (d : W) (done : List A) (k : ScriptKind) → i < length words
     → word (now (get_or words i d)) ≡ Err k → all_words word (map now words) ≡ behind done (all_words word (map now (drop i words)))

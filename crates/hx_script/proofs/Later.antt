@@ -16,9 +16,10 @@ use Rattle.hx_script.specs.declared.verbs.Verb.{Verb}
 use Rattle.hx_script.specs.declared.verbs.Verb.TheVariants as verbs
 use Rattle.hx_script.specs.declared.faults.ScriptKind.{ScriptKind}
 use Rattle.hx_script.specs.declared.faults.ScriptKind.TheVariants as kinds
-use Rattle.hx_script.specs.Grammar.{map_ok, then_ok, or_fault, one_word, three_words, five_words, two_and_more, instance_word, resource_word, model_word, name_word, number_word, part_words, mode_word, add_line, drop_line, list_line, map_line, reset_line, route_line, what_of, is_add, with_second, spec_with}
+use Rattle.hx_script.specs.Grammar.{map_ok, then_ok, or_fault, one_word, three_words, two_and_more, instance_word, resource_word, name_word, part_words, add_line, drop_line, list_line, map_line, reset_line, route_line, what_of, is_add, with_second, spec_with}
 use Rattle.hx_script.proofs.Scripts.{adds_with}
-use Rattle.hx_script.proofs.WordsAgain.{or_fault_from, map_ok_from, then_ok_from, any_within, none_first}
+use Rattle.hx_script.proofs.WordsAgain.{or_fault_from, any_within, none_first}
+use Rattle.hx_script.proofs.LineParts.{add_split}
 
 abbrev pub with_names : Spec → List (List ℕ) → Spec
 with_names spec names = record spec { resource_names = names }
@@ -106,14 +107,7 @@ later_with spec words what more = with_names spec ((spec_with spec words (Ok wha
 
 -- only an `add` line adds
 pub add_is_add : (spec : Spec) (ws : List (List ℕ)) (what : What) → add_line spec ws ≡ Ok what → is_add (Some what) ≡ true
-add_is_add spec ws what e =
-    let t = then_ok_from (five_words ws) _ what e in
-    let name = then_ok_from (name_word spec t.0.0) _ what t.2 in
-    let model = then_ok_from (model_word spec t.0.1) _ what name.2 in
-    let replicas = then_ok_from (number_word 1 64 t.0.2) _ what model.2 in
-    let parts = then_ok_from (number_word 1 1024 t.0.3) _ what replicas.2 in
-    let mode = map_ok_from (asks.Add name.0 model.0 replicas.0 parts.0) (mode_word t.0.4) what parts.2 in
-    ap (λ x. is_add (Some x)) (sym mode.2)
+add_is_add spec ws what e = ap (λ x. is_add (Some x)) (sym (add_split spec ws what e).asked)
 
 add_later : (spec : Spec) (more : List (List ℕ)) (first : List ℕ) (ws : List (List ℕ)) (what : What) → add_line spec ws ≡ Ok what → add_line (later_with spec (first ∷ ws) (Some what) more) ws ≡ Ok what
 add_later spec more first [] what e = cc

@@ -6,6 +6,7 @@ pub mod Fronts
 pub mod Joined
 pub mod Later
 pub mod Letters
+pub mod LineParts
 pub mod LinesAgain
 pub mod NamesKept
 pub mod PlainWords

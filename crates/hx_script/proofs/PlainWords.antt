@@ -30,11 +30,12 @@ use Rattle.hx_script.specs.declared.verbs.Verb.{Verb}
 use Rattle.hx_script.specs.declared.verbs.Verb.TheVariants as verbs
 use Rattle.hx_script.specs.declared.faults.ScriptKind.{ScriptKind}
 use Rattle.hx_script.specs.declared.faults.ScriptKind.TheVariants as kinds
-use Rattle.hx_script.specs.Grammar.{map_ok, then_ok, one_word, two_words, three_words, five_words, two_and_more, instance_word, resource_word, model_word, state_word, name_word, in_range, number_word, part_word, part_words, numbered_by, controller_word, message_word, mode_word, read_kind_word, is_equals, pair_word, all_words, instance_alone, controller_alone, instance_and_message, tick_line, add_line, drop_line, reset_line, route_line, bare_line, what_of, verb_name}
+use Rattle.hx_script.specs.Grammar.{map_ok, then_ok, one_word, two_words, three_words, two_and_more, instance_word, resource_word, model_word, state_word, name_word, in_range, number_word, part_words, numbered_by, controller_word, message_word, mode_word, read_kind_word, is_equals, pair_word, all_words, instance_alone, controller_alone, instance_and_message, tick_line, add_line, drop_line, reset_line, route_line, bare_line, what_of, verb_name}
 use Rattle.hx_script.specs.LineTexts.{read_kind_text, has_names}
 use Rattle.hx_script.specs.Modes.{mode_numbered}
 use Rattle.hx_script.proofs.WordsAgain.{map_ok_from, then_ok_from, or_fault_from, option_map_from, in_range_from, name_again, mode_again, read_kind_again, pair_split}
-use Rattle.hx_script.proofs.FormsAgain.{one_from, two_from, three_from, five_from, more_from}
+use Rattle.hx_script.proofs.LineParts.IsLine.{OfInstance, OfController, OfMessage, OfNone, OfTick, OfAdd, OfDrop, OfList, OfMap, OfReset, OfRead, OfRoute}
+use Rattle.hx_script.proofs.LineParts.{IsLine, line_form, one_from, two_from, three_from, more_from, part_split, part_line, add_split}
 
 abbrev pub is_plain_byte : ℕ → Bool
 is_plain_byte b = not (b == 10) && not (b == 13)
@@ -179,19 +180,14 @@ module _ (spec : Spec) (named : has_names spec ≡ true) where
       ∙ and_from _ _ (plain_instance (before_first is_equals w) parts.instance parts.names) (plain_state (after_first is_equals w) parts.state parts.has)
 
   plain_part : (r p : List ℕ) (part : ℕ × ℕ) → part_words spec r p ≡ Ok part → (is_plain r ≡ true) × (is_plain p ≡ true)
-  plain_part r p part e =
-      let name = then_ok_from (resource_word spec r) _ part e in
-      let index = map_ok_from (λ (n : ℕ). (name.0, n)) (part_word p) part name.2 in
-      (plain_resource r name.0 name.1, plain_number 0 (2 ^ 32 - 1) p index.0 index.1)
+  plain_part r p part e = let split = part_split spec r p part e in (plain_resource r split.name split.names, plain_number 0 (2 ^ 32 - 1) p split.index split.numbers)
 
   more_plain : {A : Type 0} (ask : ℕ → ℕ → List A → What) (word : List ℕ → Result A ScriptKind) → ((w : List ℕ) (x : A) → word w ≡ Ok x → is_plain w ≡ true) → (ws : List (List ℕ)) (y : What)
       → then_ok (two_and_more ws) (λ t. then_ok (part_words spec t.0 t.1) (λ p. map_ok (ask p.0 p.1) (all_words word t.2))) ≡ Ok y → are_plain ws ≡ true
   more_plain ask word plain ws y e =
-      let t = then_ok_from (two_and_more ws) _ y e in
-      let p = then_ok_from (part_words spec t.0.0 t.0.1) _ y t.2 in
-      let list = map_ok_from (ask p.0.0 p.0.1) (all_words word t.0.2) y p.2 in
-      let part = plain_part t.0.0 t.0.1 p.0 p.1 in
-      subst (λ l. are_plain l ≡ true) (sym (more_from ws t.0 t.1)) (and_from _ _ part.0 (and_from _ _ part.1 (all_plain word plain t.0.2 list.0 list.1)))
+      let line = part_line two_and_more spec ask (all_words word) ws y e in
+      let part = plain_part line.texts.0 line.texts.1 line.part line.parts in
+      subst (λ l. are_plain l ≡ true) (sym (more_from ws line.texts line.taken)) (and_from _ _ part.0 (and_from _ _ part.1 (all_plain word plain line.texts.2 line.rest line.rests)))
 
   plain_tick : (ws : List (List ℕ)) (y : What) → tick_line ws ≡ Ok y → are_plain ws ≡ true
   plain_tick ws y e = one_plain _ (λ w x read. let n = map_ok_from asks.Tick (number_word 0 (2 ^ 64 - 1) w) x read in plain_number 0 (2 ^ 64 - 1) w n.0 n.1) ws y e
@@ -209,23 +205,17 @@ module _ (spec : Spec) (named : has_names spec ≡ true) where
 
   plain_route : (ws : List (List ℕ)) (y : What) → route_line spec ws ≡ Ok y → are_plain ws ≡ true
   plain_route ws y e =
-      let t = then_ok_from (three_words ws) _ y e in
-      let p = then_ok_from (part_words spec t.0.0 t.0.1) _ y t.2 in
-      let state = map_ok_from (asks.Route p.0.0 p.0.1) (state_word spec t.0.2) y p.2 in
-      let part = plain_part t.0.0 t.0.1 p.0 p.1 in
-      subst (λ l. are_plain l ≡ true) (sym (three_from ws t.0 t.1)) (and_from _ _ part.0 (and_from _ _ part.1 (and_from _ _ (plain_state t.0.2 state.0 state.1) refl)))
+      let line = part_line three_words spec asks.Route (state_word spec) ws y e in
+      let part = plain_part line.texts.0 line.texts.1 line.part line.parts in
+      subst (λ l. are_plain l ≡ true) (sym (three_from ws line.texts line.taken)) (and_from _ _ part.0 (and_from _ _ part.1 (and_from _ _ (plain_state line.texts.2 line.rest line.rests) refl)))
 
   plain_add : (ws : List (List ℕ)) (y : What) → add_line spec ws ≡ Ok y → are_plain ws ≡ true
   plain_add ws y e =
-      let t = then_ok_from (five_words ws) _ y e in
-      let name = then_ok_from (name_word spec t.0.0) _ y t.2 in
-      let model = then_ok_from (model_word spec t.0.1) _ y name.2 in
-      let replicas = then_ok_from (number_word 1 64 t.0.2) _ y model.2 in
-      let parts = then_ok_from (number_word 1 1024 t.0.3) _ y replicas.2 in
-      let mode = map_ok_from (asks.Add name.0 model.0 replicas.0 parts.0) (mode_word t.0.4) y parts.2 in
-      subst (λ l. are_plain l ≡ true) (sym (five_from ws t.0 t.1))
-      (and_from _ _ (plain_new_name t.0.0 name.0 name.1) (and_from _ _ (plain_model t.0.1 model.0 model.1) (and_from _ _ (plain_number 1 64 t.0.2 replicas.0 replicas.1)
-      (and_from _ _ (plain_number 1 1024 t.0.3 parts.0 parts.1) (and_from _ _ (plain_mode t.0.4 mode.0 mode.1) refl)))))
+      let add = add_split spec ws y e in
+      let t = add.texts in
+      subst (λ l. are_plain l ≡ true) (sym add.whole)
+      (and_from _ _ (plain_new_name t.0 add.name.0 add.name.1) (and_from _ _ (plain_model t.1 add.model.0 add.model.1) (and_from _ _ (plain_number 1 64 t.2 add.replicas.0 add.replicas.1)
+      (and_from _ _ (plain_number 1 1024 t.3 add.parts.0 add.parts.1) (and_from _ _ (plain_mode t.4 add.mode.0 add.mode.1) refl)))))
 
   of_instance : (ask : InstanceId → What) (ws : List (List ℕ)) (y : What) → map_ok ask (instance_alone spec ws) ≡ Ok y → are_plain ws ≡ true
   of_instance ask ws y e = let i = map_ok_from ask (instance_alone spec ws) y e in one_plain (instance_word spec) plain_instance ws i.0 i.1
@@ -238,37 +228,22 @@ module _ (spec : Spec) (named : has_names spec ≡ true) where
       let both = map_ok_from ask (instance_and_message spec ws) y e in
       two_plain (instance_word spec) message_word (λ (i : InstanceId) (m : MsgId). (i, m)) plain_instance plain_message ws both.0 both.1
 
+  plain_form : (verb : Verb) (ws : List (List ℕ)) (y : What) → IsLine spec verb ws y → are_plain ws ≡ true
+  plain_form verb ws y (OfInstance ask words range e) = of_instance ask ws y e
+  plain_form verb ws y (OfController ask words range e) = of_controller ask ws y e
+  plain_form verb ws y (OfMessage ask words range e) = of_message ask ws y e
+  plain_form verb ws y (OfNone bare words range e) = none_plain bare ws y e
+  plain_form verb ws y (OfTick is e) = plain_tick ws y e
+  plain_form verb ws y (OfAdd is e) = plain_add ws y e
+  plain_form verb ws y (OfDrop is e) = plain_drop ws y e
+  plain_form verb ws y (OfList is e) = more_plain asks.List (instance_word spec) plain_instance ws y e
+  plain_form verb ws y (OfMap is e) = more_plain asks.Map (pair_word spec) plain_pair ws y e
+  plain_form verb ws y (OfReset is e) = plain_reset ws y e
+  plain_form verb ws y (OfRead is e) = two_plain (controller_word spec) read_kind_word asks.Read plain_controller plain_kind ws y e
+  plain_form verb ws y (OfRoute is e) = plain_route ws y e
+
   pub plain_words : (verb : Verb) (ws : List (List ℕ)) (y : What) → what_of spec verb ws ≡ Ok y → are_plain ws ≡ true
-  plain_words verbs.Join ws y e = of_instance asks.Join ws y e
-  plain_words verbs.Beat ws y e = of_instance asks.Beat ws y e
-  plain_words verbs.Drain ws y e = of_instance asks.Drain ws y e
-  plain_words verbs.Undrain ws y e = of_instance asks.Undrain ws y e
-  plain_words verbs.Tick ws y e = plain_tick ws y e
-  plain_words verbs.Expire ws y e = of_instance asks.Expire ws y e
-  plain_words verbs.Die ws y e = of_instance asks.Die ws y e
-  plain_words verbs.Add ws y e = plain_add ws y e
-  plain_words verbs.Drop ws y e = plain_drop ws y e
-  plain_words verbs.List ws y e = more_plain asks.List (instance_word spec) plain_instance ws y e
-  plain_words verbs.Map ws y e = more_plain asks.Map (pair_word spec) plain_pair ws y e
-  plain_words verbs.Reset ws y e = plain_reset ws y e
-  plain_words verbs.Lead ws y e = of_controller asks.Lead ws y e
-  plain_words verbs.Stop ws y e = of_controller asks.Stop ws y e
-  plain_words verbs.Start ws y e = of_controller asks.Start ws y e
-  plain_words verbs.Begin ws y e = of_controller asks.Begin ws y e
-  plain_words verbs.Read ws y e = two_plain (controller_word spec) read_kind_word asks.Read plain_controller plain_kind ws y e
-  plain_words verbs.Send ws y e = of_controller asks.Send ws y e
-  plain_words verbs.Post ws y e = of_controller asks.Post ws y e
-  plain_words verbs.Pass ws y e = of_controller asks.Pass ws y e
-  plain_words verbs.Fetch ws y e = of_instance asks.Fetch ws y e
-  plain_words verbs.Deliver ws y e = of_message (λ (p : InstanceId × MsgId). asks.Deliver p.0 p.1) ws y e
-  plain_words verbs.Take ws y e = of_message (λ (p : InstanceId × MsgId). asks.Take p.0 p.1) ws y e
-  plain_words verbs.Write ws y e = of_message (λ (p : InstanceId × MsgId). asks.Write p.0 p.1) ws y e
-  plain_words verbs.Ack ws y e = of_message (λ (p : InstanceId × MsgId). asks.Ack p.0 p.1) ws y e
-  plain_words verbs.Work ws y e = of_instance asks.Work ws y e
-  plain_words verbs.Settle ws y e = none_plain asks.Settle ws y e
-  plain_words verbs.View ws y e = none_plain asks.View ws y e
-  plain_words verbs.Route ws y e = plain_route ws y e
-  plain_words verbs.Summary ws y e = none_plain asks.Summary ws y e
+  plain_words verb ws y e = plain_form verb ws y (line_form spec verb ws y e)
 
 pub plain_verb : (verb : Verb) → is_plain (verb_name verb) ≡ true
 plain_verb verbs.Join = refl

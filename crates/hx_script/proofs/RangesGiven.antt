@@ -23,15 +23,16 @@ use Rattle.hx_script.specs.declared.What.{What}
 use Rattle.hx_script.specs.declared.What.TheVariants as asks
 use Rattle.hx_script.specs.declared.Line.{Line}
 use Rattle.hx_script.specs.declared.verbs.Verb.{Verb}
-use Rattle.hx_script.specs.declared.verbs.Verb.TheVariants as verbs
 use Rattle.hx_script.specs.declared.faults.ScriptKind.{ScriptKind}
 use Rattle.hx_script.specs.declared.faults.ScriptKind.TheVariants as kinds
 use Rattle.hx_script.specs.Modes.{mode_number, mode_numbered}
-use Rattle.hx_script.specs.Grammar.{map_ok, one_word, two_words, three_words, five_words, two_and_more, instance_word, resource_word, model_word, state_word, name_word, in_range, number_word, part_word, part_words, numbered_by, controller_word, message_word, mode_word, read_kind_word, pair_word, all_words, instance_alone, controller_alone, instance_and_message, tick_line, add_line, drop_line, list_line, map_line, reset_line, read_line, route_line, bare_line, what_of, spec_with}
+use Rattle.hx_script.specs.Grammar.{map_ok, then_ok, one_word, two_words, three_words, two_and_more, instance_word, resource_word, model_word, state_word, name_word, in_range, number_word, part_words, numbered_by, controller_word, message_word, mode_word, read_kind_word, pair_word, all_words, instance_and_message, tick_line, add_line, drop_line, reset_line, read_line, route_line, bare_line, spec_with}
 use Rattle.hx_script.specs.LineTexts.{IsAsked}
 use Rattle.hx_script.specs.Ranges.{has_instance, has_state, has_entry, has_model, has_controller, has_resource_name, is_part, is_message, is_in_range, is_line_in_range}
 use Rattle.hx_script.proofs.WordsAgain.{map_ok_from, then_ok_from, or_fault_from, option_map_from, pair_split}
-use Rattle.hx_script.proofs.FormsAgain.{five_from, interned_within}
+use Rattle.hx_script.proofs.LineParts.IsLine.{OfInstance, OfController, OfMessage, OfNone, OfTick, OfAdd, OfDrop, OfList, OfMap, OfReset, OfRead, OfRoute}
+use Rattle.hx_script.proofs.LineParts.{IsLine, line_form, part_split, part_line, message_line, add_split, add_known}
+use Rattle.hx_script.proofs.FormsAgain.{interned_within}
 use Rattle.hx_script.proofs.LinesAgain.{verb_line}
 
 -- names that are found
@@ -117,33 +118,23 @@ all_in word test each (w ∷ ws) xs e =
 
 part_in : (spec : Spec) (r p : List ℕ) (part : ℕ × ℕ) → part_words spec r p ≡ Ok part → is_part spec part.0 part.1 ≡ true
 part_in spec r p part e =
-    let name = then_ok_from (resource_word spec r) _ part e in
-    let index = map_ok_from (λ (n : ℕ). (name.0, n)) (part_word p) part name.2 in
-    ap (λ (both : ℕ × ℕ). is_part spec both.0 both.1) (sym index.2) ∙ and_from _ _ (resource_in spec r name.0 name.1) (number_in 0 (2 ^ 32 - 1) p index.0 index.1)
+    let split = part_split spec r p part e in
+    ap (λ (both : ℕ × ℕ). is_part spec both.0 both.1) (sym split.both) ∙ and_from _ _ (resource_in spec r split.name split.names) (number_in 0 (2 ^ 32 - 1) p split.index split.numbers)
 
--- a verb with an instance; with a controller; with an instance and a message; alone
-of_instance : (spec : Spec) (ask : InstanceId → What) (ws : List (List ℕ)) (what : What) → ((i : InstanceId) → is_in_range spec (ask i) ≡ has_instance spec i)
-    → map_ok ask (instance_alone spec ws) ≡ Ok what → is_in_range spec what ≡ true
-of_instance spec ask ws what form e =
-    let i = map_ok_from ask (instance_alone spec ws) what e in
-    let w = then_ok_from (one_word ws) (instance_word spec) i.0 i.1 in
-    ap (is_in_range spec) (sym i.2) ∙ form i.0 ∙ instance_in spec w.0 i.0 w.2
-
-of_controller : (spec : Spec) (ask : ControllerId → What) (ws : List (List ℕ)) (what : What) → ((k : ControllerId) → is_in_range spec (ask k) ≡ has_controller spec k)
-    → map_ok ask (controller_alone spec ws) ≡ Ok what → is_in_range spec what ≡ true
-of_controller spec ask ws what form e =
-    let k = map_ok_from ask (controller_alone spec ws) what e in
-    let w = then_ok_from (one_word ws) (controller_word spec) k.0 k.1 in
-    ap (is_in_range spec) (sym k.2) ∙ form k.0 ∙ controller_in spec w.0 k.0 w.2
+-- a verb with one word; with an instance and a message; alone
+of_one : {A : Type 0} (spec : Spec) (word : List ℕ → Result A ScriptKind) (test : A → Bool) → ((w : List ℕ) (x : A) → word w ≡ Ok x → test x ≡ true) → (ask : A → What) → ((x : A) → is_in_range spec (ask x) ≡ test x)
+    → (ws : List (List ℕ)) (what : What) → map_ok ask (then_ok (one_word ws) word) ≡ Ok what → is_in_range spec what ≡ true
+of_one spec word test each ask form ws what e =
+    let x = map_ok_from ask (then_ok (one_word ws) word) what e in
+    let w = then_ok_from (one_word ws) word x.0 x.1 in
+    ap (is_in_range spec) (sym x.2) ∙ form x.0 ∙ each w.0 x.0 w.2
 
 of_message : (spec : Spec) (ask : InstanceId × MsgId → What) (ws : List (List ℕ)) (what : What)
     → ((p : InstanceId × MsgId) → is_in_range spec (ask p) ≡ (has_instance spec p.0 && is_message p.1)) → map_ok ask (instance_and_message spec ws) ≡ Ok what → is_in_range spec what ≡ true
 of_message spec ask ws what form e =
-    let both = map_ok_from ask (instance_and_message spec ws) what e in
-    let t = then_ok_from (two_words ws) _ both.0 both.1 in
-    let i = then_ok_from (instance_word spec t.0.0) _ both.0 t.2 in
-    let m = map_ok_from (λ (m : MsgId). (i.0, m)) (message_word t.0.1) both.0 i.2 in
-    ap (is_in_range spec) (sym both.2) ∙ ap (λ p. is_in_range spec (ask p)) (sym m.2) ∙ form (i.0, m.0) ∙ and_from _ _ (instance_in spec t.0.0 i.0 i.1) (message_in t.0.1 m.0 m.1)
+    let line = message_line spec ask ws what e in
+    ap (is_in_range spec) (sym line.asked) ∙ form (line.instance, line.message)
+    ∙ and_from _ _ (instance_in spec line.texts.0 line.instance line.names) (message_in line.texts.1 line.message line.numbers)
 
 of_none : (spec : Spec) (bare : What) (ws : List (List ℕ)) (what : What) → is_in_range spec bare ≡ true → bare_line bare ws ≡ Ok what → is_in_range spec what ≡ true
 of_none spec bare [] what form e = let same : bare ≡ what = cc in ap (is_in_range spec) (sym same) ∙ form
@@ -162,21 +153,13 @@ drop_in spec ws what e =
     let n = map_ok_from asks.Drop (resource_word spec w.0) what w.2 in
     ap (is_in_range spec) (sym n.2) ∙ resource_in spec w.0 n.0 n.1
 
-list_in : (spec : Spec) (ws : List (List ℕ)) (what : What) → list_line spec ws ≡ Ok what → is_in_range spec what ≡ true
-list_in spec ws what e =
-    let t = then_ok_from (two_and_more ws) _ what e in
-    let p = then_ok_from (part_words spec t.0.0 t.0.1) _ what t.2 in
-    let list = map_ok_from (asks.List p.0.0 p.0.1) (all_words (instance_word spec) t.0.2) what p.2 in
-    ap (is_in_range spec) (sym list.2)
-    ∙ and_from _ _ (part_in spec t.0.0 t.0.1 p.0 p.1) (all_in (instance_word spec) (has_instance spec) (instance_in spec) t.0.2 list.0 list.1)
-
-map_in : (spec : Spec) (ws : List (List ℕ)) (what : What) → map_line spec ws ≡ Ok what → is_in_range spec what ≡ true
-map_in spec ws what e =
-    let t = then_ok_from (two_and_more ws) _ what e in
-    let p = then_ok_from (part_words spec t.0.0 t.0.1) _ what t.2 in
-    let entries = map_ok_from (asks.Map p.0.0 p.0.1) (all_words (pair_word spec) t.0.2) what p.2 in
-    ap (is_in_range spec) (sym entries.2)
-    ∙ and_from _ _ (part_in spec t.0.0 t.0.1 p.0 p.1) (all_in (pair_word spec) (has_entry spec) (entry_in spec) t.0.2 entries.0 entries.1)
+of_list : {A : Type 0} (spec : Spec) (ask : ℕ → ℕ → List A → What) (word : List ℕ → Result A ScriptKind) (test : A → Bool) (ws : List (List ℕ)) (what : What)
+    → ((w : List ℕ) (x : A) → word w ≡ Ok x → test x ≡ true) → ((name index : ℕ) (xs : List A) → is_in_range spec (ask name index xs) ≡ (is_part spec name index && list_all test xs))
+    → then_ok (two_and_more ws) (λ t. then_ok (part_words spec t.0 t.1) (λ p. map_ok (ask p.0 p.1) (all_words word t.2))) ≡ Ok what → is_in_range spec what ≡ true
+of_list spec ask word test ws what each form e =
+    let line = part_line two_and_more spec ask (all_words word) ws what e in
+    ap (is_in_range spec) (sym line.asked) ∙ form line.part.0 line.part.1 line.rest
+    ∙ and_from _ _ (part_in spec line.texts.0 line.texts.1 line.part line.parts) (all_in word test each line.texts.2 line.rest line.rests)
 
 reset_in : (spec : Spec) (ws : List (List ℕ)) (what : What) → reset_line spec ws ≡ Ok what → is_in_range spec what ≡ true
 reset_in spec ws what e =
@@ -194,66 +177,38 @@ read_in spec ws what e =
 
 route_in : (spec : Spec) (ws : List (List ℕ)) (what : What) → route_line spec ws ≡ Ok what → is_in_range spec what ≡ true
 route_in spec ws what e =
-    let t = then_ok_from (three_words ws) _ what e in
-    let p = then_ok_from (part_words spec t.0.0 t.0.1) _ what t.2 in
-    let state = map_ok_from (asks.Route p.0.0 p.0.1) (state_word spec t.0.2) what p.2 in
-    ap (is_in_range spec) (sym state.2) ∙ and_from _ _ (part_in spec t.0.0 t.0.1 p.0 p.1) (state_in spec t.0.2 state.0 state.1)
+    let line = part_line three_words spec asks.Route (state_word spec) ws what e in
+    ap (is_in_range spec) (sym line.asked) ∙ and_from _ _ (part_in spec line.texts.0 line.texts.1 line.part line.parts) (state_in spec line.texts.2 line.rest line.rests)
 
 add_in : (spec : Spec) (first : List ℕ) (ws : List (List ℕ)) (what : What) → spec_with spec (first ∷ ws) (Ok (Some what)) ≡ spec → add_line spec ws ≡ Ok what → is_in_range spec what ≡ true
 add_in spec first ws what known e =
-    let t = then_ok_from (five_words ws) _ what e in
-    let name = then_ok_from (name_word spec t.0.0) _ what t.2 in
-    let model = then_ok_from (model_word spec t.0.1) _ what name.2 in
-    let replicas = then_ok_from (number_word 1 64 t.0.2) _ what model.2 in
-    let parts = then_ok_from (number_word 1 1024 t.0.3) _ what replicas.2 in
-    let mode = map_ok_from (asks.Add name.0 model.0 replicas.0 parts.0) (mode_word t.0.4) what parts.2 in
-    let words = five_from ws t.0 t.1 in
-    let stands : interned spec.resource_names t.0.0 ≡ spec.resource_names =
-    ap (λ (s : Spec). s.resource_names) (ap (λ l. spec_with spec (first ∷ l) (Ok (Some (asks.Add name.0 model.0 replicas.0 parts.0 mode.0)))) (sym words) ∙ ap (λ x. spec_with spec (first ∷ ws) (Ok (Some x))) mode.2 ∙ known) in
-    ap (is_in_range spec) (sym mode.2)
-    ∙ and_from _ _ (name_in spec t.0.0 name.0 stands name.1) (and_from _ _ (model_in spec t.0.1 model.0 model.1) (and_from _ _ (number_in 1 64 t.0.2 replicas.0 replicas.1)
-    (and_from _ _ (number_in 1 1024 t.0.3 parts.0 parts.1) (mode_in t.0.4 mode.0 mode.1))))
+    let add = add_split spec ws what e in
+    let t = add.texts in
+    ap (is_in_range spec) (sym add.asked)
+    ∙ and_from _ _ (name_in spec t.0 add.name.0 (add_known spec first ws what add known) add.name.1) (and_from _ _ (model_in spec t.1 add.model.0 add.model.1) (and_from _ _ (number_in 1 64 t.2 add.replicas.0 add.replicas.1)
+    (and_from _ _ (number_in 1 1024 t.3 add.parts.0 add.parts.1) (mode_in t.4 add.mode.0 add.mode.1))))
 
--- each verb
-verb_in : (spec : Spec) (verb : Verb) (first : List ℕ) (ws : List (List ℕ)) (what : What) → spec_with spec (first ∷ ws) (Ok (Some what)) ≡ spec → what_of spec verb ws ≡ Ok what
-    → is_in_range spec what ≡ true
-verb_in spec verbs.Join first ws what known e = of_instance spec asks.Join ws what (λ i. refl) e
-verb_in spec verbs.Beat first ws what known e = of_instance spec asks.Beat ws what (λ i. refl) e
-verb_in spec verbs.Drain first ws what known e = of_instance spec asks.Drain ws what (λ i. refl) e
-verb_in spec verbs.Undrain first ws what known e = of_instance spec asks.Undrain ws what (λ i. refl) e
-verb_in spec verbs.Tick first ws what known e = tick_in spec ws what e
-verb_in spec verbs.Expire first ws what known e = of_instance spec asks.Expire ws what (λ i. refl) e
-verb_in spec verbs.Die first ws what known e = of_instance spec asks.Die ws what (λ i. refl) e
-verb_in spec verbs.Add first ws what known e = add_in spec first ws what known e
-verb_in spec verbs.Drop first ws what known e = drop_in spec ws what e
-verb_in spec verbs.List first ws what known e = list_in spec ws what e
-verb_in spec verbs.Map first ws what known e = map_in spec ws what e
-verb_in spec verbs.Reset first ws what known e = reset_in spec ws what e
-verb_in spec verbs.Lead first ws what known e = of_controller spec asks.Lead ws what (λ k. refl) e
-verb_in spec verbs.Stop first ws what known e = of_controller spec asks.Stop ws what (λ k. refl) e
-verb_in spec verbs.Start first ws what known e = of_controller spec asks.Start ws what (λ k. refl) e
-verb_in spec verbs.Begin first ws what known e = of_controller spec asks.Begin ws what (λ k. refl) e
-verb_in spec verbs.Read first ws what known e = read_in spec ws what e
-verb_in spec verbs.Send first ws what known e = of_controller spec asks.Send ws what (λ k. refl) e
-verb_in spec verbs.Post first ws what known e = of_controller spec asks.Post ws what (λ k. refl) e
-verb_in spec verbs.Pass first ws what known e = of_controller spec asks.Pass ws what (λ k. refl) e
-verb_in spec verbs.Fetch first ws what known e = of_instance spec asks.Fetch ws what (λ i. refl) e
-verb_in spec verbs.Deliver first ws what known e = of_message spec (λ (p : InstanceId × MsgId). asks.Deliver p.0 p.1) ws what (λ p. refl) e
-verb_in spec verbs.Take first ws what known e = of_message spec (λ (p : InstanceId × MsgId). asks.Take p.0 p.1) ws what (λ p. refl) e
-verb_in spec verbs.Write first ws what known e = of_message spec (λ (p : InstanceId × MsgId). asks.Write p.0 p.1) ws what (λ p. refl) e
-verb_in spec verbs.Ack first ws what known e = of_message spec (λ (p : InstanceId × MsgId). asks.Ack p.0 p.1) ws what (λ p. refl) e
-verb_in spec verbs.Work first ws what known e = of_instance spec asks.Work ws what (λ i. refl) e
-verb_in spec verbs.Settle first ws what known e = of_none spec asks.Settle ws what refl e
-verb_in spec verbs.View first ws what known e = of_none spec asks.View ws what refl e
-verb_in spec verbs.Route first ws what known e = route_in spec ws what e
-verb_in spec verbs.Summary first ws what known e = of_none spec asks.Summary ws what refl e
+-- each form
+form_in : (spec : Spec) (verb : Verb) (first : List ℕ) (ws : List (List ℕ)) (what : What) → spec_with spec (first ∷ ws) (Ok (Some what)) ≡ spec → IsLine spec verb ws what → is_in_range spec what ≡ true
+form_in spec verb first ws what known (OfInstance ask words range e) = of_one spec (instance_word spec) (has_instance spec) (instance_in spec) ask range ws what e
+form_in spec verb first ws what known (OfController ask words range e) = of_one spec (controller_word spec) (has_controller spec) (controller_in spec) ask range ws what e
+form_in spec verb first ws what known (OfMessage ask words range e) = of_message spec ask ws what range e
+form_in spec verb first ws what known (OfNone bare words range e) = of_none spec bare ws what range e
+form_in spec verb first ws what known (OfTick is e) = tick_in spec ws what e
+form_in spec verb first ws what known (OfAdd is e) = add_in spec first ws what known e
+form_in spec verb first ws what known (OfDrop is e) = drop_in spec ws what e
+form_in spec verb first ws what known (OfList is e) = of_list spec asks.List (instance_word spec) (has_instance spec) ws what (instance_in spec) (λ name index list. refl) e
+form_in spec verb first ws what known (OfMap is e) = of_list spec asks.Map (pair_word spec) (has_entry spec) ws what (entry_in spec) (λ name index entries. refl) e
+form_in spec verb first ws what known (OfReset is e) = reset_in spec ws what e
+form_in spec verb first ws what known (OfRead is e) = read_in spec ws what e
+form_in spec verb first ws what known (OfRoute is e) = route_in spec ws what e
 
 -- what some line asks for that brings no new name
 pub asked_in_range : (spec : Spec) (what : What) → IsAsked spec what → is_in_range spec what ≡ true
 asked_in_range spec what asked =
     let line = verb_line spec (words_of asked.text) what asked.asks in
     let known = ap (spec_with spec (words_of asked.text)) (sym asked.asks) ∙ asked.known in
-    verb_in spec line.verb line.first line.rest what (ap (λ ws. spec_with spec ws (Ok (Some what))) (sym line.are) ∙ known) line.asks
+    form_in spec line.verb line.first line.rest what (ap (λ ws. spec_with spec ws (Ok (Some what))) (sym line.are) ∙ known) (line_form spec line.verb line.rest what line.asks)
 
 pub all_asked_in_range : (spec : Spec) (script : List Line) → AllByRecursion (λ line. IsAsked spec line.what) script → list_all (is_line_in_range spec) script ≡ true
 all_asked_in_range spec [] all = refl

@@ -16,6 +16,7 @@ use hx_lists::Seq;
 use std::alloc::{AllocError, Global};
 
 /// An instance.
+#[tactic(auto, using(crate::proofs::Shapes::words_1))]
 pub fn instance_alone(spec: &Spec, words: &[&str]) -> Result<InstanceId, ScriptKind>
     ensures { result ≡ Grammar.instance_alone spec.now (map (λ w. w.now) words.now) }
 {
@@ -36,6 +37,7 @@ pub fn controller_alone(spec: &Spec, words: &[&str]) -> Result<ControllerId, Scr
 }
 
 /// An instance and a message.
+#[tactic(auto, using(crate::proofs::Shapes::words_2))]
 fn instance_and_message(spec: &Spec, words: &[&str]) -> Result<(InstanceId, MsgId), ScriptKind>
     ensures { result ≡ Grammar.instance_and_message spec.now (map (λ w. w.now) words.now) }
 {
@@ -54,6 +56,7 @@ fn tick_line(words: &[&str]) -> Result<What, ScriptKind>
     Ok(What::Tick(number_word(0, u64::MAX, ticks)?))
 }
 
+#[tactic(auto, using(crate::proofs::Shapes::words_5))]
 fn add_line(spec: &Spec, words: &[&str]) -> Result<What, ScriptKind>
     requires { length spec.now.model_names ≤ 256 }
     ensures { result ≡ Grammar.add_line spec.now (map (λ w. w.now) words.now) }
@@ -70,6 +73,7 @@ fn add_line(spec: &Spec, words: &[&str]) -> Result<What, ScriptKind>
     })
 }
 
+#[tactic(auto, using(crate::proofs::Shapes::words_1))]
 fn drop_line(spec: &Spec, words: &[&str]) -> Result<What, ScriptKind>
     ensures { result ≡ Grammar.drop_line spec.now (map (λ w. w.now) words.now) }
 {
@@ -79,6 +83,7 @@ fn drop_line(spec: &Spec, words: &[&str]) -> Result<What, ScriptKind>
     Ok(What::Drop(resource_word(spec, name)?))
 }
 
+#[tactic(auto, using(crate::proofs::Shapes::words_3))]
 fn reset_line(spec: &Spec, words: &[&str]) -> Result<What, ScriptKind>
     ensures { result ≡ Grammar.reset_line spec.now (map (λ w. w.now) words.now) }
 {
@@ -94,6 +99,7 @@ fn reset_line(spec: &Spec, words: &[&str]) -> Result<What, ScriptKind>
     })
 }
 
+#[tactic(auto, using(crate::proofs::Shapes::words_2))]
 fn read_line(spec: &Spec, words: &[&str]) -> Result<What, ScriptKind>
     ensures { result ≡ Grammar.read_line spec.now (map (λ w. w.now) words.now) }
 {
@@ -104,6 +110,7 @@ fn read_line(spec: &Spec, words: &[&str]) -> Result<What, ScriptKind>
     Ok(What::Read(controller, read_kind_word(kind)?))
 }
 
+#[tactic(auto, using(crate::proofs::Shapes::words_3))]
 fn route_line(spec: &Spec, words: &[&str]) -> Result<What, ScriptKind>
     requires { length spec.now.states ≤ 256 }
     ensures { result ≡ Grammar.route_line spec.now (map (λ w. w.now) words.now) }

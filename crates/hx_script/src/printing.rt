@@ -1,8 +1,9 @@
 //! Script lines, printed.
-ghost use Rattle.std.specs.Prelude.{◌≡◌, ℕ, List, [], ◌∷◌, map, decimal, Ok, true};
+ghost use Rattle.std.specs.Prelude.{◌≡◌, ℕ, List, [], ◌∷◌, decimal, Ok, true};
 ghost use Rattle.std.specs.List.{AllByRecursion};
 ghost use Rattle.hx_text.specs.Texts.{Prints};
 ghost use Rattle.hx_print.specs.Texts;
+ghost use Rattle.hx_print.specs.Tokens.{rest_words};
 ghost use Rattle.hx_cluster.specs.declared.description.Spec.{Spec};
 ghost use Rattle.hx_script.specs.declared.Line.{Line};
 ghost use Rattle.hx_script.specs.declared.What.{What};
@@ -112,42 +113,23 @@ fn print_add(
     )
 }
 
-/// Prints a list of a part.
-fn print_list(
+/// Prints a verb with a part and what stands behind it.
+fn print_with_part(
+    verb: Verb,
     name: u32,
     part: u32,
-    list: &[InstanceId],
+    rest: &Rest,
     spec: &Spec,
     page: &mut Page,
 ) -> Result<(), AllocError>
     ensures { Prints
-        (Texts.line_of (verb_name Verb.List ∷ Texts.name_at spec.now.resource_names name ∷
-        decimal part ∷ map (Texts.instance_name spec.now) list.now))
+        (Texts.line_of (verb_name verb ∷ Texts.name_at spec.now.resource_names name ∷
+        decimal part ∷ rest_words spec.now rest.now))
         page.old result page.new }
 {
     let name = Token::Text(name_at(&spec.resource_names, name));
     let part = Token::Number(part as u64);
-    let list = Rest::Instances(list);
-    print_long_line(Verb::List.name(), &[name, part], &list, spec, page)
-}
-
-/// Prints a map of a part.
-fn print_map(
-    name: u32,
-    part: u32,
-    entries: &[(InstanceId, StateId)],
-    spec: &Spec,
-    page: &mut Page,
-) -> Result<(), AllocError>
-    ensures { Prints
-        (Texts.line_of (verb_name Verb.Map ∷ Texts.name_at spec.now.resource_names name ∷
-        decimal part ∷ map (Texts.mapped_name spec.now) entries.now))
-        page.old result page.new }
-{
-    let name = Token::Text(name_at(&spec.resource_names, name));
-    let part = Token::Number(part as u64);
-    let entries = Rest::Pairs("=", entries);
-    print_long_line(Verb::Map.name(), &[name, part], &entries, spec, page)
+    print_long_line(verb.name(), &[name, part], rest, spec, page)
 }
 
 /// Prints a reset.
@@ -208,8 +190,14 @@ pub fn print_line(line: &Line, spec: &Spec, page: &mut Page) -> Result<(), Alloc
             let name = Token::Text(name_at(&spec.resource_names, *name));
             print_short_line(Verb::Drop.name(), &[name], page)
         }
-        What::List { name, part, list } => print_list(*name, *part, list.as_slice(), spec, page),
-        What::Map { name, part, map } => print_map(*name, *part, map.as_slice(), spec, page),
+        What::List { name, part, list } => {
+            let list = Rest::Instances(list.as_slice());
+            print_with_part(Verb::List, *name, *part, &list, spec, page)
+        }
+        What::Map { name, part, map } => {
+            let map = Rest::Pairs("=", map.as_slice());
+            print_with_part(Verb::Map, *name, *part, &map, spec, page)
+        }
         What::Reset {
             instance,
             name,

@@ -1,6 +1,6 @@
 //! The words of a script line, each by what stands there.
 ghost use Rattle.std.specs.Prelude.{◌≡◌, ◌≤◌, ◌<◌, length};
-ghost use Rattle.hx_ids.specs.Names.{place_after};
+ghost use Rattle.hx_ids.specs.Names.{place_of, place_after};
 ghost use Rattle.hx_script.specs.Grammar;
 
 use crate::ReadKind;
@@ -30,15 +30,23 @@ pub fn resource_word(spec: &Spec, word: &str) -> Result<u32, ScriptKind>
         .ok_or(ScriptKind::UnknownResource)
 }
 
+/// The place of a name among few, or the fault that it is unknown.
+fn small_place(names: &Names, unknown: ScriptKind, word: &str) -> Result<u8, ScriptKind>
+    requires { length names.now ≤ 256 }
+    ensures { result ≡ Grammar.or_fault unknown (place_of names.now word.now) }
+{
+    match names.find(word) {
+        Some(place) => Ok(place as u8),
+        None => Err(unknown),
+    }
+}
+
 /// A model's name.
 pub fn model_word(spec: &Spec, word: &str) -> Result<ModelId, ScriptKind>
     requires { length spec.now.model_names ≤ 256 }
     ensures { result ≡ Grammar.model_word spec.now word.now }
 {
-    match spec.model_names.find(word) {
-        Some(n) => Ok(ModelId(n as u8)),
-        None => Err(ScriptKind::UnknownModel),
-    }
+    small_place(&spec.model_names, ScriptKind::UnknownModel, word).map(ModelId)
 }
 
 /// A state's name.
@@ -46,10 +54,7 @@ pub fn state_word(spec: &Spec, word: &str) -> Result<StateId, ScriptKind>
     requires { length spec.now.states ≤ 256 }
     ensures { result ≡ Grammar.state_word spec.now word.now }
 {
-    match spec.states.find(word) {
-        Some(n) => Ok(StateId(n as u8)),
-        None => Err(ScriptKind::UnknownState),
-    }
+    small_place(&spec.states, ScriptKind::UnknownState, word).map(StateId)
 }
 
 /// The name of a resource to be added, by the place that it has or gets.

@@ -1,6 +1,6 @@
 use Rattle.std.proofs.Common.{rules, tests, inl, inr, refl, arith}
 use Rattle.std.proofs.lemmas.Bool.Decides.{nat_tests}
-use Rattle.hx_script.proofs.Shapes.{words_3, not_three}
+use Rattle.hx_script.proofs.Shapes.{not_three}
 use Rattle.hx_script.proofs.forms.route_line.Goals as goal
 use Rattle.hx_script.proofs.forms.route_line.Goals.{in_default-via-then-words-lt3, in_default-via-else-words-lt3+else-words-lt4}
 
@@ -10,12 +10,3 @@ returns-in_default c =
       | in_default-via-then-words-lt3 w ↦ rw (not_three c.args.words.now (inl (first_of (grind (arith, nat_tests), search (rules, tests))))) refl
       | in_default-via-else-words-lt3+else-words-lt4 w ↦ rw (not_three c.args.words.now (inr (first_of (grind (arith, nat_tests), search (rules, tests))))) refl
     ]
-
-pub returns-in_err-name : goal.returns-in_err-name
-returns-in_err-name c = rw (words_3 c.args.words.now c.in-len3.len_at_least c.in-len3.len_below) (search rules)
-
-pub returns-in_err-state : goal.returns-in_err-state
-returns-in_err-state c = rw (words_3 c.args.words.now c.in-len3.len_at_least c.in-len3.len_below) (search rules)
-
-pub returns : goal.returns
-returns c = rw (words_3 c.args.words.now c.in-len3.len_at_least c.in-len3.len_below) (search rules)

@@ -1,6 +1,0 @@
-use Rattle.std.proofs.Common.{rules}
-use Rattle.hx_script.proofs.Shapes.{words_2}
-use Rattle.hx_logs.proofs.forms.controller_and_pass.Goals as goal
-
-pub returns-in_err-controller_word : goal.returns-in_err-controller_word
-returns-in_err-controller_word c = rw (words_2 c.args.words.now c.in-len2.len_at_least c.in-len2.len_below) (search rules)

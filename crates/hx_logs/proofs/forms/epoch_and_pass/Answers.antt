@@ -1,9 +1,0 @@
-use Rattle.std.proofs.Common.{rules}
-use Rattle.hx_script.proofs.Shapes.{words_3}
-use Rattle.hx_logs.proofs.forms.epoch_and_pass.Goals as goal
-
-pub returns-in_err-controller : goal.returns-in_err-controller
-returns-in_err-controller c = rw (words_3 c.args.words.now c.in-len3.len_at_least c.in-len3.len_below) (search rules)
-
-pub returns-in_err-epoch : goal.returns-in_err-epoch
-returns-in_err-epoch c = rw (words_3 c.args.words.now c.in-len3.len_at_least c.in-len3.len_below) (search rules)
