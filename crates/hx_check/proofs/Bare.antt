@@ -3,7 +3,7 @@ use Rattle.std.proofs.Common.{◌≡◌, ℕ, zero, suc, ◌≤◌, ◌==◌, �
 use Rattle.std.specs.Prelude.{◌^◌, ◌-◌, is_some, min, nat_lt, replicate, if◌then◌else◌}
 use Rattle.std.specs.Option.{option_or}
 use Rattle.std.proofs.lemmas.List.{length-replicate}
-use Rattle.hx_check.proofs.Same.{eqb-refl}
+use Rattle.hx_safe.proofs.Ends.{same-self}
 use Rattle.std.proofs.lemmas.Bool.Decides.{nat_tests}
 use Rattle.hx_lists.specs.First.{answer_behind}
 use Rattle.hx_ids.specs.declared.InstanceId.{InstanceId}
@@ -28,7 +28,7 @@ none_behind ask x (suc n) before none =
 parts_counted : (X : Type 0) (n : ℕ) → part_count_fault n (Some (length (replicate {A = List X} n []))) ≡ None
 parts_counted X n =
     ap (λ (k : ℕ). part_count_fault n (Some k)) (length-replicate n [])
-    ∙ ap (λ (b : Bool). if b then None else Some (faults.PartCount (min n (2 ^ 32 - 1)) n)) (eqb-refl n)
+    ∙ ap (λ (b : Bool). if b then None else Some (faults.PartCount (min n (2 ^ 32 - 1)) n)) (same-self n)
 
 mode_without_fault : (o : Option ModeKind) (n : ℕ) → option_or (part_count_fault n (count_of (bare_mode o n))) (mode_fault 0 [] (bare_mode o n)) ≡ None
 mode_without_fault (Some kinds.FullAuto) n = refl

@@ -33,6 +33,7 @@ use Rattle.hx_cluster.specs.Events.{next, begun_of, dispatched_of, is_proposable
 use Rattle.hx_pass.specs.Plans.{plan}
 use Rattle.hx_pass.specs.Turns.{Turn, Send, Post, idle_turn, begun_turn, is_first, is_due, is_of_epoch, if_due, when_own, turn_after, posted_of}
 use Rattle.hx_script.specs.declared.log.LogMove.{LogMove}
+use Rattle.hx_script.specs.declared.log.LogEntry.{LogEntry}
 use Rattle.hx_script.specs.declared.log.LogEntry.TheVariants as logs
 use Rattle.hx_check.specs.declared.Cause.{Cause}
 use Rattle.hx_check.specs.declared.Cause.TheVariants as causes
@@ -44,7 +45,8 @@ use Rattle.hx_check.specs.Judge.{same_proposal, judged, judged_answer, judged_en
 use Rattle.hx_check.specs.Judging.{read_told, read_event, read_on, sent_on, answer_of, may_fetch, may_place, may_post, taken_as, marked, is_placed, sent_as, IsBareIdeal, IsJudgedAs, IsAnsweredAs}
 use Rattle.hx_safe.proofs.Fixed.{fixed_next}
 use Rattle.hx_safe.proofs.Counting.{all-map, all-le}
-use Rattle.hx_check.proofs.Same.{eqb-refl, options_same, option_itself, sessions_same}
+use Rattle.hx_safe.proofs.Ends.{session_same, same-self}
+use Rattle.hx_check.proofs.Same.{options_same, option_itself}
 use Rattle.hx_check.proofs.Turning.{turns_stay, turns_own}
 
 -- the cluster answers otherwise
@@ -197,7 +199,7 @@ post_made w v k epoch n may due lt is =
 
 -- a fetch, by the session that stands
 same_way : (a b : Option SessionId) → option_eq same_session a b ≡ true → a ≡ b
-same_way a b e = options_same same_session sessions_same a b e
+same_way a b e = options_same same_session session_same a b e
 
 may_fetch_so : (c : Cluster) (i : InstanceId) (s : Option SessionId) (n : ℕ)
     → may_fetch c i s n ≡ (has_instance c i && option_eq same_session s (session_of c i) && (length (messages_for c s) == n))
@@ -205,7 +207,7 @@ may_fetch_so c i s n = one (option_eq same_session (session_of c i) s) (option_e
   where
     -- whichever way they are compared
     back : (a b : Option SessionId) → option_eq same_session a b ≡ true → option_eq same_session b a ≡ true
-    back a b e = subst (λ (o : Option SessionId). option_eq same_session o a ≡ true) (same_way a b e) (option_itself same_session (λ s. eqb-refl s.0) a)
+    back a b e = subst (λ (o : Option SessionId). option_eq same_session o a ≡ true) (same_way a b e) (option_itself same_session (λ s. same-self s.0) a)
 
     one : (x y : Bool) → option_eq same_session (session_of c i) s ≡ x → option_eq same_session s (session_of c i) ≡ y
         → may_fetch c i s n ≡ (has_instance c i && option_eq same_session s (session_of c i) && (length (messages_for c s) == n))
@@ -260,6 +262,15 @@ pub ack_answered : (w v : Standing) (s : SessionId) (id : MsgId) (made : Bool) �
     → IsAnsweredAs w (answered w (logs.Ack s id)) (if made then None else Some causes.Step) v
 ack_answered w v s id false may stands = refused w v _ _ (sym may)
 ack_answered w v s id true may stands = happened w v _ _ (sym may) (λ spec. refl) (stands refl ∙ sym (stood_still w (events.Ack s id) (λ k t. refl)))
+
+-- the same of a standing as it is seen, whose cluster makes the event where it may
+pub mark_answered : (w now : Standing) (new : Cluster) (entry : LogEntry) (e : Event) (made : Bool) (cause told : Option Cause) → w ≡ now → told ≡ cause → new ≡ (if made then next w.cluster e else w.cluster)
+    → ((v : Standing) → (made ≡ true → v ≡ record w { cluster = next w.cluster e }) → IsAnsweredAs w (answered w entry) cause v) → IsAnsweredAs now (answered now entry) told (record w { cluster = new })
+mark_answered w now new entry e made cause told same is stands each =
+    let v : Standing = record w { cluster = new } in
+    subst (λ (o : Option Cause). IsAnsweredAs now (answered now entry) o v) (sym is)
+    (subst (λ (x : Standing). IsAnsweredAs x (answered x entry) cause v) same
+    (each v (λ so. ap (λ (x : Cluster). record w { cluster = x }) (stands ∙ ap (λ (b : Bool). if b then next w.cluster e else w.cluster) so))))
 
 -- a dispatch: what the cluster answers, and then its order and its plan
 pub dispatch_refused : (spec : Spec) (w v : Standing) (k : ControllerId) (epoch : Epoch) (pass : PassNo) (moves : List LogMove) → is_placed w.cluster k epoch pass moves ≡ false

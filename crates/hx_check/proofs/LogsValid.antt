@@ -1,15 +1,11 @@
 -- A log that is read leaves its description valid.
-use Rattle.std.proofs.Common.{◌≡◌, ℕ, ◌≤◌, ◌||◌, ◌==◌, Bool, true, false, List, [], ◌∷◌, ◌++◌, length, length-append, Some, Result, Ok, Err, if◌then◌else◌, true≢false, refl, sym, ap, ◌∙◌, subst, arith}
+use Rattle.std.proofs.Common.{◌≡◌, ℕ, ◌≤◌, Bool, true, false, List, [], ◌∷◌, ◌++◌, length, length-append, Some, Result, Ok, Err, if◌then◌else◌, refl, sym, ap, ◌∙◌, subst, arith}
 use Rattle.std.specs.List.{list_any, list_all, before_first}
 use Rattle.std.specs.Str.{bytes_eq}
-use Rattle.std.proofs.lemmas.Bool.Decides.{nat_tests}
-use Rattle.std.proofs.lemmas.Slice.Eq.{bytes_eq-Decides}
-use Rattle.hx_lists.specs.Lists.{count}
 use Rattle.hx_ids.specs.Names.{interned}
 use Rattle.hx_text.specs.Spellings.{is_name}
 use Rattle.hx_cluster.specs.declared.description.Spec.{Spec}
-use Rattle.hx_cluster.specs.declared.description.Resource.{Resource}
-use Rattle.hx_cluster.specs.Valid.{are_distinct, is_valid_resource, IsValid}
+use Rattle.hx_cluster.specs.Valid.{are_distinct, IsValid}
 use Rattle.hx_script.specs.declared.faults.ScriptKind.{ScriptKind}
 use Rattle.hx_script.specs.declared.faults.ScriptKind.TheVariants as kinds
 use Rattle.hx_script.specs.declared.log.LogEntry.{LogEntry}
@@ -19,57 +15,11 @@ use Rattle.hx_script.specs.declared.log.LogVerb.TheVariants as verbs
 use Rattle.hx_script.specs.Grammar.{map_ok, then_ok, one_word, three_words, five_words, all_words, instance_word, pair_word, instance_alone, controller_alone, controller_word}
 use Rattle.hx_script.specs.Logs.{exact_words, short_number, long_number, session_word, message_id_word, epoch_word, outcome_word, is_hash, name_before, resource_named, part_named, one_and_more, instance_and_session, controller_and_epoch, controller_and_pass, pass_and_session, epoch_and_pass, session_and_message, unless_dash, add_entry, ended_words, move_words, alone, told_by, log_verb_of, told_words, entry_of, entry_told, second_word, with_added, Block, told_entries, blocks_from, log_of}
 use Rattle.hx_script.proofs.WordsAgain.{map_ok_from, then_ok_from}
-use Rattle.hx_script.proofs.FormsAgain.{five_from}
-use Rattle.hx_safe.proofs.Counting.{and-first, and-second, and-both, count-append, count-none, all-append, all-le}
+use Rattle.hx_script.proofs.LineParts.{five_from}
+use Rattle.hx_safe.proofs.Counting.{and-first, and-second, and-both, all-append}
+use Rattle.hx_safe.proofs.Naming.{distinct_interned, valid_with}
 
--- a name more, unless it is there, leaves names distinct
-other_side : (a b : List ℕ) → bytes_eq b a ≡ false → bytes_eq a b ≡ false
-other_side a b other = one (bytes_eq a b) refl
-  where
-    one : (is : Bool) → bytes_eq a b ≡ is → is ≡ false
-    one true is = absurd (true≢false (sym ((bytes_eq-Decides b a).1 (sym ((bytes_eq-Decides a b).0 is))) ∙ other))
-    one false is = refl
-
-single-more : (all names : List (List ℕ)) (w : List ℕ) → list_all (λ x. count (bytes_eq x) all == 1) names ≡ true → list_any (bytes_eq w) names ≡ false
-    → list_all (λ x. count (bytes_eq x) (all ++ w ∷ []) == 1) names ≡ true
-single-more all [] w each none = refl
-single-more all (x ∷ names) w each none =
-    let here : (count (bytes_eq x) all == 1) ≡ true = and-first (count (bytes_eq x) all == 1) (list_all (λ y. count (bytes_eq y) all == 1) names) each in
-    let rest = and-second (count (bytes_eq x) all == 1) (list_all (λ y. count (bytes_eq y) all == 1) names) each in
-    let other : bytes_eq w x ≡ false = or-not-first (bytes_eq w x) (list_any (bytes_eq w) names) none in
-    let more = single-more all names w rest (or-not-second (bytes_eq w x) (list_any (bytes_eq w) names) none) in
-    let last : count (bytes_eq x) (w ∷ []) ≡ 0 = count-none (bytes_eq x) (w ∷ []) (none-last (bytes_eq x w) (other_side x w other)) in
-    let both = count-append (bytes_eq x) all (w ∷ []) in
-    and-both (count (bytes_eq x) (all ++ w ∷ []) == 1) (list_all (λ y. count (bytes_eq y) (all ++ w ∷ []) == 1) names) (grind (arith, nat_tests, here, last, both)) more
-  where
-    or-not-first : (a b : Bool) → (a || b) ≡ false → a ≡ false
-    or-not-first true b e = e
-    or-not-first false b e = refl
-
-    or-not-second : (a b : Bool) → (a || b) ≡ false → b ≡ false
-    or-not-second true b e = cc
-    or-not-second false b e = e
-
-    none-last : (b : Bool) → b ≡ false → (b || false) ≡ false
-    none-last true e = e
-    none-last false e = refl
-
-distinct_interned : (names : List (List ℕ)) (w : List ℕ) → are_distinct bytes_eq names ≡ true → are_distinct bytes_eq (interned names w) ≡ true
-distinct_interned names w each = one (list_any (bytes_eq w) names) refl
-  where
-    one : (b : Bool) → list_any (bytes_eq w) names ≡ b → are_distinct bytes_eq (if b then names else names ++ w ∷ []) ≡ true
-    one true is = each
-    one false is =
-        let all : List (List ℕ) = names ++ w ∷ [] in
-        let none = count-none (bytes_eq w) names is in
-        let self : bytes_eq w w ≡ true = (bytes_eq-Decides w w).1 refl in
-        let last : count (bytes_eq w) (w ∷ []) ≡ 1 = grind (arith, self) in
-        let both = count-append (bytes_eq w) names (w ∷ []) in
-        all-append (λ x. count (bytes_eq x) all == 1) names (w ∷ [])
-        ∙ and-both (list_all (λ x. count (bytes_eq x) all == 1) names) (list_all (λ x. count (bytes_eq x) all == 1) (w ∷ []))
-        (single-more names names w each is)
-        (and-both (count (bytes_eq w) all == 1) true (grind (arith, nat_tests, none, last, both)) refl)
-
+-- a name more, unless it is there, leaves them names
 named_interned : (names : List (List ℕ)) (w : List ℕ) → list_all is_name names ≡ true → is_name w ≡ true → (list_all is_name (interned names w) ≡ true) × (length names ≤ length (interned names w))
 named_interned names w named is = one (list_any (bytes_eq w) names)
   where
@@ -81,36 +31,13 @@ named_interned names w named is = one (list_any (bytes_eq w) names)
     )
 
 -- with one more name a description stays valid
-valid_with : (spec : Spec) (w : List ℕ) → IsValid spec → is_name w ≡ true → IsValid (record spec { resource_names = interned spec.resource_names w })
-valid_with spec w valid is =
+valid_named : (spec : Spec) (w : List ℕ) → IsValid spec → is_name w ≡ true → IsValid (record spec { resource_names = interned spec.resource_names w })
+valid_named spec w valid is =
     let named = and-first (list_all is_name spec.resource_names) (are_distinct bytes_eq spec.resource_names) valid.resource_names in
     let distinct = and-second (list_all is_name spec.resource_names) (are_distinct bytes_eq spec.resource_names) valid.resource_names in
     let names = named_interned spec.resource_names w named is in
-    let more : length spec.resource_names ≤ length (interned spec.resource_names w) = names.1 in
-    record {
-      instances = valid.instances;
-      some_instances = valid.some_instances;
-      controllers = valid.controllers;
-      timeout = valid.timeout;
-      states = valid.states;
-      few_states = valid.few_states;
-      builtin_states = valid.builtin_states;
-      models = valid.models;
-      few_models = valid.few_models;
-      builtin_models = valid.builtin_models;
-      model_names = valid.model_names;
-      builtin_names = valid.builtin_names;
-      each_named = valid.each_named;
-      rules = valid.rules;
-      few_rules = valid.few_rules;
-      resource_names = and-both (list_all is_name (interned spec.resource_names w)) (are_distinct bytes_eq (interned spec.resource_names w)) names.0 (distinct_interned spec.resource_names w distinct);
-      resources = all-le (is_valid_resource spec) (is_valid_resource (record spec { resource_names = interned spec.resource_names w }))
-          (λ (r : Resource) (e : is_valid_resource spec r ≡ true). grind (arith, nat_tests, e, more)) spec.resources valid.resources;
-      few_resources = valid.few_resources;
-      apart = valid.apart;
-      failures = valid.failures;
-      few_failures = valid.few_failures;
-    }
+    valid_with spec (interned spec.resource_names w) valid
+    (and-both (list_all is_name (interned spec.resource_names w)) (are_distinct bytes_eq (interned spec.resource_names w)) names.0 (distinct_interned spec.resource_names w distinct)) names.1
 
 -- only the words behind `add` tell an added resource
 abbrev pub is_added : LogEntry → Bool
@@ -190,7 +117,7 @@ adds_nothing spec words (logs.Add name r model replicas parts mode) other = cc
 adds_nothing spec words _ other = refl
 
 added_valid : (spec : Spec) (words : List (List ℕ)) (e : LogEntry) → IsValid spec → is_name (before_first is_hash (second_word words)) ≡ true → IsValid (with_added spec words (Some e))
-added_valid spec words (logs.Add name r model replicas parts mode) valid is = valid_with spec (before_first is_hash (second_word words)) valid is
+added_valid spec words (logs.Add name r model replicas parts mode) valid is = valid_named spec (before_first is_hash (second_word words)) valid is
 added_valid spec words _ valid is = valid
 
 verb_valid : (spec : Spec) (w : List ℕ) (ws ls : List (List ℕ)) (verb : LogVerb) (e : LogEntry) → IsValid spec → told_by spec verb ws ls ≡ Ok e → IsValid (with_added spec (w ∷ ws) (Some e))

@@ -4,6 +4,7 @@ use Rattle.std.specs.Prelude.{nat_lt, nat_le, find, is_none, if◌then◌else◌
 use Rattle.std.specs.List.{list_any, list_all}
 use Rattle.std.proofs.lemmas.Bool.{and_parts, and_from, eqb-true}
 use Rattle.std.proofs.lemmas.Bool.Decides.{nat_tests}
+use Rattle.hx_ids.specs.Words as Ids
 use Rattle.hx_ids.specs.declared.SessionId.{SessionId}
 use Rattle.hx_ids.specs.declared.MsgId.{MsgId}
 use Rattle.hx_cluster.specs.declared.description.Spec.{Spec}
@@ -25,7 +26,8 @@ use Rattle.hx_safe.proofs.Counting.{any-append, any-filter_kept, all-append, all
 use Rattle.hx_safe.proofs.Whole.{valid_safe}
 use Rattle.hx_runs.proofs.Mail.{IsSteady, all_next, next_msg_next}
 use Rattle.hx_check.specs.Standing.{Standing, with_mark, marks_after, stood_after, stood_from, standing_of, opening_standing, MarksTell}
-use Rattle.hx_check.proofs.Same.{sessions_same, messages_same}
+use Rattle.hx_safe.proofs.Ends.{session_same}
+use Rattle.hx_check.proofs.Same.{by_number}
 use Rattle.hx_check.proofs.Standings.{stood_cluster}
 
 -- a mark that is set, and the others
@@ -240,8 +242,8 @@ told_of marks shown s id (m ∷ ms) all any = one (has_id s id m) refl (told_of 
         → (b || list_any (has_id s id) ms) ≡ true → nat_lt id.0 (get_or marks s.0 0) ≡ list_any (has_id s id) shown
     one true is rest any =
         let ids = and_parts (m.session.0 == s.0) (m.id.0 == id.0) is in
-        let session : m.session ≡ s = sessions_same m.session s ids.0 in
-        let number : m.id ≡ id = messages_same m.id id ids.1 in
+        let session : m.session ≡ s = session_same m.session s ids.0 in
+        let number : m.id ≡ id = by_number Ids.message m.id.0 id.0 ids.1 in
         ap (λ (x : MsgId). nat_lt x.0 (get_or marks s.0 0)) (sym number)
         ∙ ap (λ (x : SessionId). nat_lt m.id.0 (get_or marks x.0 0)) (sym session)
         ∙ agree_same (nat_lt m.id.0 (get_or marks m.session.0 0)) (list_any (has_id m.session m.id) shown) both.0

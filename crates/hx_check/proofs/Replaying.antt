@@ -1,24 +1,28 @@
 -- Clusters that a legal history led to.
-use Rattle.std.proofs.Common.{◌≡◌, ℕ, ◌+◌, ◌≤◌, ◌<◌, ◌^◌, true, false, List, [], ◌∷◌, ◌++◌, length, refl, sym, ap, ◌∙◌, subst, arith}
+use Rattle.std.proofs.Common.{◌≡◌, ℕ, ◌+◌, ◌≤◌, ◌<◌, ◌==◌, ◌^◌, Bool, true, false, List, [], ◌∷◌, ◌++◌, length, refl, sym, ap, ◌∙◌, subst, arith}
 use Rattle.std.specs.Prelude.{Option, None, Some, Result, Ok, Err, OnOk, OnErr, is_none, is_ok, nat_lt, nat_le}
+use Rattle.std.proofs.lemmas.Bool.{and_from}
 use Rattle.std.proofs.lemmas.Bool.Decides.{nat_tests}
+use Rattle.hx_ids.specs.declared.ControllerId.{ControllerId}
 use Rattle.hx_cluster.specs.declared.description.Spec.{Spec}
 use Rattle.hx_cluster.specs.declared.state.Cluster.{Cluster}
 use Rattle.hx_cluster.specs.declared.happenings.Event.{Event}
 use Rattle.hx_lists.specs.Answers.{RefusedAs}
 use Rattle.hx_cluster.specs.Steps.{opening, has_controller}
-use Rattle.hx_cluster.specs.Events.{next, replay, IsStep}
+use Rattle.hx_cluster.specs.Reads.{pass_of}
+use Rattle.hx_cluster.specs.Events.{next, replay, is_epoch, is_pass, IsStep}
 use Rattle.hx_cluster.specs.Weight.{weight_of, weight_of_all}
 use Rattle.hx_cluster.specs.Ranged.{IsRanged}
 use Rattle.hx_cluster.specs.Valid.{is_within, IsValid}
 use Rattle.hx_cluster.specs.Room.{half, HasRoom}
 use Rattle.hx_safe.specs.Weighed.{IsWeighed}
 use Rattle.hx_safe.proofs.Counting.{all-le}
+use Rattle.hx_safe.proofs.Ends.{same-self}
 use Rattle.hx_safe.proofs.Whole.{reached_ranged}
 use Rattle.hx_safe.proofs.Weighing.{reached_weighed}
 use Rattle.hx_records.specs.Reached.{IsReached}
 use Rattle.hx_check.specs.Judging.{most_weight, IsMadeIf, IsLedTo}
-use Rattle.hx_check.proofs.Standings.{legal_more}
+use Rattle.hx_pass.proofs.Longer.{legal_more}
 
 replay_more : (c : Cluster) (h : List Event) (e : Event) → replay c (h ++ e ∷ []) ≡ next (replay c h) e
 replay_more c [] e = refl
@@ -82,6 +86,13 @@ pub none-is : {E : Type 0} (o : Option E) → o ≡ None → is_none o ≡ true
 none-is None e = refl
 none-is (Some x) e = cc
 
+-- the epoch that it has, and the pass of a controller's, are those of now
+pub own_epoch : (c : Cluster) → is_epoch c c.epoch ≡ true
+own_epoch c = same-self c.epoch.0
+
+pub own_pass : (c : Cluster) (k : ControllerId) → has_controller c k ≡ true → is_pass c k (pass_of c k) ≡ true
+own_pass c k there = and_from (has_controller c k) ((pass_of c k).0 == (pass_of c k).0) there (same-self (pass_of c k).0)
+
 -- a controller that there is
 pub some_controller : (c : Cluster) → IsRanged c → has_controller c (record { 0 = 0 }) ≡ true
 some_controller c ranged = least (length c.controllers) ranged.controllers
@@ -89,7 +100,7 @@ some_controller c ranged = least (length c.controllers) ranged.controllers
     least : (n : ℕ) → is_within 1 16 n ≡ true → nat_lt 0 n ≡ true
     least n e = grind (arith, nat_tests, e)
 
-pub made_if : {X T E : Type 0} (refusal : Option E) (r : Result T E) (old after new : X) → RefusedAs refusal r → OnOk r (new ≡ after) → OnErr r (new ≡ old)
+made_if : {X T E : Type 0} (refusal : Option E) (r : Result T E) (old after new : X) → RefusedAs refusal r → OnOk r (new ≡ after) → OnErr r (new ≡ old)
     → IsMadeIf (is_none refusal) (is_ok r) old after new
 made_if refusal (Ok x) old after new free ok err = (sym (none-is refusal free), ok)
 made_if refusal (Err x) old after new free ok err = (sym (some-is refusal x free), err)
@@ -97,3 +108,10 @@ made_if refusal (Err x) old after new free ok err = (sym (some-is refusal x free
     some-is : {E : Type 0} (o : Option E) (x : E) → o ≡ Some x → is_none o ≡ false
     some-is None x e = cc
     some-is (Some y) x e = refl
+
+-- the same of a cluster as it is seen, where it is told whether the event was made
+pub made_so : {T E : Type 0} (refusal : Cluster → Option E) (r : Result T E) (old now new : Cluster) (e : Event) (so : Bool) → old ≡ now → so ≡ is_ok r
+    → RefusedAs (refusal old) r → OnOk r (new ≡ next old e) → OnErr r (new ≡ old) → IsMadeIf (is_none (refusal now)) so now (next now e) new
+made_so refusal r old now new e so same told free ok err =
+    subst (λ (x : Cluster). IsMadeIf (is_none (refusal x)) so x (next x e) new) same
+    (subst (λ (b : Bool). IsMadeIf (is_none (refusal old)) b old (next old e) new) (sym told) (made_if (refusal old) r old (next old e) new free ok err))

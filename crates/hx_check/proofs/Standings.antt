@@ -13,6 +13,7 @@ use Rattle.hx_pass.specs.Turns.{Turn, idle_turn, turn_after, turn_from, turn_of}
 use Rattle.hx_pass.specs.Lawful.{IsProper, IsProperAlong, IsLawful}
 use Rattle.hx_safe.proofs.Fixed.{IsFixed, fixed_self, fixed_both, fixed_next}
 use Rattle.hx_check.specs.Standing.{Standing, opening_standing, turns_after, stood_after, stood_from, standing_of, turn_in}
+use Rattle.hx_pass.proofs.Longer.{legal_more, proper_more}
 
 -- what no event changes
 fixed_along : (c : Cluster) (h : List Event) → IsFixed c (replay c h)
@@ -60,15 +61,6 @@ turn_there spec h k has =
     ∙ ap (λ t. turn_from (opening spec) k t h) (get_or-replicate spec.controllers k.0 idle_turn idle_turn below)
 
 -- a lawful history with one event more, and without its last
-pub legal_more : (c : Cluster) (h : List Event) (e : Event) → IsLegal c h → IsStep (replay c h) e → IsLegal c (h ++ e ∷ [])
-legal_more c [] e legal step = (step, tt)
-legal_more c (x ∷ h) e legal step = (legal.0, legal_more (next c x) h e legal.1 step)
-
-proper_more : (spec : Spec) (before h : List Event) (e : Event) → IsProperAlong spec before h → IsProper spec (before ++ h) e → IsProperAlong spec before (h ++ e ∷ [])
-proper_more spec before [] e proper here = (subst (λ (es : List Event). IsProper spec es e) (append-nil before) here, tt)
-proper_more spec before (x ∷ h) e proper here =
-    (proper.0, proper_more spec (before ++ x ∷ []) h e proper.1 (subst (λ (es : List Event). IsProper spec es e) (sym (append_assoc before (x ∷ []) h)) here))
-
 pub lawful_more : (spec : Spec) (h : List Event) (e : Event) → IsLawful spec h → IsStep (replay (opening spec) h) e → IsProper spec h e → IsLawful spec (h ++ e ∷ [])
 lawful_more spec h e lawful step proper = (legal_more (opening spec) h e lawful.0 step, proper_more spec [] h e lawful.1 proper)
 

@@ -283,6 +283,29 @@ pub names_past_entry : (spec : Spec) (lines : List (List ℕ)) (i : ℕ) (line :
     → names_left spec i lines ≡ names_left (named_at spec i lines) (i + 1) lines
 names_past_entry spec lines i line at is = ap (λ r. r.1) (names_past_head true spec lines i line at is)
 
+-- how far lines were judged: the verdict on those that are left, from the standing behind those that were read, is that on all
+pub record IsJudgedTo (given : Spec) (judge : Standing) (lines : List (List ℕ)) (spec : Spec) (now : Standing) (place entries : ℕ) (begun : Bool) : Type 0 where
+  pub verdict : judged_from given judge 0 (log_of given lines).0 ≡ judged_from given now entries (left_from begun spec (place + 1) (drop place lines)).0
+  pub names : (log_of given lines).1 ≡ names_left spec place lines
+  pub readable : IsReadableFrom spec place lines
+  pub kept : KeepsAllButNames given spec
+  pub models : spec.models ≡ now.cluster.models
+  pub counted : entries ≤ place
+
+-- a line that begins no entry leaves it so
+pub judged_past : (given : Spec) (judge : Standing) (lines : List (List ℕ)) (spec : Spec) (now : Standing) (place entries : ℕ) (begun : Bool) (line : List ℕ) (s : Sort)
+    → IsJudgedTo given judge lines spec now place entries begun → slice_get lines place ≡ Some line → sort_of line ≡ s → (s ≡ sorts.Head → ⊥) → place < length lines
+    → judged_from given now entries (left_from begun spec (place + 1) (drop place lines)).0 ≡ judged_from given now entries (left_from begun spec (place + 1 + 1) (drop (place + 1) lines)).0
+    → IsJudgedTo given judge lines spec now (place + 1) entries begun
+judged_past given judge lines spec now place entries begun line s h at is other lt same = record {
+  verdict = h.verdict ∙ same;
+  names = h.names ∙ names_past_other spec lines place line s at is other;
+  readable = readable_past spec place lines h.readable lt;
+  kept = h.kept;
+  models = h.models;
+  counted = omega (arith, h.counted);
+}
+
 pub models_on : (w v : Standing) (r : Result Event Cause) → IsJudgedAs w r None v → v.cluster.models ≡ w.cluster.models
 models_on w v r is = let went = went_on w v r is in ap (λ (x : Standing). x.cluster.models) went.2 ∙ (fixed_next w.cluster went.0).models
 

@@ -18,7 +18,7 @@ use Rattle.hx_print.specs.Texts.{names_of, roll_of}
 use Rattle.hx_script.specs.declared.log.LogEntry.{LogEntry}
 use Rattle.hx_script.specs.declared.log.LogEntry.TheVariants as logs
 use Rattle.hx_script.specs.LogEntries.{part_told, step_told, entry_told_by}
-use Rattle.hx_check.proofs.Same.{session-shown}
+use Rattle.hx_print.proofs.Followed.{session-shown}
 
 live_tells : (c : Cluster) (i : InstanceId) (tell : SessionId → LogEntry) → is_some (live_of c.live i) ≡ true → is_some (option_map tell (session_in (shown_of c.live) i)) ≡ true
 live_tells c i tell e = ap (λ o. is_some (option_map tell o)) (session-shown i c.live) ∙ one (live_of c.live i) e

@@ -5,6 +5,7 @@ use Rattle.std.specs.Option.{option_map, option_eq}
 use Rattle.std.specs.List.{list_all}
 use Rattle.std.specs.Cmp.Lexicographic.{pointwise}
 use Rattle.std.proofs.lemmas.Bool.{and_parts, and_from, eqb-true}
+use Rattle.hx_ids.specs.Words as Ids
 use Rattle.hx_ids.specs.declared.InstanceId.{InstanceId}
 use Rattle.hx_ids.specs.declared.ControllerId.{ControllerId}
 use Rattle.hx_ids.specs.declared.ResourceId.{ResourceId}
@@ -36,7 +37,9 @@ use Rattle.hx_script.specs.Modes.{mode_number, mode_numbered}
 use Rattle.hx_script.specs.NewIdeals.{bare_mode, bare_ideal}
 use Rattle.hx_check.specs.Standing.{Standing, turn_in}
 use Rattle.hx_check.specs.Answers.{same_session, same_ended, same_answer, is_session_now, has_name, is_named, part_of, is_part, where_so, stepped_if, begun_if, proposal_of, is_move, are_answers, dispatched_if, posted_if, fetched_if, answered_in}
-use Rattle.hx_check.proofs.Same.{session-shown, sessions_same, epochs_same, passes_same, resources_same, options_same, lists_same, ended_same, answers_same}
+use Rattle.hx_safe.proofs.Ends.{session_same}
+use Rattle.hx_print.proofs.Followed.{session-shown}
+use Rattle.hx_check.proofs.Same.{options_same, lists_same, ended_same, answers_same, by_number}
 
 -- a post is of the rows that the controller was shown
 abbrev pub IsPostOf : Standing → Event → Type 0
@@ -73,7 +76,7 @@ module _ (w : Standing) (c : Cluster) where
 
   -- a session of an instance
   session_told : (i : InstanceId) (s : SessionId) → is_session_now c i s ≡ true → session_in (shown_of c.live) i ≡ Some s
-  session_told i s is = session-shown i c.live ∙ options_same same_session sessions_same (session_of c i) (Some s) is
+  session_told i s is = session-shown i c.live ∙ options_same same_session session_same (session_of c i) (Some s) is
 
   -- a resource under its name
   named_told : (name : Option ℕ) (r : ResourceId) → is_named c name r ≡ true → slice_get (names_of c.resources) r.0 ≡ name
@@ -135,7 +138,7 @@ module _ (w : Standing) (c : Cluster) where
       let one = and_parts (has_controller c k) (is_leader k c.leader) two.0 in
       record {
         step = (one.0, one.1, refl);
-        told = ap (λ (x : Epoch). Some (logs.Begin k x (begun_of c k).pass)) (epochs_same (begun_of c k).epoch epoch two.1) ∙ ap (λ (x : PassNo). Some (logs.Begin k epoch x)) (passes_same (begun_of c k).pass pass three.1);
+        told = ap (λ (x : Epoch). Some (logs.Begin k x (begun_of c k).pass)) (by_number Ids.epoch (begun_of c k).epoch.0 epoch.0 two.1) ∙ ap (λ (x : PassNo). Some (logs.Begin k epoch x)) (by_number Ids.pass (begun_of c k).pass.0 pass.0 three.1);
         post = tt;
       })
 
@@ -158,7 +161,7 @@ module _ (w : Standing) (c : Cluster) where
       (λ so. let two = and_parts (has_instance c i && option_eq same_session s (session_of c i)) (length (messages_for c s) == n) so in
       let one = and_parts (has_instance c i) (option_eq same_session s (session_of c i)) two.0 in
       record {
-        step = (one.0, options_same same_session sessions_same s (session_of c i) one.1, sym (eqb-true (length (messages_for c s)) n two.1));
+        step = (one.0, options_same same_session session_same s (session_of c i) one.1, sym (eqb-true (length (messages_for c s)) n two.1));
         told = refl;
         post = tt;
       })
@@ -180,7 +183,7 @@ module _ (w : Standing) (c : Cluster) where
   answered_tells (logs.Line n) e is = told_where (logs.Line n) (is_later c.line n) (events.Line n) e is (λ so. record { step = so; told = refl; post = tt })
   answered_tells (logs.Join i s) e is =
       stepped_tells (logs.Join i s) (s.0 == c.next_session) (steps.Join i) e is
-      (λ so. ap (λ (t : SessionId). Some (logs.Join i t)) (sym (sessions_same s (record { 0 = c.next_session }) so)))
+      (λ so. ap (λ (t : SessionId). Some (logs.Join i t)) (sym (session_same s (record { 0 = c.next_session }) so)))
   answered_tells (logs.End i s) e is = stepped_tells (logs.End i s) (is_session_now c i s) (steps.End i) e is (λ so. ap (λ o. option_map (logs.End i) o) (session_told i s so))
   answered_tells (logs.Beat i s) e is = stepped_tells (logs.Beat i s) (is_session_now c i s) (steps.Beat i) e is (λ so. ap (λ o. option_map (logs.Beat i) o) (session_told i s so))
   answered_tells (logs.Tick n ended) e is =
@@ -191,7 +194,7 @@ module _ (w : Standing) (c : Cluster) where
   answered_tells (logs.Add name r model replicas parts mode) e is =
       stepped_tells (logs.Add name r model replicas parts mode) ((r.0 == length c.resources) && is_some (mode_numbered mode)) (steps.Add name model (bare_ideal replicas parts mode)) e is
       (λ so. let both = and_parts (r.0 == length c.resources) (is_some (mode_numbered mode)) so in
-      ap (λ (x : ResourceId). Some (logs.Add name x model replicas parts (mode_number (kind_of (bare_mode (mode_numbered mode) parts))))) (sym (resources_same r (record { 0 = length c.resources }) both.0))
+      ap (λ (x : ResourceId). Some (logs.Add name x model replicas parts (mode_number (kind_of (bare_mode (mode_numbered mode) parts))))) (sym (by_number Ids.resource r.0 (length c.resources) both.0))
       ∙ ap (λ n. Some (logs.Add name r model replicas parts n)) (mode_told mode parts both.1))
   answered_tells (logs.Drop name r) e is = stepped_tells (logs.Drop name r) (is_named c name r) (steps.Drop r) e is (λ so. ap (λ o. Some (logs.Drop o r)) (named_told name r so))
   answered_tells (logs.List p list) e is = stepped_tells (logs.List p list) (is_part c p) (steps.SetList (part_of p) list) e is (λ so. ap (λ q. Some (logs.List q list)) (part_named p so))
@@ -200,7 +203,7 @@ module _ (w : Standing) (c : Cluster) where
       stepped_tells (logs.Reset i s p) (is_part c p && is_session_now c i s) (steps.Reset i (part_of p)) e is
       (λ so. let both = and_parts (is_part c p) (is_session_now c i s) so in
       ap (λ o. option_map (λ s. logs.Reset i s (part_told (names_of c.resources) (part_of p))) o) (session_told i s both.1) ∙ ap (λ q. Some (logs.Reset i s q)) (part_named p both.0))
-  answered_tells (logs.Lead k epoch) e is = stepped_tells (logs.Lead k epoch) (epoch.0 == c.epoch.0) (steps.Lead k) e is (λ so. ap (λ (x : Epoch). Some (logs.Lead k x)) (sym (epochs_same epoch c.epoch so)))
+  answered_tells (logs.Lead k epoch) e is = stepped_tells (logs.Lead k epoch) (epoch.0 == c.epoch.0) (steps.Lead k) e is (λ so. ap (λ (x : Epoch). Some (logs.Lead k x)) (sym (by_number Ids.epoch epoch.0 c.epoch.0 so)))
   answered_tells (logs.Stop k) e is = stepped_tells (logs.Stop k) true (steps.Stop k) e is (λ so. refl)
   answered_tells (logs.Start k) e is = stepped_tells (logs.Start k) true (steps.Start k) e is (λ so. refl)
   answered_tells (logs.Begin k epoch pass) e is = begun_tells k epoch pass e is

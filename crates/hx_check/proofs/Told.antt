@@ -41,8 +41,10 @@ use Rattle.hx_script.specs.NewIdeals.{bare_ideal}
 use Rattle.hx_script.proofs.WordsAgain.{option_map_from}
 use Rattle.hx_check.specs.Standing.{Standing, turn_in}
 use Rattle.hx_check.specs.Answers.{same_session, same_ended, same_answer, is_session_now, has_name, is_named, is_part, where_so, stepped_if, proposal_of, is_move, are_answers, posted_if, answered_in}
-use Rattle.hx_check.proofs.Same.{session-shown, eqb-refl, option_itself, list_itself, ended_itself, answer_itself}
+use Rattle.hx_safe.proofs.Ends.{same-self}
+use Rattle.hx_check.proofs.Same.{option_itself, list_itself, ended_itself, answer_itself}
 use Rattle.hx_check.proofs.Telling.{Tells}
+use Rattle.hx_print.proofs.Followed.{session-shown}
 
 where_true : (b : Bool) (e : Event) → b ≡ true → where_so b e ≡ Some e
 where_true b e is = rw is refl
@@ -76,7 +78,7 @@ mode_known (modes.Custom maps) = refl
 -- a resource that is there has its name
 named_there : (resources : List Resource) (n : ℕ) → nat_lt n (length resources) ≡ true → has_name (slice_get (names_of resources) n) (slice_get resources n) ≡ true
 named_there [] n e = absurd (grind (arith, nat_tests, e))
-named_there (x ∷ xs) zero e = eqb-refl x.name
+named_there (x ∷ xs) zero e = same-self x.name
 named_there (x ∷ xs) (suc n) e = named_there xs n (grind (arith, nat_tests, e))
 
 module _ (w : Standing) (c : Cluster) where
@@ -93,7 +95,7 @@ module _ (w : Standing) (c : Cluster) where
   told_by_step step told entry e is = subst (IsAnswered step) (some_is told entry e) is
 
   session_now : (i : InstanceId) (s : SessionId) → session_in (shown_of c.live) i ≡ Some s → is_session_now c i s ≡ true
-  session_now i s e = ap (λ o. option_eq same_session o (Some s)) (sym (session-shown i c.live) ∙ e) ∙ eqb-refl s.0
+  session_now i s e = ap (λ o. option_eq same_session o (Some s)) (sym (session-shown i c.live) ∙ e) ∙ same-self s.0
 
   -- of steps that tell the session that is live
   session_step : (step : Admin) (i : InstanceId) (tell : SessionId → LogEntry) (entry : LogEntry) → option_map tell (session_in (shown_of c.live) i) ≡ Some entry
@@ -107,7 +109,7 @@ module _ (w : Standing) (c : Cluster) where
 
   admin_answered : (step : Admin) (entry : LogEntry) → is_in_range c step ≡ true → refusal_of c step ≡ None → step_told (roll_of c) step (did_of c step) ≡ Some entry → IsAnswered step entry
   admin_answered (steps.Join i) entry range may told =
-      told_by_step (steps.Join i) (logs.Join i (record { 0 = c.next_session })) entry told (stepped (c.next_session == c.next_session) (steps.Join i) (eqb-refl c.next_session) range may)
+      told_by_step (steps.Join i) (logs.Join i (record { 0 = c.next_session })) entry told (stepped (c.next_session == c.next_session) (steps.Join i) (same-self c.next_session) range may)
   admin_answered (steps.End i) entry range may told = session_step (steps.End i) i (logs.End i) entry told (λ s now. stepped (is_session_now c i s) (steps.End i) now range may)
   admin_answered (steps.Beat i) entry range may told = session_step (steps.Beat i) i (logs.Beat i) entry told (λ s now. stepped (is_session_now c i s) (steps.Beat i) now range may)
   admin_answered (steps.Tick n) entry range may told =
@@ -123,7 +125,7 @@ module _ (w : Standing) (c : Cluster) where
       told_by_step (steps.Add name model ideal) (logs.Add name (record { 0 = length c.resources }) model ideal.replicas ideal.parts number) entry told
       (ap (λ (x : IdealState). stepped_if c ((length c.resources == length c.resources) && is_some (mode_numbered number)) (steps.Add name model x)) again
       ∙ stepped ((length c.resources == length c.resources) && is_some (mode_numbered number)) (steps.Add name model ideal)
-      (and_from (length c.resources == length c.resources) (is_some (mode_numbered number)) (eqb-refl (length c.resources)) (mode_known ideal.mode)) range may)
+      (and_from (length c.resources == length c.resources) (is_some (mode_numbered number)) (same-self (length c.resources)) (mode_known ideal.mode)) range may)
   admin_answered (steps.Drop r) entry range may told =
       told_by_step (steps.Drop r) (logs.Drop (slice_get (names_of c.resources) r.0) r) entry told
       (stepped (is_named c (slice_get (names_of c.resources) r.0) r) (steps.Drop r) (named_there c.resources r.0 range) range may)
@@ -139,7 +141,7 @@ module _ (w : Standing) (c : Cluster) where
       (λ s now. stepped (is_part c (part_told (names_of c.resources) p) && is_session_now c i s) (steps.Reset i p)
       (and_from (is_part c (part_told (names_of c.resources) p)) (is_session_now c i s) (part_there p both.1) now) range may)
   admin_answered (steps.Lead k) entry range may told =
-      told_by_step (steps.Lead k) (logs.Lead k c.epoch) entry told (stepped (c.epoch.0 == c.epoch.0) (steps.Lead k) (eqb-refl c.epoch.0) range may)
+      told_by_step (steps.Lead k) (logs.Lead k c.epoch) entry told (stepped (c.epoch.0 == c.epoch.0) (steps.Lead k) (same-self c.epoch.0) range may)
   admin_answered (steps.Stop k) entry range may told = told_by_step (steps.Stop k) (logs.Stop k) entry told (stepped true (steps.Stop k) refl range may)
   admin_answered (steps.Start k) entry range may told = told_by_step (steps.Start k) (logs.Start k) entry told (stepped true (steps.Start k) refl range may)
 
@@ -181,8 +183,8 @@ module _ (w : Standing) (c : Cluster) where
       (ap (λ (b : Begun). answered_in w c (logs.Begin k b.epoch b.pass)) right
       ∙ where_true (has_controller c k && is_leader k c.leader && ((begun_of c k).epoch.0 == (begun_of c k).epoch.0) && ((begun_of c k).pass.0 == (begun_of c k).pass.0)) (events.Begin k (begun_of c k))
       (and_from (has_controller c k && is_leader k c.leader && ((begun_of c k).epoch.0 == (begun_of c k).epoch.0)) ((begun_of c k).pass.0 == (begun_of c k).pass.0)
-      (and_from (has_controller c k && is_leader k c.leader) ((begun_of c k).epoch.0 == (begun_of c k).epoch.0) (and_from (has_controller c k) (is_leader k c.leader) t.step.0 t.step.1) (eqb-refl (begun_of c k).epoch.0))
-      (eqb-refl (begun_of c k).pass.0))
+      (and_from (has_controller c k && is_leader k c.leader) ((begun_of c k).epoch.0 == (begun_of c k).epoch.0) (and_from (has_controller c k) (is_leader k c.leader) t.step.0 t.step.1) (same-self (begun_of c k).epoch.0))
+      (same-self (begun_of c k).pass.0))
       ∙ ap (λ b. Some (events.Begin k b)) (sym right))
   tells_answered (events.Live k pass) entry t = subst (λ x. answered_in w c x ≡ Some (events.Live k pass)) (some_is (logs.Live k pass) entry t.told) (where_true (is_pass c k pass) (events.Live k pass) t.step)
   tells_answered (events.Mail k pass s) entry t = subst (λ x. answered_in w c x ≡ Some (events.Mail k pass s)) (some_is (logs.Mail k pass s) entry t.told) (where_true (is_pass c k pass) (events.Mail k pass s) t.step)
@@ -209,13 +211,13 @@ module _ (w : Standing) (c : Cluster) where
       (ap (λ n. posted_if c k epoch n shown) (ap length right)
       ∙ where_true (has_controller c k && is_epoch c epoch && (length shown == length shown) && list_all (is_postable c) shown) (events.Post k epoch shown)
       (and_from (has_controller c k && is_epoch c epoch && (length shown == length shown)) (list_all (is_postable c) shown)
-      (and_from (has_controller c k && is_epoch c epoch) (length shown == length shown) (and_from (has_controller c k) (is_epoch c epoch) t.step.0 t.step.2) (eqb-refl (length shown))) postable)
+      (and_from (has_controller c k && is_epoch c epoch) (length shown == length shown) (and_from (has_controller c k) (is_epoch c epoch) t.step.0 t.step.2) (same-self (length shown))) postable)
       ∙ ap (λ rs. Some (events.Post k epoch rs)) (sym right))
   tells_answered (events.Fetch i s n) entry t =
       let session : s ≡ session_of c i = t.step.1 in
       let count : n ≡ length (messages_for c s) = t.step.2 in
-      let same : option_eq same_session s (session_of c i) ≡ true = ap (λ o. option_eq same_session s o) (sym session) ∙ option_itself same_session (λ x. eqb-refl x.0) s in
-      let counted : (length (messages_for c s) == n) ≡ true = ap (λ m. length (messages_for c s) == m) count ∙ eqb-refl (length (messages_for c s)) in
+      let same : option_eq same_session s (session_of c i) ≡ true = ap (λ o. option_eq same_session s o) (sym session) ∙ option_itself same_session (λ x. same-self x.0) s in
+      let counted : (length (messages_for c s) == n) ≡ true = ap (λ m. length (messages_for c s) == m) count ∙ same-self (length (messages_for c s)) in
       subst (λ x. answered_in w c x ≡ Some (events.Fetch i s n)) (some_is (logs.Fetch i s n) entry t.told)
       (where_true (has_instance c i && option_eq same_session s (session_of c i) && (length (messages_for c s) == n)) (events.Fetch i s n)
       (and_from (has_instance c i && option_eq same_session s (session_of c i)) (length (messages_for c s) == n) (and_from (has_instance c i) (option_eq same_session s (session_of c i)) t.step.0 same) counted))

@@ -265,26 +265,14 @@ impl Judge {
         self.step(&Admin::Drop { resource }, Told::Agrees(agrees))
     }
 
-    fn list(&mut self, part: &LogPart, list: Seq<InstanceId>) -> Result<Option<Cause>, AllocError>
+    /// A step of a part's.
+    fn part_step(&mut self, part: &LogPart, step: &Admin) -> Result<Option<Cause>, AllocError>
         ensures { IfOk result (λ cause. IsAnsweredAs self.old
-            (Answers.answered self.old (LogEntry.List part.now list)) cause self.new) }
+            (Answers.stepped_if self.old.cluster
+            (Answers.is_part self.old.cluster part.now) step.now) cause self.new) }
     {
         let agrees = self.is_part(part);
-        let part = part_of(part);
-        self.step(&Admin::SetList { part, list }, Told::Agrees(agrees))
-    }
-
-    fn map(
-        &mut self,
-        part: &LogPart,
-        map: Seq<(InstanceId, StateId)>,
-    ) -> Result<Option<Cause>, AllocError>
-        ensures { IfOk result (λ cause. IsAnsweredAs self.old
-            (Answers.answered self.old (LogEntry.Map part.now map)) cause self.new) }
-    {
-        let agrees = self.is_part(part);
-        let part = part_of(part);
-        self.step(&Admin::SetMap { part, map }, Told::Agrees(agrees))
+        self.step(step, Told::Agrees(agrees))
     }
 
     fn reset(
@@ -331,8 +319,20 @@ impl Judge {
                 self.add(name, resource, model, ideal)
             }
             LogEntry::Drop { name, resource } => self.drop_resource(name, resource),
-            LogEntry::List { part, list } => self.list(&part, list),
-            LogEntry::Map { part, map } => self.map(&part, map),
+            LogEntry::List { part, list } => {
+                let step = Admin::SetList {
+                    part: part_of(&part),
+                    list,
+                };
+                self.part_step(&part, &step)
+            }
+            LogEntry::Map { part, map } => {
+                let step = Admin::SetMap {
+                    part: part_of(&part),
+                    map,
+                };
+                self.part_step(&part, &step)
+            }
             LogEntry::Reset {
                 instance,
                 session,

@@ -1,19 +1,10 @@
 -- Participants by the places of their lists of failures, and what goes over the numbers below a bound.
-use Rattle.std.proofs.Common.{◌≡◌, ℕ, zero, suc, ◌+◌, List, [], ◌∷◌, ◌++◌, map, refl, sym, ap, ◌∙◌, arith}
+use Rattle.std.proofs.Common.{◌≡◌, ℕ, ◌+◌, List, [], ◌∷◌, map, refl, sym, ap, ◌∙◌}
 use Rattle.std.specs.List.{enumerate_from}
 use Rattle.std.proofs.lemmas.List.{map-id}
-use Rattle.hx_lists.specs.Lists.{numbers_from, numbers_below}
 use Rattle.hx_cluster.specs.declared.description.Failure.{Failure}
 use Rattle.hx_replicas.specs.Jobs.{ParticipantState}
 use Rattle.hx_replies.specs.Simulation.{staff_at, staff_from}
-
-map-numbers_from-suc : {X : Type 0} (f : ℕ → X) (a n : ℕ) → map f (numbers_from a (suc n)) ≡ map f (numbers_from a n) ++ f (a + n) ∷ []
-map-numbers_from-suc f a zero = grind arith
-map-numbers_from-suc f a (suc n) = grind (arith, map-numbers_from-suc f (a + 1) n)
-
--- one number more
-pub map-numbers_below_more : {X : Type 0} (f : ℕ → X) (n : ℕ) → map f (numbers_below (n + 1)) ≡ map f (numbers_below n) ++ f n ∷ []
-map-numbers_below_more f n = grind (arith, map-numbers_from-suc f 0 n)
 
 -- lists in their places, each read by f
 at_places : {L : Type 0} (f : L → List Failure) (n : ℕ) (lists : List L) → map (λ p. staff_at p.0 (f p.1)) (enumerate_from n lists) ≡ staff_from n (map f lists)

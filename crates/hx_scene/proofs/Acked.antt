@@ -19,23 +19,24 @@ use Rattle.hx_board.specs.Board.{Held, HasHistory, happened as on_board}
 use Rattle.hx_replicas.specs.Jobs.{ParticipantState}
 use Rattle.hx_scripted.proofs.Standing.{since}
 use Rattle.hx_agreed.proofs.Operations.{write_keeps, ack_keeps}
-use Rattle.hx_worlds.specs.World.{Answers}
+use Rattle.hx_worlds.specs.World.{Answers, State}
 use Rattle.hx_worlds.specs.declared.Voice.{Voice}
 use Rattle.hx_worlds.specs.declared.Voice.TheVariants.{Quiet}
-use Rattle.hx_worlds.specs.Runs.{GoesOn, done, and_then, make, note, items_of}
+use Rattle.hx_worlds.specs.Runs.{Deed, GoesOn, done, and_then, make, note, items_of}
 use Rattle.hx_worlds.specs.Items.{Happens}
 use Rattle.hx_worlds.specs.Jobs.{do_write, write_job, do_ack, ack_job, is_job, with_written, end_job}
 use Rattle.hx_scene.specs.Scenes.{SceneState, OpenState, plain_job, at, lists_of}
 use Rattle.hx_scene.specs.Doing.{Keeps, Reaches, Ends, IsCut}
 use Rattle.hx_scene.specs.Kept.{IsScene, IsListed}
 use Rattle.hx_scene.specs.Ending.{CanEnd, KeepsParts, ended_staff, plain_staff, staff_in}
-use Rattle.hx_scene.proofs.Reaching.{at_happened, event_cut, event_ends, one_step, kept_going, keeps_nothing}
+use Rattle.hx_scene.proofs.Reaching.{at_happened, event_cut, event_ends, here, one_step, reaches_as, kept_going, keeps_unasked}
 use Rattle.hx_scene.proofs.Standing.{valid_in}
 use Rattle.hx_scene.proofs.Adopting.{AreEnding, ending_first, can_end, ends_as}
-use Rattle.hx_scene.proofs.Written.{StandsAt, not_found, found, got}
+use Rattle.hx_scene.proofs.Making.{Makes, ComesTo, makes_as}
+use Rattle.hx_scene.proofs.Written.{StandsAt, not_found, found, got, refusal_is}
 
 -- the job at a place ended
-pub record IsEnded (s : SceneState) (n : ℕ) (j : OpenState) (later : List OpenState) (after : List ParticipantState) : Type 0 where
+record IsEnded (s : SceneState) (n : ℕ) (j : OpenState) (later : List OpenState) (after : List ParticipantState) : Type 0 where
   pub jobs : later ≡ take n s.jobs ++ drop (n + 1) s.jobs
   pub plain : plain_staff after ≡ ended_staff j (plain_staff s.staff) (staff_in s.staff j.instance).plain
   pub kept : KeepsParts s.jobs later s.staff after
@@ -54,11 +55,8 @@ module _ {s : SceneState} {i : InstanceId} {id : MsgId} {n : ℕ} {j : OpenState
   ended_at board a = ends_as s.jobs s.staff n j (ending s h.scene) (got h) later after e.jobs e.plain e.kept (at (record s { board = board }) a)
 
   keeps_ended : (board : Held) → board.lines ≡ s.board.lines → Keeps s (ended_scene s board later after) []
-  keeps_ended board lines = record {
-    lists = e.kept.lists;
-    lines = lines;
-    told = λ c. let below = e.kept.below s.handed (c.staff, c.jobs) in (record { few = c.few; staff = below.0; jobs = below.1 }, tt);
-  }
+  keeps_ended board lines =
+      keeps_unasked e.kept.lists lines (λ c. let below = e.kept.below s.handed (c.staff, c.jobs) in record { few = c.few; staff = below.0; jobs = below.1 })
 
   listed_ended : All (IsListed (map (λ (p : ParticipantState). p.listed) after)) later
   listed_ended = subst (λ (l : List (Option (List Failure))). All (IsListed l) later) (sym e.kept.lists) (e.kept.listed (lists_of s) h.scene.listed)
@@ -76,12 +74,12 @@ module _ {s : SceneState} {i : InstanceId} {id : MsgId} {n : ℕ} {j : OpenState
       ∙ ap (λ (b : Bool). if b then and_then (make event x) (λ y. done (with_written k.instance k.message.id y)) else note v notes.SessionEnded (end_job k x)) can
       ∙ ap (λ y. note v notes.SessionEnded y) (ended_at s.board a)
 
-  pub write_reaches : (v : Voice) (fault : WriteRefusal) (p : List ℕ) → j.is_written ≡ false → write_refusal s.board.cluster j.ran.message.session j.ran.message.id ≡ Some fault
+  write_reaches : (v : Voice) (fault : WriteRefusal) (p : List ℕ) → j.is_written ≡ false → write_refusal s.board.cluster j.ran.message.session j.ran.message.id ≡ Some fault
       → Reaches (λ x. do_write v i id x) s p (λ x. note v notes.SessionEnded x) (ended_scene s s.board later after) p
   write_reaches v fault p unwritten full =
       one_step (λ x. do_write v i id x) (λ x. note v notes.SessionEnded x) s p (ended_scene s s.board later after) [] (λ a _. write_ended v fault a unwritten full) refl refl (keeps_ended s.board refl)
 
-  pub write_ended_scene : (fault : WriteRefusal) → j.is_written ≡ false → write_refusal s.board.cluster j.ran.message.session j.ran.message.id ≡ Some fault → IsScene (ended_scene s s.board later after)
+  write_ended_scene : (fault : WriteRefusal) → j.is_written ≡ false → write_refusal s.board.cluster j.ran.message.session j.ran.message.id ≡ Some fault → IsScene (ended_scene s s.board later after)
   write_ended_scene fault unwritten full =
       let kept = kept_going {spec = s.spec} (write_reaches Quiet fault [] unwritten full) h.scene.of_history h.scene.in_step (λ a st. write_keeps s.spec (valid_in s h.scene) (since s.board.cluster.line) Quiet i id (at s a) st) in
       record { own = h.scene.own; history = h.scene.history; of_history = kept.0; in_step = kept.1; listed = listed_ended }
@@ -107,18 +105,18 @@ module _ {s : SceneState} {i : InstanceId} {id : MsgId} {n : ℕ} {j : OpenState
       ∙ ap (λ y. GoesOn (Happens event ∷ []) (end_job (plain_job j) y) tt) (at_happened event s t a refl)
       ∙ ap (λ y. GoesOn (Happens event ∷ []) y tt) (ended_at (on_board s.board event) a)
 
-  pub ack_ends : (v : Voice) → j.is_written ≡ true → ack_refusal s.board.cluster j.ran.message.session j.ran.message.id ≡ None → (p q : List ℕ) → q ≡ p ++ entry_text s.spec s.board.cluster event
+  ack_ends : (v : Voice) → j.is_written ≡ true → ack_refusal s.board.cluster j.ran.message.session j.ran.message.id ≡ None → (p q : List ℕ) → q ≡ p ++ entry_text s.spec s.board.cluster event
       → Ends (λ x. do_ack v i id x) s p tt (ended_scene s (on_board s.board event) later after) q
   ack_ends v written free p q text =
       event_ends (λ x. do_ack v i id x) event tt [] s (ended_scene s (on_board s.board event) later after) p q (λ a _. ack_goes v a written free) refl refl (keeps_ended (on_board s.board event) refl) text
 
-  pub ack_cut : (v : Voice) → j.is_written ≡ true → ack_refusal s.board.cluster j.ran.message.session j.ran.message.id ≡ None → (p q : List ℕ) → PutsFront (entry_text s.spec s.board.cluster event) p q
+  ack_cut : (v : Voice) → j.is_written ≡ true → ack_refusal s.board.cluster j.ran.message.session j.ran.message.id ≡ None → (p q : List ℕ) → PutsFront (entry_text s.spec s.board.cluster event) p q
       → IsCut (λ x. do_ack v i id x) s p (ended_scene s (on_board s.board event) later after) q
   ack_cut v written free p q front =
       event_cut (λ x. do_ack v i id x) event [] s (ended_scene s (on_board s.board event) later after) p q (λ a _. ([], ap items_of (ack_goes v a written free))) refl refl
       (keeps_ended (on_board s.board event) refl) front
 
-  pub ack_scene : j.is_written ≡ true → ack_refusal s.board.cluster j.ran.message.session j.ran.message.id ≡ None → HasHistory (on_board s.board event)
+  ack_scene : j.is_written ≡ true → ack_refusal s.board.cluster j.ran.message.session j.ran.message.id ≡ None → HasHistory (on_board s.board event)
       → IsScene (ended_scene s (on_board s.board event) later after)
   ack_scene written free history =
       let kept = kept_going {spec = s.spec} (ack_ends Quiet written free [] (entry_text s.spec s.board.cluster event) refl) h.scene.of_history h.scene.in_step
@@ -126,13 +124,13 @@ module _ {s : SceneState} {i : InstanceId} {id : MsgId} {n : ℕ} {j : OpenState
       record { own = h.scene.own; history = history; of_history = kept.0; in_step = kept.1; listed = listed_ended }
 
   -- or its session ended before
-  pub ack_reaches : (v : Voice) (fault : AckFault) (p : List ℕ) → j.is_written ≡ true → ack_refusal s.board.cluster j.ran.message.session j.ran.message.id ≡ Some fault
+  ack_reaches : (v : Voice) (fault : AckFault) (p : List ℕ) → j.is_written ≡ true → ack_refusal s.board.cluster j.ran.message.session j.ran.message.id ≡ Some fault
       → Reaches (λ x. do_ack v i id x) s p (λ x. note v notes.SessionEnded x) (ended_scene s s.board later after) p
   ack_reaches v fault p written full =
       one_step (λ x. do_ack v i id x) (λ x. note v notes.SessionEnded x) s p (ended_scene s s.board later after) []
       (λ a _. ack_cases v a false written (ap (λ (z : Option AckFault). is_none z) full) ∙ ap (λ y. note v notes.SessionEnded y) (ended_at s.board a)) refl refl (keeps_ended s.board refl)
 
-  pub ack_ended_scene : (fault : AckFault) → j.is_written ≡ true → ack_refusal s.board.cluster j.ran.message.session j.ran.message.id ≡ Some fault → IsScene (ended_scene s s.board later after)
+  ack_ended_scene : (fault : AckFault) → j.is_written ≡ true → ack_refusal s.board.cluster j.ran.message.session j.ran.message.id ≡ Some fault → IsScene (ended_scene s s.board later after)
   ack_ended_scene fault written full =
       let kept = kept_going {spec = s.spec} (ack_reaches Quiet fault [] written full) h.scene.of_history h.scene.in_step (λ a st. ack_keeps s.spec (valid_in s h.scene) (since s.board.cluster.line) Quiet i id (at s a) st) in
       record { own = h.scene.own; history = h.scene.history; of_history = kept.0; in_step = kept.1; listed = listed_ended }
@@ -141,15 +139,44 @@ module _ {s : SceneState} {i : InstanceId} {id : MsgId} {n : ℕ} {j : OpenState
 pub ack_before : {s : SceneState} {i : InstanceId} {id : MsgId} {n : ℕ} {j : OpenState} → StandsAt s i id n j → (v : Voice) (p : List ℕ) → j.is_written ≡ false
     → Reaches (λ x. do_ack v i id x) s p (λ x. note v notes.NoJob x) s p
 ack_before {s} {i} {id} {n} {j} h v p unwritten =
-    one_step (λ x. do_ack v i id x) (λ x. note v notes.NoJob x) s p s []
-    (λ a _. ap (λ o. ack_job v o (at s a)) (found h)
+    reaches_as
+    (λ a. ap (λ o. ack_job v o (at s a)) (found h)
     ∙ ap (λ (b : Bool). if not b then note v notes.NoJob (at s a) else if can_ack s.board.cluster j.ran.message.session j.ran.message.id then and_then (make (events.Ack j.ran.message.session j.ran.message.id) (at s a)) (λ y. done (end_job (plain_job j) y)) else note v notes.SessionEnded (end_job (plain_job j) (at s a))) unwritten)
-    refl refl (keeps_nothing s)
+    (here (λ x. note v notes.NoJob x) s p)
 
-pub ack_none : (s : SceneState) (i : InstanceId) (id : MsgId) (v : Voice) (p : List ℕ) → position (λ k. is_job i id (plain_job k)) s.jobs ≡ None
+pub ack_none : (s : SceneState) (i : InstanceId) (id : MsgId) → position (λ k. is_job i id (plain_job k)) s.jobs ≡ None → (v : Voice) (p : List ℕ)
     → Reaches (λ x. do_ack v i id x) s p (λ x. note v notes.NoJob x) s p
-ack_none s i id v p none =
-    one_step (λ x. do_ack v i id x) (λ x. note v notes.NoJob x) s p s [] (λ a _. ap (λ o. ack_job v o (at s a)) (not_found s i id none)) refl refl (keeps_nothing s)
+ack_none s i id none v p = reaches_as (λ a. ap (λ o. ack_job v o (at s a)) (not_found s i id none)) (here (λ x. note v notes.NoJob x) s p)
 
-pub event_is : (j : OpenState) (s : SessionId) (id : MsgId) → s ≡ j.ran.message.session → id ≡ j.ran.message.id → events.Ack s id ≡ events.Ack j.ran.message.session j.ran.message.id
+-- by what the calls told
+event_is : (j : OpenState) (s : SessionId) (id : MsgId) → s ≡ j.ran.message.session → id ≡ j.ran.message.id → events.Ack s id ≡ events.Ack j.ran.message.session j.ran.message.id
 event_is j s id session number = ap (λ (z : SessionId). events.Ack z id) session ∙ ap (λ (z : MsgId). events.Ack j.ran.message.session z) number
+
+module _ {s : SceneState} {i : InstanceId} {id : MsgId} {n : ℕ} {j : OpenState} {later : List OpenState} {after : List ParticipantState} (h : StandsAt s i id n j) (jobs : later ≡ take n s.jobs ++ drop (n + 1) s.jobs)
+    (plain : (k : OpenState) → slice_get s.jobs n ≡ Some k → plain_staff after ≡ ended_staff k (plain_staff s.staff) (staff_in s.staff k.instance).plain) (kept : KeepsParts s.jobs later s.staff after) where
+  ended : IsEnded s n j later after
+  ended = record { jobs = jobs; plain = plain j (got h); kept = kept }
+
+  ended_comes : {f g : State → Deed} {board : Held} → ((p : List ℕ) → Reaches f s p g (ended_scene s s.board later after) p) → IsScene (ended_scene s s.board later after) → board ≡ s.board
+      → ComesTo f g s (ended_scene s board later after)
+  ended_comes {f} {g} reaches scene same = subst (λ (z : Held). ComesTo f g s (ended_scene s z later after)) (sym same) (record { reaches = reaches; scene = scene })
+
+  module _ {session : SessionId} {number : MsgId} (same_session : session ≡ j.ran.message.session) (same_number : number ≡ j.ran.message.id) where
+    pub ack_makes : {board : Held} (v : Voice) → j.is_written ≡ true → ack_refusal s.board.cluster session number ≡ None → board ≡ on_board s.board (events.Ack session number)
+        → Makes (λ x. do_ack v i id x) (events.Ack j.ran.message.session j.ran.message.id) s board (ended_scene s board later after)
+    ack_makes {board} v written free is =
+        let made : board ≡ on_board s.board (event h ended) = is ∙ ap (λ (z : Event). on_board s.board z) (event_is j session number same_session same_number) in
+        let refused = refusal_is (λ (z : SessionId) (m : MsgId). ack_refusal s.board.cluster z m) j session number None same_session same_number free in
+        makes_as (ap (λ (z : Held). ended_scene s z later after) made) made refl (ack_ends h ended v written refused) (ack_cut h ended v written refused) (ack_scene h ended written refused)
+
+    pub ack_comes : {board : Held} (v : Voice) (fault : AckFault) → j.is_written ≡ true → ack_refusal s.board.cluster session number ≡ Some fault → board ≡ s.board
+        → ComesTo (λ x. do_ack v i id x) (λ x. note v notes.SessionEnded x) s (ended_scene s board later after)
+    ack_comes {board} v fault written full same =
+        let refused = refusal_is (λ (z : SessionId) (m : MsgId). ack_refusal s.board.cluster z m) j session number (Some fault) same_session same_number full in
+        ended_comes (λ p. ack_reaches h ended v fault p written refused) (ack_ended_scene h ended fault written refused) same
+
+    pub write_comes : {board : Held} (v : Voice) (fault : WriteRefusal) → j.is_written ≡ false → write_refusal s.board.cluster session number ≡ Some fault → board ≡ s.board
+        → ComesTo (λ x. do_write v i id x) (λ x. note v notes.SessionEnded x) s (ended_scene s board later after)
+    write_comes {board} v fault unwritten full same =
+        let refused = refusal_is (λ (z : SessionId) (m : MsgId). write_refusal s.board.cluster z m) j session number (Some fault) same_session same_number full in
+        ended_comes (λ p. write_reaches h ended v fault p unwritten refused) (write_ended_scene h ended fault unwritten refused) same

@@ -303,8 +303,22 @@ no_job = record {
   is_written = false;
 }
 
-pub many_numbers : (numbers : List MsgId) (js : List Job) → numbers ≡ map (λ j. j.message.id) js → length numbers ≡ length js
+many_numbers : (numbers : List MsgId) (js : List Job) → numbers ≡ map (λ j. j.message.id) js → length numbers ≡ length js
 many_numbers numbers js is = ap (λ (ns : List MsgId). length ns) is ∙ length-map js (λ (j : Job). j.message.id)
 
-pub number_at : (numbers : List MsgId) (js : List Job) (k : ℕ) (z : MsgId) → numbers ≡ map (λ j. j.message.id) js → k < length js → get_or numbers k z ≡ (slice_index_or js k no_job).message.id
+number_at : (numbers : List MsgId) (js : List Job) (k : ℕ) (z : MsgId) → numbers ≡ map (λ j. j.message.id) js → k < length js → get_or numbers k z ≡ (slice_index_or js k no_job).message.id
 number_at numbers js k z is lt = ap (λ (ns : List MsgId). get_or ns k z) is ∙ get_or-map (λ (j : Job). j.message.id) js k no_job z lt
+
+-- an id is the number of a place among those jobs
+pub record IsNumber (i : InstanceId) (first : List OpenState) (k : ℕ) (id : MsgId) : Type 0 where
+  pub within : k < length (those i first)
+  pub named : id ≡ (slice_index_or (those i first) k no_job).message.id
+
+pub number_is : {i : InstanceId} {first : List OpenState} {numbers : List MsgId} (k : ℕ) (z : MsgId) → numbers ≡ map (λ j. j.message.id) (those i first) → k < length numbers → IsNumber i first k (get_or numbers k z)
+number_is {i} {first} {numbers} k z is lt =
+    let same = many_numbers numbers (those i first) is in
+    let within : k < length (those i first) = omega (arith, same, lt) in
+    record { within = within; named = number_at numbers (those i first) k z is within }
+
+pub all_numbers : (i : InstanceId) (first : List OpenState) {numbers : List MsgId} (k : ℕ) → numbers ≡ map (λ j. j.message.id) (those i first) → length numbers ≤ k → length (those i first) ≤ k
+all_numbers i first {numbers} k is past = let same = many_numbers numbers (those i first) is in omega (arith, same, past)

@@ -1,6 +1,6 @@
 -- A step of a controller's turn by itself keeps a world of its history, and in step.
-use Rattle.std.proofs.Common.{◌∙◌, ℕ}
-use Rattle.std.specs.Prelude.{Option, None, Ok}
+use Rattle.std.proofs.Common.{◌∙◌}
+use Rattle.std.specs.Prelude.{Ok}
 use Rattle.hx_ids.specs.declared.ControllerId.{ControllerId}
 use Rattle.hx_cluster.specs.declared.description.Spec.{Spec}
 use Rattle.hx_cluster.specs.Valid.{IsValid}
@@ -9,10 +9,10 @@ use Rattle.hx_control.specs.Steps.{Step, Calls, Plans, Refuses, step_of, after_s
 use Rattle.hx_worlds.specs.World.{State, controller_of, with_controller}
 use Rattle.hx_worlds.specs.Runs.{gives}
 use Rattle.hx_safe.proofs.Ends.{same-self}
-use Rattle.hx_scripted.proofs.Keeping.{Keeps}
+use Rattle.hx_scripted.proofs.Keeping.{Keeps, happens_then}
 use Rattle.hx_scripted.proofs.Stepping.{IsNext, next_there, call_there, plan_there, fault_there}
 use Rattle.hx_scripted.proofs.Standing.{Last}
-use Rattle.hx_agreed.proofs.Going.{IsGoing, happens_then, own_of_board, board_happens}
+use Rattle.hx_agreed.proofs.Going.{IsGoing, own_of_board, board_happens}
 use Rattle.hx_scene.specs.Advances.{advanced, advance}
 
 module _ (spec : Spec) (valid : IsValid spec) (last : Last) where

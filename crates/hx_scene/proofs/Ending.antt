@@ -14,7 +14,8 @@ use Rattle.hx_cluster.specs.Ends.{part_eq}
 use Rattle.hx_handler.specs.Makings.{tried_of}
 use Rattle.hx_replicas.specs.declared.slots.Work.TheVariants.{Out}
 use Rattle.hx_replicas.specs.Participants.{Participant, Slot, slot_of, put_slot, brought, end_of, finish}
-use Rattle.hx_replicas.specs.Jobs.{ParticipantState, runs_of}
+use Rattle.hx_replicas.specs.Jobs.{ParticipantState, Done, runs_of}
+use Rattle.hx_scene.specs.declared.jobs.OpenJob.TheInside.{Inside}
 use Rattle.hx_scene.specs.Scenes.{OpenState, plain_job, new_staff}
 use Rattle.hx_scene.specs.Doing.{IsBelow, IsRunsBelow}
 use Rattle.hx_scene.specs.Kept.{IsListed}
@@ -45,8 +46,16 @@ pub record GoesBack (jobs : List OpenState) (staff : List ParticipantState) (pla
   pub made : q.made ≡ p.made
   pub listed : q.listed ≡ p.listed
 
+-- the job that its fields are
+abbrev pub open_of : {H : Type 0} → Inside H → OpenState
+open_of a = record { instance = a.instance; ran = a.ran; is_written = a.is_written }
+
 pub at_place : (jobs : List OpenState) (place : ℕ) (j : OpenState) → place < length jobs → j ≡ slice_index_or jobs place j → slice_get jobs place ≡ Some j
 at_place jobs place j below is = slice_get_read jobs (length jobs) place j refl below is
+
+pub can_then : (jobs : List OpenState) {staff : List ParticipantState} {place : ℕ} {j k : OpenState} → place < length jobs → j ≡ k → k ≡ slice_index_or jobs place k
+    → ((l : OpenState) → slice_get jobs place ≡ Some l → CanEnd staff l) → CanEnd staff j
+can_then jobs {staff} {place} {j} below same stood can = can j (at_place jobs place j below (subst (λ (k : OpenState). k ≡ slice_index_or jobs place k) (sym same) stood))
 
 pub staff_is : (staff : List ParticipantState) (n : ℕ) (p d : ParticipantState) → n < length staff → p ≡ slice_index_or staff n p → slice_index_or staff n d ≡ p
 staff_is staff n p d below is = get_or_from_slice_get staff n p d (slice_get_read staff (length staff) n p refl below is)
@@ -59,6 +68,19 @@ can_out staff j p is can =
 pub can_listed : (staff : List ParticipantState) (j : OpenState) (p : ParticipantState) → p ≡ slice_index_or staff j.instance.0 p → CanEnd staff j → ForSome j.ran.handler (λ h. h.listed ≡ p.listed)
 can_listed staff j p is can =
     subst (λ (r : ParticipantState). ForSome j.ran.handler (λ h. h.listed ≡ r.listed)) (staff_is staff j.instance.0 p new_staff can.instance is) can.listed
+
+pub goes_back : {jobs : List OpenState} {staff : List ParticipantState} {place : ℕ} {j k : OpenState} {p q : ParticipantState} {d : Done} → place < length jobs → j ≡ k → k ≡ slice_index_or jobs place k → CanEnd staff j
+    → p ≡ slice_index_or staff j.instance.0 p → q.plain ≡ finish p.plain d.message d.outcome (runs_of d.handler) → d ≡ record { message = j.ran.message; handler = j.ran.handler; outcome = Some j.ran.outcome }
+    → q.made ≡ p.made → q.listed ≡ p.listed → GoesBack jobs staff place j p q
+goes_back {jobs} {staff} {place} {j} {k} {p} {q} {d} below same stood can before plain done made listed = record {
+  within = below;
+  stood = subst (λ (k : OpenState). k ≡ slice_index_or jobs place k) (sym same) stood;
+  instance = can.instance;
+  before = before;
+  plain = plain ∙ ap (λ (d : Done). finish p.plain d.message d.outcome (runs_of d.handler)) done;
+  made = made;
+  listed = listed;
+}
 
 module _ {jobs : List OpenState} {staff : List ParticipantState} {place : ℕ} {j : OpenState} {p q : ParticipantState} (b : GoesBack jobs staff place j p q) where
   was : staff_in staff j.instance ≡ p

@@ -1,5 +1,5 @@
 -- Messages are fetched: an event happens, its session is adopted, and the messages go into the bag.
-use Rattle.std.proofs.Common.{◌≡◌, ℕ, ◌+◌, ◌⊎◌, ◌==◌, Bool, true, false, List, [], ◌∷◌, ◌++◌, find, length, None, Some, refl, sym, ap, subst, ◌∙◌, arith}
+use Rattle.std.proofs.Common.{◌≡◌, ℕ, ◌+◌, ◌⊎◌, ◌==◌, Bool, true, false, List, [], ◌∷◌, find, length, None, Some, refl, sym, ap, subst, ◌∙◌, arith}
 use Rattle.std.specs.Prelude.{nat_lt, Result, Ok, Err, IsErrAnd}
 use Rattle.std.specs.List.{All}
 use Rattle.std.proofs.lemmas.Bool.Decides.{nat_tests}
@@ -12,9 +12,8 @@ use Rattle.hx_cluster.specs.declared.happenings.Event.TheVariants as events
 use Rattle.hx_cluster.specs.Ends.{message_of}
 use Rattle.hx_cluster.specs.Reads.{fetched}
 use Rattle.hx_cluster.specs.Steps.{has_instance, session_of}
-use Rattle.hx_text.specs.Texts.{Prints}
 use Rattle.hx_text.proofs.Printing.{puts_none}
-use Rattle.hx_print.specs.Texts.{event_text, entry_text}
+use Rattle.hx_print.specs.Texts.{entry_text}
 use Rattle.hx_board.specs.declared.faults.RoomFault.{RoomFault}
 use Rattle.hx_board.specs.declared.faults.RoomFault.TheVariants as rooms
 use Rattle.hx_board.specs.Board.{Held, HasHistory, weight_at}
@@ -35,12 +34,12 @@ use Rattle.hx_agreed.proofs.DoingTurns.{Stands}
 use Rattle.hx_agreed.proofs.DoingLines.{kept_now}
 use Rattle.hx_agreed.proofs.Operations.{fetch_stands, fetch_keeps}
 use Rattle.hx_scene.specs.Scenes.{SceneState, OpenState, IsBagged, at, lists_of}
-use Rattle.hx_scene.specs.Advances.{no_roll}
-use Rattle.hx_scene.specs.Doing.{Keeps, Ends, Fails, DoesDeed}
+use Rattle.hx_scene.specs.Doing.{Keeps, Fails, DoesDeed}
 use Rattle.hx_scene.specs.Kept.{IsScene, IsListed}
 use Rattle.hx_scene.specs.Ending.{KeepsParts, Follows}
 use Rattle.hx_scene.proofs.Reaching.{reaches_as, cut_as, at_happened, happens_and, happens_and_cut, room_of}
 use Rattle.hx_scene.proofs.Standing.{valid_in, stands_in}
+use Rattle.hx_scene.proofs.Making.{Makes, IsCutHere}
 use Rattle.hx_scene.proofs.Happening.{refused_as, stopped_here, made_here, room_is, scene_happened}
 
 -- the event
@@ -54,11 +53,11 @@ fetch_refused i s b p fault (Err x) same refused failed =
     subst (λ y. Fails (λ z. do_fetch i z) s p y (record s { board = b }) p) (sym failed)
     (refused_as (λ z. do_fetch i z) s b p fault 1 (λ full a. ap (λ r. and_then r (λ y. done (fetched_as i (fetched s.board.cluster i) y))) (stopped_here (fetch_event s i) (at s a) full)) same refused)
 
-pub event_made : (s : SceneState) (i : InstanceId) (b : Held) (mail : Mail) → mail ≡ fetched s.board.cluster i → b ≡ on_board s.board (events.Fetch i mail.session (length mail.messages))
+event_made : (s : SceneState) (i : InstanceId) (b : Held) (mail : Mail) → mail ≡ fetched s.board.cluster i → b ≡ on_board s.board (events.Fetch i mail.session (length mail.messages))
     → b ≡ on_board s.board (fetch_event s i)
 event_made s i b mail is made = made ∙ ap (λ (m : Mail). on_board s.board (events.Fetch i m.session (length m.messages))) is
 
-pub follows_mail : (s : SceneState) (i : InstanceId) (mail : Mail) (later : List OpenState) (after : List ParticipantState) → mail ≡ fetched s.board.cluster i
+follows_mail : (s : SceneState) (i : InstanceId) (mail : Mail) (later : List OpenState) (after : List ParticipantState) → mail ≡ fetched s.board.cluster i
     → Follows i mail.session s.jobs later s.staff after → Follows i (fetched s.board.cluster i).session s.jobs later s.staff after
 follows_mail s i mail later after is follows = subst (λ (m : Mail). Follows i m.session s.jobs later s.staff after) is follows
 
@@ -76,26 +75,21 @@ module _ (s : SceneState) (i : InstanceId) (b : Held) (made : b ≡ on_board s.b
       scene_happened b (fetch_event s i) (since s.board.cluster.line) is history made
       (fetch_stands s.spec (valid_in s is) (since s.board.cluster.line) i (at s (Answered [])) (stands_in s is (Answered [])) there (room_is s.board.limit (weight_at s.board + 1) room))
 
-  pub event_scene : (bag : List Message) → bag ≡ s.bag → IsScene s → has_instance s.board.cluster i ≡ true → HasHistory b → IsScene (record s { board = b; bag = bag })
-  event_scene bag same is there history = subst (λ (ms : List Message). IsScene (record s { board = b; bag = ms })) (sym same) (scene_of_event is there history)
-
   event_keeps : Keeps s (record s { board = b }) []
   event_keeps = record { lists = refl; lines = ap (λ (c : Held). c.lines) made; told = λ c. (record { few = c.few; staff = c.staff; jobs = c.jobs }, tt) }
 
-  alone : {R : Type 0} (p : List ℕ) (result : Result R RoomFault) → IsErrAnd result (λ x. x ≡ rooms.OutOfMemory) → DoesDeed (λ x. do_fetch i x) s p (record s { board = b }) p result
-  alone p (Ok x) failed = absurd failed
-  alone p (Err x) failed =
-      subst (λ y. Fails (λ x. do_fetch i x) s p y (record s { board = b }) p) (sym failed)
-      (cut_as (λ a. refl)
-      (happens_and_cut (fetch_event s i) (λ y. done (fetched_as i (fetched s.board.cluster i) y)) [] s (record s { board = b }) p p room made refl event_keeps (puts_none (entry_text s.spec s.board.cluster (fetch_event s i)) p p refl)))
-
-  pub event_alone : {R : Type 0} (bag : List Message) → bag ≡ s.bag → (p : List ℕ) (result : Result R RoomFault) → IsErrAnd result (λ x. x ≡ rooms.OutOfMemory)
-      → DoesDeed (λ x. do_fetch i x) s p (record s { board = b; bag = bag }) p result
-  event_alone bag same p result failed = subst (λ (ms : List Message). DoesDeed (λ x. do_fetch i x) s p (record s { board = b; bag = ms }) p result) (sym same) (alone p result failed)
+  event_here : (bag : List Message) → bag ≡ s.bag → IsScene s → has_instance s.board.cluster i ≡ true → HasHistory b → IsCutHere (λ x. do_fetch i x) s (record s { board = b; bag = bag })
+  event_here bag same is there history =
+      subst (λ (ms : List Message). IsCutHere (λ x. do_fetch i x) s (record s { board = b; bag = ms })) (sym same) (record {
+        cut = λ p.
+            cut_as (λ a. refl)
+            (happens_and_cut (fetch_event s i) (λ y. done (fetched_as i (fetched s.board.cluster i) y)) [] s (record s { board = b }) p p room made refl event_keeps (puts_none (entry_text s.spec s.board.cluster (fetch_event s i)) p p refl));
+        scene = scene_of_event is there history;
+      })
 
   module _ (later : List OpenState) (after : List ParticipantState) (bag : List Message) (follows : Follows i (fetched s.board.cluster i).session s.jobs later s.staff after)
       (kept : KeepsParts s.jobs later s.staff after) (put : bag ≡ put_all s.bag (fetched s.board.cluster i).messages) where
-    abbrev pub fetched_scene : SceneState
+    abbrev fetched_scene : SceneState
     fetched_scene = record s { board = b; staff = after; jobs = later; bag = bag }
 
     at_fetched : (a : Answers) → fetched_as i (fetched s.board.cluster i) (at (record s { board = on_board s.board (fetch_event s i) }) a) ≡ at fetched_scene a
@@ -111,7 +105,7 @@ module _ (s : SceneState) (i : InstanceId) (b : Held) (made : b ≡ on_board s.b
       told = λ c. (record { few = c.few; staff = (kept.below s.handed (c.staff, c.jobs)).0; jobs = (kept.below s.handed (c.staff, c.jobs)).1 }, tt);
     }
 
-    pub is_fetched_scene : IsScene s → has_instance s.board.cluster i ≡ true → HasHistory b → IsScene fetched_scene
+    is_fetched_scene : IsScene s → has_instance s.board.cluster i ≡ true → HasHistory b → IsScene fetched_scene
     is_fetched_scene is there history =
         let left : Leaves (Stands s.spec (since s.board.cluster.line)) (do_fetch i (at s Missing)) = fetch_keeps s.spec (valid_in s is) (since s.board.cluster.line) i (at s Missing) (stands_in s is Missing) there in
         let made_left : Leaves (Stands s.spec (since s.board.cluster.line)) (and_then (make (fetch_event s i) (at s Missing)) (λ y. done (fetched_as i (fetched s.board.cluster i) y))) =
@@ -127,21 +121,26 @@ module _ (s : SceneState) (i : InstanceId) (b : Held) (made : b ≡ on_board s.b
           listed = subst (λ l. All (IsListed l) later) (sym kept.lists) (kept.listed (lists_of s) is.listed);
         }
 
-    pub fetch_printed : {T E : Type 0} (p q : List ℕ) (t : T) → ((h : List Event) (d : Event) → b.history ≡ h ++ d ∷ [] → Prints {E = E} (event_text s.spec no_roll d) p (Ok t) q)
-        → Ends (λ x. do_fetch i x) s p tt fetched_scene q
-    fetch_printed p q t printed =
-        reaches_as (λ a. refl)
-        (happens_and (fetch_event s i) (λ y. fetched_as i (fetched s.board.cluster i) y) tt [] s fetched_scene p q room (λ a given. at_fetched a) made refl fetched_keeps
-        (printed s.board.history (fetch_event s i) (ap (λ (c : Held). c.history) made)).ok)
+    fetch_makes_it : IsScene s → has_instance s.board.cluster i ≡ true → Makes (λ x. do_fetch i x) (fetch_event s i) s b fetched_scene
+    fetch_makes_it is there = record {
+      made = made;
+      line = refl;
+      ends = λ p q text. reaches_as (λ a. refl) (happens_and (fetch_event s i) (λ y. fetched_as i (fetched s.board.cluster i) y) tt [] s fetched_scene p q room (λ a given. at_fetched a) made refl fetched_keeps text);
+      cut = λ p q front. cut_as (λ a. refl) (happens_and_cut (fetch_event s i) (λ y. done (fetched_as i (fetched s.board.cluster i) y)) [] s fetched_scene p q room made refl fetched_keeps front);
+      scene = is_fetched_scene is there;
+    }
 
-    pub fetch_front : {R T E : Type 0} (p q : List ℕ) (fault : E) (result : Result R RoomFault) → ((h : List Event) (d : Event) → b.history ≡ h ++ d ∷ [] → Prints {T = T} (event_text s.spec no_roll d) p (Err fault) q)
-        → IsErrAnd result (λ x. x ≡ rooms.OutOfMemory) → DoesDeed (λ x. do_fetch i x) s p fetched_scene q result
-    fetch_front p q fault (Ok x) printed failed = absurd failed
-    fetch_front p q fault (Err x) printed failed =
-        subst (λ y. Fails (λ x. do_fetch i x) s p y fetched_scene q) (sym failed)
-        (cut_as (λ a. refl)
-        (happens_and_cut (fetch_event s i) (λ y. done (fetched_as i (fetched s.board.cluster i) y)) [] s fetched_scene p q room made refl fetched_keeps
-        (printed s.board.history (fetch_event s i) (ap (λ (c : Held). c.history) made)).err))
+-- by what the calls told
+pub fetch_here : {s : SceneState} (i : InstanceId) {b : Held} {mail : Mail} {bag : List Message} → IsScene s → has_instance s.board.cluster i ≡ true → HasHistory b → mail ≡ fetched s.board.cluster i
+    → b ≡ on_board s.board (events.Fetch i mail.session (length mail.messages)) → fetch_refusal s.board ≡ None → bag ≡ s.bag → IsCutHere (λ x. do_fetch i x) s (record s { board = b; bag = bag })
+fetch_here {s} i {b} {mail} {bag} is there history all made free same = event_here s i b (event_made s i b mail all made) free bag same is there history
+
+pub fetch_makes : {s : SceneState} {i : InstanceId} {b : Held} {mail : Mail} {later : List OpenState} {after : List ParticipantState} {bag room ms : List Message} → IsScene s → has_instance s.board.cluster i ≡ true
+    → mail ≡ fetched s.board.cluster i → b ≡ on_board s.board (events.Fetch i mail.session (length mail.messages)) → fetch_refusal s.board ≡ None → Follows i mail.session s.jobs later s.staff after
+    → KeepsParts s.jobs later s.staff after → bag ≡ put_all room ms → room ≡ s.bag → ms ≡ mail.messages
+    → Makes (λ x. do_fetch i x) (fetch_event s i) s b (record s { board = b; staff = after; jobs = later; bag = bag })
+fetch_makes {s} {i} {b} {mail} {later} {after} {bag} {room} {ms} is there all made free follows kept put same put_them =
+    fetch_makes_it s i b (event_made s i b mail all made) free later after bag (follows_mail s i mail later after all follows) kept (puts_mail s i mail bag room ms all put same put_them) is there
 
 -- each message that was put is found by its number
 abbrev IsOne : List Message → Message → Type 0

@@ -45,12 +45,6 @@ held_handed w m f =
     let lent : held_in (emptied_for x m) ≤ 1 = held_one (is_some x.handler) in
     omega (arith, slots, put, lent)
 
-still_made : (a r b : ParticipantState) → IsBalanced r.made r.retired r.plain → IsBalanced b.made b.retired b.plain → KeepsRest r b → b.plain ≡ r.plain → b.made ≡ r.made
-still_made a r b was now rest same =
-    let held = ap (λ w. held_by w) same in
-    let retired = rest.retired in
-    omega (arith, was, now, held, retired)
-
 -- after room for no more was asked for
 pub handing : (a r b : ParticipantState) (job : Job) → r ≡ record a { spare = r.spare } → IsBalanced r.made r.retired r.plain → IsBalanced b.made b.retired b.plain → KeepsRest r b
     → b.plain ≡ hand_out r.plain job.message (is_none job.handler) → IsHanded r b job → HandsOut a b job

@@ -1,6 +1,6 @@
 -- An event happens on the board of a scene and is printed, or it is refused, or memory is wanted; and the scene stays one.
 use Rattle.std.proofs.Common.{◌≡◌, ℕ, ◌+◌, ◌-◌, ◌≤◌, ◌⊎◌, inl, inr, Bool, true, false, List, [], ◌∷◌, ◌++◌, length, get_or, length-append, Option, None, Some, refl, sym, ap, subst, ◌∙◌, arith}
-use Rattle.std.specs.Prelude.{if◌then◌else◌, nat_lt, slice_get, Result, Ok, Err, IsErrAnd}
+use Rattle.std.specs.Prelude.{if◌then◌else◌, nat_lt, slice_get, Result, Ok, Err, IsErrAnd, IfErr}
 use Rattle.std.specs.Option.{option_or, option_map}
 use Rattle.std.proofs.lemmas.Bool.Decides.{nat_tests}
 use Rattle.std.proofs.lemmas.Option.{get_or_from_slice_get}
@@ -20,7 +20,6 @@ use Rattle.hx_print.specs.declared.Note.TheVariants as notes
 use Rattle.hx_print.specs.Texts.{event_text, entry_text, roll_of}
 use Rattle.hx_board.specs.declared.faults.RoomFault.{RoomFault}
 use Rattle.hx_board.specs.declared.faults.RoomFault.TheVariants as rooms
-use Rattle.hx_board.specs.declared.faults.BoardFault.{BoardFault}
 use Rattle.hx_board.specs.declared.faults.BoardFault.TheVariants as boards
 use Rattle.hx_board.specs.Board.{Held, HasHistory, weight_at, next_line_of, line_taken}
 use Rattle.hx_board.specs.Board.{happened as on_board}
@@ -29,7 +28,6 @@ use Rattle.hx_worlds.specs.World.{State, Answers, Answered}
 use Rattle.hx_worlds.specs.declared.Voice.{Voice}
 use Rattle.hx_worlds.specs.Runs.{Run, Deed, Stops, state_of, happened, make, happen, note}
 use Rattle.hx_worlds.specs.Scripts.{stepped, do_step}
-use Rattle.hx_scripted.proofs.Keeping.{Keeps as Leaves}
 use Rattle.hx_scripted.proofs.Standing.{Last, since}
 use Rattle.hx_agreed.proofs.DoingTurns.{Stands}
 use Rattle.hx_agreed.proofs.Operations.{stands_there, line_stands, step_keeps}
@@ -37,7 +35,7 @@ use Rattle.hx_scene.specs.Scenes.{SceneState, at}
 use Rattle.hx_scene.specs.Kept.{IsScene}
 use Rattle.hx_scene.specs.Advances.{no_roll}
 use Rattle.hx_scene.specs.Doing.{Ends, Fails, DoesDeed}
-use Rattle.hx_scene.proofs.Reaching.{here, reaches_as, cut_here, cut_as, fails_as, does_as, makes, makes_cut, at_happened, room_of, no_room_of}
+use Rattle.hx_scene.proofs.Reaching.{here, reaches_as, cut_here, cut_as, does_as, makes, makes_cut, at_happened, room_of, no_room_of}
 
 -- the last of a history
 last_place : (h : List Event) (e : Event) → length (h ++ e ∷ []) - 1 ≡ length h
@@ -54,6 +52,18 @@ pub prints_last : {T E : Type 0} {p q : List ℕ} {result : Result T E} (roll : 
     → Some x ≡ slice_get es (length es - 1) → z ≡ spec → Prints (event_text z roll x) p result q → Prints (event_text spec roll e) p result q
 prints_last {T} {E} {p} {q} {result} roll z x es h e spec is found same printed =
     subst (λ y. Prints (event_text spec roll y) p result q) (last_is es h e x is found) (subst (λ y. Prints (event_text y roll x) p result q) same printed)
+
+-- what was printed, by an answer of another type: memory alone can be wanting
+pub prints_failed : {R T E : Type 0} {text p q : List ℕ} {fault : E} (result : Result R RoomFault) → Prints {T = T} text p (Err fault) q → IsErrAnd result (λ x. x ≡ rooms.OutOfMemory) → Prints text p result q
+prints_failed (Ok x) printed failed = absurd failed
+prints_failed (Err x) printed failed = record { ok = tt; err = printed.err }
+
+pub prints_done : {R T E F : Type 0} {text p q : List ℕ} {x : R} {y : T} → Prints {E = E} text p (Ok x) q → Prints {E = F} text p (Ok y) q
+prints_done printed = record { ok = printed.ok; err = tt }
+
+pub wants_it : {R : Type 0} (result : Result R RoomFault) → IsErrAnd result (λ x. x ≡ rooms.OutOfMemory) → IfErr result (λ x. x ≡ rooms.OutOfMemory)
+wants_it (Ok x) failed = tt
+wants_it (Err x) failed = failed
 
 -- a scene stands, and is one after an event after which it stands
 pub scene_stands : {s : SceneState} (a : Answers) → IsScene s → Stands s.spec (since s.board.cluster.line) (at s a)
@@ -130,16 +140,22 @@ line_is b c n next taken = taken ∙ ap (line_taken b) next
 line_made : (s : SceneState) (n : ℕ) (a : Answers) → next_line_of s.board ≡ Some n → line_refusal s.board ≡ None → happen (events.Line n) (at s a) ≡ make (events.Line n) (at s a)
 line_made s n a next free = made_here (events.Line n) (at s a) (room_of s.board 1 rooms.HistoryFull (sym (line_room s.board n next) ∙ free))
 
-pub line_printed : {T E : Type 0} (n : ℕ) (s : SceneState) (b : Held) (p q : List ℕ) (t : T) → next_line_of s.board ≡ Some n → line_refusal s.board ≡ None → b ≡ line_taken s.board (next_line_of s.board)
+line_printed : {T E : Type 0} (n : ℕ) (s : SceneState) (b : Held) (p q : List ℕ) (t : T) → next_line_of s.board ≡ Some n → line_refusal s.board ≡ None → b ≡ line_taken s.board (next_line_of s.board)
     → ((h : List Event) (d : Event) → b.history ≡ h ++ d ∷ [] → Prints {E = E} (event_text s.spec no_roll d) p (Ok t) q) → Ends (λ x. happen (events.Line n) x) s p tt (record s { board = b }) q
 line_printed n s b p q t next free taken printed =
     printed_event (λ x. happen (events.Line n) x) (events.Line n) s b no_roll p q t (λ a. line_made s n a next free) (line_is s.board b n next taken) refl printed
 
-pub line_front : {R T E : Type 0} (n : ℕ) (s : SceneState) (b : Held) (p q : List ℕ) (fault : E) (result : Result R RoomFault) → next_line_of s.board ≡ Some n → line_refusal s.board ≡ None
+line_front : {R T E : Type 0} (n : ℕ) (s : SceneState) (b : Held) (p q : List ℕ) (fault : E) (result : Result R RoomFault) → next_line_of s.board ≡ Some n → line_refusal s.board ≡ None
     → b ≡ line_taken s.board (next_line_of s.board) → ((h : List Event) (d : Event) → b.history ≡ h ++ d ∷ [] → Prints {T = T} (event_text s.spec no_roll d) p (Err fault) q)
     → IsErrAnd result (λ x. x ≡ rooms.OutOfMemory) → DoesDeed (λ x. happen (events.Line n) x) s p (record s { board = b }) q result
 line_front n s b p q fault result next free taken printed failed =
     printed_front (λ x. happen (events.Line n) x) (events.Line n) s b no_roll p q fault result (λ a. line_made s n a next free) (line_is s.board b n next taken) refl printed failed
+
+pub line_done : {R : Type 0} (n : ℕ) (s : SceneState) (b : Held) (p q : List ℕ) (result : Result R RoomFault) → next_line_of s.board ≡ Some n → line_refusal s.board ≡ None
+    → b ≡ line_taken s.board (next_line_of s.board) → ((h : List Event) (d : Event) → b.history ≡ h ++ d ∷ [] → Prints (event_text s.spec no_roll d) p result q) → IfErr result (λ x. x ≡ rooms.OutOfMemory)
+    → DoesDeed (λ x. happen (events.Line n) x) s p (record s { board = b }) q result
+line_done n s b p q (Ok t) next free taken printed memory = line_printed n s b p q t next free taken printed
+line_done {R} n s b p q (Err fault) next free taken printed memory = line_front {R = R} n s b p q fault (Err fault) next free taken printed memory
 
 pub line_refused : {R : Type 0} (n : ℕ) (s : SceneState) (b : Held) (p : List ℕ) (fault : RoomFault) (result : Result R RoomFault) → next_line_of s.board ≡ Some n → b ≡ s.board
     → (fault ≡ rooms.OutOfMemory) ⊎ (line_refusal s.board ≡ Some fault) → IsErrAnd result (λ x. x ≡ fault) → DoesDeed (λ x. happen (events.Line n) x) s p (record s { board = b }) p result

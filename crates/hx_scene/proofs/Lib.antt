@@ -7,6 +7,7 @@ pub mod Happening
 pub mod Turning
 pub mod Dying
 pub mod Standing
+pub mod Making
 pub mod OfParts
 pub mod Ending
 pub mod Bags

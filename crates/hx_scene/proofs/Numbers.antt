@@ -32,7 +32,3 @@ more_without i j js e = rw e refl
 pub next_with : (i : InstanceId) (jobs : List OpenState) (n m : ℕ) (j : OpenState) → suc m ≡ n → m < length jobs → j ≡ get_or jobs m j → is_job_of i (plain_job j) ≡ true
     → numbers_in i (drop m jobs) ≡ insert_by before j.ran.message.id (numbers_in i (drop n jobs))
 next_with i jobs n m j next lt is e = rw (← next, drop-cons jobs m j, ← is) (more_with i j (drop (suc m) jobs) e)
-
-pub next_without : (i : InstanceId) (jobs : List OpenState) (n m : ℕ) (j : OpenState) → suc m ≡ n → m < length jobs → j ≡ get_or jobs m j → is_job_of i (plain_job j) ≡ false
-    → numbers_in i (drop m jobs) ≡ numbers_in i (drop n jobs)
-next_without i jobs n m j next lt is e = rw (← next, drop-cons jobs m j, ← is) (more_without i j (drop (suc m) jobs) e)

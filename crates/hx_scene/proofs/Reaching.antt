@@ -83,6 +83,10 @@ counted_same s b c = record { few = c.few; staff = c.staff; jobs = c.jobs }
 pub keeps_nothing : (s : SceneState) → Keeps s s []
 keeps_nothing s = record { lists = refl; lines = refl; told = λ c. (c, tt) }
 
+-- where no handler was asked
+pub keeps_unasked : {s u : SceneState} → lists_of u ≡ lists_of s → u.board.lines ≡ s.board.lines → (IsCounted s → IsCounted u) → Keeps s u []
+keeps_unasked lists lines counted = record { lists = lists; lines = lines; told = λ c. (counted c, tt) }
+
 pub keeps_board : (s u : SceneState) (b : Held) → u ≡ record s { board = b } → b.lines ≡ s.board.lines → Keeps s u []
 keeps_board s u b e lines =
     subst (λ v. Keeps s v []) (sym e) (record { lists = refl; lines = lines; told = λ c. (counted_same s b c, tt) })
@@ -133,10 +137,6 @@ inside {A} {B} {f} {g} {s} {u} e k = record {
   text = e.text;
   keeps = e.keeps;
 }
-
-pub inside_deed : {B : Type 0} {f g : State → Deed} {s u : SceneState} {p q : List ℕ} → Reaches f s p g u q → (k : State → Run B)
-    → Reaches (λ x. and_then (f x) k) s p (λ x. and_then (g x) k) u q
-inside_deed e k = inside e (λ _ x. k x)
 
 -- at its end, what follows
 pub then_on : {A B : Type 0} {f : State → Run A} {s u : SceneState} {p q : List ℕ} {answer : A} → Ends f s p answer u q → (k : A → State → Run B)
@@ -229,25 +229,13 @@ pub does_then_deed : {B R : Type 0} {f : State → Deed} {s u : SceneState} {p q
     → (answer : R → B) (v : SceneState) (r : List ℕ) (result : Result R RoomFault) → Does k answer u q v r result → Does (λ x. and_then (f x) k) answer s p v r result
 does_then_deed a k answer v r result b = does_after (then_do a k) answer v r result b
 
-pub does_fails : {A R : Type 0} (f : State → Run A) (s : SceneState) (p : List ℕ) (answer : R → A) (fault : RoomFault) (u : SceneState) (q : List ℕ) → Fails f s p fault u q
-    → Does f answer s p u q (Err fault)
-does_fails f s p answer fault u q e = e
-
 -- by a result that is this fault
 pub does_err : {A R : Type 0} (f : State → Run A) (answer : R → A) (s : SceneState) (p : List ℕ) (u : SceneState) (q : List ℕ) (result : Result R RoomFault) (fault : RoomFault)
     → IsErrAnd result (λ e. e ≡ fault) → Fails f s p fault u q → Does f answer s p u q result
 does_err f answer s p u q (Ok x) fault is e = absurd is
 does_err f answer s p u q (Err other) fault is e = subst (λ x. Fails f s p x u q) (sym is) e
 
-pub does_fails_inside : {A B R : Type 0} (f : State → Run A) (s : SceneState) (p : List ℕ) (k : A → State → Run B) (answer : R → B) (fault : RoomFault) (u : SceneState) (q : List ℕ)
-    → Fails f s p fault u q → Does (λ x. go_on (f x) k) answer s p u q (Err fault)
-does_fails_inside f s p k answer fault u q e = fails_inside f s p fault u q e k
-
 -- the whole of two operations, where both results are known: of the second only where the first was done
-pub ends_on : {A B : Type 0} {f : State → Run A} {s u v : SceneState} {p q r : List ℕ} {given : A} {answer : B} → Ends f s p given u q → (k : A → State → Run B)
-    → Ends (k given) u q answer v r → Ends (λ x. go_on (f x) k) s p answer v r
-ends_on a k b = there (then_on a k) b
-
 pub ends_then : {B : Type 0} {f : State → Deed} {s u v : SceneState} {p q r : List ℕ} {answer : B} → Ends f s p tt u q → (k : State → Run B)
     → Ends k u q answer v r → Ends (λ x. and_then (f x) k) s p answer v r
 ends_then a k b = there (then_do a k) b
@@ -437,10 +425,6 @@ pub happens : (e : Event) (s u : SceneState) (p q : List ℕ) → nat_lt s.board
     → q ≡ p ++ entry_text s.spec s.board.cluster e → Ends (happen e) s p tt u q
 happens e s u p q room is text = reaches_as (λ a. happen_made e s a room) (makes e s u p q is text)
 
-pub happens_cut : (e : Event) (s u : SceneState) (p q : List ℕ) → nat_lt s.board.limit (weight_at s.board + weight_of e) ≡ false → u ≡ record s { board = on_board s.board e }
-    → PutsFront (entry_text s.spec s.board.cluster e) p q → IsCut (happen e) s p u q
-happens_cut e s u p q room is front = cut_as (λ a. happen_made e s a room) (makes_cut e s u p q is front)
-
 -- it has none
 stops_at : {A : Type 0} (f : State → Run A) (s : SceneState) (p : List ℕ) → ((a : Answers) → f (at s a) ≡ Stops [] (at s a)) → StopsHere f s p s p
 stops_at f s p same = reaches_as same (here (λ x. Stops [] x) s p)
@@ -469,15 +453,6 @@ refused_at f n s u p fault stops same why =
           subst (λ x. Fails f s p x s p) (sym full.1) (stops_at f s p (stops full.0), refl)
     ])
 
-pub happens_refused : (e : Event) (s u : SceneState) (p : List ℕ) (fault : RoomFault) → u ≡ s → (fault ≡ rooms.OutOfMemory) ⊎ (full s.board (weight_of e) rooms.HistoryFull ≡ Some fault)
-    → Fails (happen e) s p fault u p
-happens_refused e s u p fault same why = refused_at (happen e) (weight_of e) s u p fault (happen_stops e s) same why
-
-pub happens_and_refused : {B : Type 0} (e : Event) (g : State → Run B) (s u : SceneState) (p : List ℕ) (fault : RoomFault) → u ≡ s
-    → (fault ≡ rooms.OutOfMemory) ⊎ (full s.board (weight_of e) rooms.HistoryFull ≡ Some fault) → Fails (λ x. and_then (happen e x) g) s p fault u p
-happens_and_refused e g s u p fault same why =
-    refused_at (λ x. and_then (happen e x) g) (weight_of e) s u p fault (λ full a. ap (λ r. and_then r g) (happen_stops e s full a)) same why
-
 -- an event, and a pure change after it
 keeps_from : (s u : SceneState) (b : Held) (asked : List Asked) → b.lines ≡ s.board.lines → Keeps s u asked → Keeps (record s { board = b }) u asked
 keeps_from s u b asked lines k = record {
@@ -504,10 +479,11 @@ pub happens_and : {A : Type 0} (e : Event) (change : State → State) (answer : 
 happens_and e change answer asked s u p q room same board spec keeps text =
     reaches_as (λ a. ap (λ r. and_then r (λ y. gives (change y) answer)) (happen_made e s a room)) (makes_and e change answer asked s u p q same board spec keeps text)
 
--- the history has no room for it
-pub happens_and_full : {B : Type 0} (e : Event) (g : State → Run B) (s u : SceneState) (p q : List ℕ) (weight : ℕ) → nat_lt s.board.limit (weight_at s.board + weight_of e) ≡ true
-    → weight ≡ weight_at s.board → u ≡ s → q ≡ p → Fails (λ x. and_then (happen e x) g) s p (rooms.HistoryFull weight) u q
-happens_and_full e g s u p q weight full same su pq = fails_inside_deed (happen e) s p (rooms.HistoryFull weight) u q (happens_full e s u p q weight full same su pq) g
+-- an event, and what is done besides without an item
+brings_first : (e : Event) (s u : SceneState) (a : Answers) → u.board ≡ on_board s.board e → u.spec ≡ s.spec → Brings (past_of (at s a)) (Happens e ∷ []) (past_of (at u a))
+brings_first e s u a board spec =
+    let w : SceneState = record s { board = on_board s.board e } in
+    brings_both (past_of (at s a)) (past_of (at w a)) (past_of (at u a)) (Happens e ∷ []) [] (brings_happened e s w a refl) (brings_same w u a board spec)
 
 -- an operation whose first item is an event, which was made, and maybe more of it done, but printed by a front
 pub event_cut : {A : Type 0} (f : State → Run A) (e : Event) (asked : List Asked) (s u : SceneState) (p q : List ℕ)
@@ -517,9 +493,7 @@ event_cut f e asked s u p q is board spec keeps front = record {
   asked = asked;
   items = Happens e ∷ [];
   front = is;
-  brings = λ a.
-      let w : SceneState = record s { board = on_board s.board e } in
-      brings_both (past_of (at s a)) (past_of (at w a)) (past_of (at u a)) (Happens e ∷ []) [] (brings_happened e s w a refl) (brings_same w u a board spec);
+  brings = λ a. brings_first e s u a board spec;
   text = prints_event s.spec s.board.cluster e p q front;
   keeps = keeps;
 }
@@ -532,9 +506,7 @@ event_ends f e answer asked s u p q is board spec keeps text = record {
   asked = asked;
   items = Happens e ∷ [];
   goes = is;
-  brings = λ a.
-      let w : SceneState = record s { board = on_board s.board e } in
-      brings_both (past_of (at s a)) (past_of (at w a)) (past_of (at u a)) (Happens e ∷ []) [] (brings_happened e s w a refl) (brings_same w u a board spec);
+  brings = λ a. brings_first e s u a board spec;
   text = text ∙ ap (λ t. p ++ t) (sym (append-nil (entry_text s.spec s.board.cluster e)));
   keeps = keeps;
 }
@@ -684,13 +656,6 @@ kept_stopped {A} {f} {s} {u} e I keep rest =
     subst (λ o. I (at u o)) (answered_left e.asked rest)
     (left_stopped I e.items (at u (left e.asked a)) (f (at s a)) (e.goes a (answered_gives e.asked rest)) (keep a))
 
--- also by its result, but for want of memory
-pub does_keep : {A R : Type 0} (f : State → Run A) (answer : R → A) (s : SceneState) (p : List ℕ) (u : SceneState) (q : List ℕ) (result : Result R RoomFault) → Does f answer s p u q result
-    → (I : State → Type 0) → ((a : Answers) → Leaves I (f (at s a))) → (rest : List Outcome) → (result ≡ Err rooms.OutOfMemory → I (at u (Answered rest))) → I (at u (Answered rest))
-does_keep f answer s p u q (Ok x) e I keep rest memory = kept e I keep rest
-does_keep f answer s p u q (Err (rooms.HistoryFull weight)) e I keep rest memory = kept_stopped e.0 I keep rest
-does_keep f answer s p u q (Err rooms.OutOfMemory) e I keep rest memory = memory refl
-
 -- so a world stays of its history, and in step
 pub going_at : {spec : Spec} (s : SceneState) → IsOfItsHistory spec (world_of s) → IsInStep (world_of s) → (a : Answers) → IsGoing spec (since s.board.cluster.line) (at s a)
 going_at {spec = spec} s of in_step a = record { scripted = scripted_since spec (world_of s) of; in_step = in_step }
@@ -707,27 +672,9 @@ kept_going_stopped {A} {f} {s} {u} {p} {q} {spec} e of in_step keep =
     let going : IsGoing spec (since s.board.cluster.line) (at u (Answered [])) = kept_stopped e (IsGoing spec (since s.board.cluster.line)) (λ a. keep a (going_at s of in_step a)) [] in
     (going.scripted.of, going.in_step)
 
-pub does_keep_going : {A R : Type 0} {spec : Spec} (f : State → Run A) (answer : R → A) (s : SceneState) (p : List ℕ) (u : SceneState) (q : List ℕ) (result : Result R RoomFault)
-    → Does f answer s p u q result → IsOfItsHistory spec (world_of s) → IsInStep (world_of s)
-    → ((a : Answers) → IsGoing spec (since s.board.cluster.line) (at s a) → Leaves (IsGoing spec (since s.board.cluster.line)) (f (at s a)))
-    → (result ≡ Err rooms.OutOfMemory → IsOfItsHistory spec (world_of u) × IsInStep (world_of u)) → IsOfItsHistory spec (world_of u) × IsInStep (world_of u)
-does_keep_going f answer s p u q (Ok x) e of in_step keep memory = kept_going e of in_step keep
-does_keep_going f answer s p u q (Err (rooms.HistoryFull weight)) e of in_step keep memory = kept_going_stopped e.0 of in_step keep
-does_keep_going f answer s p u q (Err rooms.OutOfMemory) e of in_step keep memory = memory refl
-
 -- what stays, whatever an operation comes to
-pub does_keeps : {A R : Type 0} (f : State → Run A) (answer : R → A) (s : SceneState) (p : List ℕ) (u : SceneState) (q : List ℕ) (result : Result R RoomFault) → Does f answer s p u q result
-    → (asked : List Asked) × Keeps s u asked
-does_keeps f answer s p u q (Ok x) e = (e.asked, e.keeps)
-does_keeps f answer s p u q (Err (rooms.HistoryFull weight)) e = (e.0.asked, e.0.keeps)
-does_keeps f answer s p u q (Err rooms.OutOfMemory) e = (e.asked, e.keeps)
-
 pub does_bring : {A R : Type 0} (f : State → Run A) (answer : R → A) (s : SceneState) (p : List ℕ) (u : SceneState) (q : List ℕ) (result : Result R RoomFault) → Does f answer s p u q result
     → (items : List Item) × Brings (past_of (at s Missing)) items (past_of (at u Missing))
 does_bring f answer s p u q (Ok x) e = (e.items, e.brings Missing)
 does_bring f answer s p u q (Err (rooms.HistoryFull weight)) e = (e.0.items, e.0.brings Missing)
 does_bring f answer s p u q (Err rooms.OutOfMemory) e = (e.items, e.brings Missing)
-
-pub does_spec : {A R : Type 0} (f : State → Run A) (answer : R → A) (s : SceneState) (p : List ℕ) (u : SceneState) (q : List ℕ) (result : Result R RoomFault) → Does f answer s p u q result
-    → u.spec ≡ s.spec
-does_spec f answer s p u q result e = (does_bring f answer s p u q result e).1.spec

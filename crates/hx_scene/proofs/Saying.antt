@@ -1,12 +1,11 @@
 -- A line is said: the board is charged for it, and then it is printed.
-use Rattle.std.proofs.Common.{◌≡◌, ℕ, List, refl, sym, ap, subst, ◌∙◌}
+use Rattle.std.proofs.Common.{◌≡◌, ℕ, List, sym, ap, subst, ◌∙◌}
 use Rattle.std.specs.Prelude.{Result, Ok, Err, IsErrAnd}
 use Rattle.hx_ids.specs.declared.ResourceId.{ResourceId}
 use Rattle.hx_cluster.specs.declared.description.Spec.{Spec}
 use Rattle.hx_cluster.specs.declared.description.Resource.{Resource}
 use Rattle.hx_text.specs.Texts.{Prints}
 use Rattle.hx_print.specs.Texts.{resource_name}
-use Rattle.hx_board.specs.Board.{charged}
 use Rattle.hx_board.specs.declared.faults.RoomFault.{RoomFault}
 use Rattle.hx_board.specs.declared.faults.RoomFault.TheVariants as rooms
 use Rattle.hx_worlds.specs.World.{Answers, State}

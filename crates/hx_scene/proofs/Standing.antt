@@ -1,6 +1,6 @@
 -- What a scene has between operations.
 use Rattle.std.proofs.Common.{◌≡◌, ℕ, ◌<◌, true, false, List, [], length, map, refl, sym, ap, subst, ◌∙◌, arith}
-use Rattle.std.specs.Prelude.{slice_get, slice_index_or}
+use Rattle.std.specs.Prelude.{slice_index_or}
 use Rattle.std.specs.List.{All, list_any}
 use Rattle.std.proofs.lemmas.List.{length-map, get_or-map}
 use Rattle.std.proofs.lemmas.Option.{slice_get_read, get_or_from_slice_get}
@@ -11,7 +11,8 @@ use Rattle.hx_cluster.specs.Steps.{has_instance, has_controller}
 use Rattle.hx_cluster.specs.Valid.{IsValid}
 use Rattle.hx_replicas.specs.Participants.{Participant, new_participant, any_out}
 use Rattle.hx_replicas.specs.Jobs.{ParticipantState}
-use Rattle.hx_worlds.specs.World.{Answers, Missing, Job, participant_of}
+use Rattle.hx_control.specs.Controllers.{Controller}
+use Rattle.hx_worlds.specs.World.{Answers, Missing, controller_of}
 use Rattle.hx_worlds.specs.Jobs.{is_job_of}
 use Rattle.hx_safe.proofs.Whole.{length-replicate}
 use Rattle.hx_scripted.proofs.Standing.{since, fixed_there}
@@ -49,6 +50,9 @@ pub participant_is : (staff : List ParticipantState) (i : InstanceId) (p : Parti
     → slice_index_or (plain_staff staff) i.0 new_participant ≡ p.plain
 participant_is staff i p lt is =
     get_or-map (λ (p : ParticipantState). p.plain) staff i.0 p new_participant lt ∙ ap (λ (p : ParticipantState). p.plain) (sym is)
+
+pub controller_is : {s : SceneState} (k : ControllerId) (t : Controller) → IsScene s → has_controller s.board.cluster k ≡ true → t ≡ slice_index_or s.controllers k.0 t → t ≡ controller_of (world_of s) k
+controller_is {s} k t is there at_k = reads s.controllers k.0 t _ (has_turn s is k there) at_k
 
 -- where no job is open all participants are at rest
 pub all_at_rest : (s : SceneState) → IsScene s → s.jobs ≡ [] → All IsAtRest s.staff

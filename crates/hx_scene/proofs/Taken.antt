@@ -1,7 +1,7 @@
 -- What a taking of a message comes to in a scene, and that it keeps it.
 use Rattle.std.proofs.Common.{◌≡◌, ℕ, ◌+◌, ◌≤◌, ◌<◌, ◌^◌, not, Bool, true, false, List, [], ◌∷◌, ◌++◌, map, length, Option, None, Some, refl, sym, ap, subst, ◌∙◌, arith}
 use Rattle.std.proofs.lemmas.List.{length-map}
-use Rattle.std.specs.Prelude.{if◌then◌else◌, ◌==◌, is_none, is_some, slice_set, slice_index_or, Result, Ok, Err, IsErrAnd, IfSome, OnOk, OnErr}
+use Rattle.std.specs.Prelude.{if◌then◌else◌, ◌==◌, is_none, is_some, slice_set, slice_index_or, IfSome}
 use Rattle.std.specs.List.{All}
 use Rattle.std.specs.Option.{option_map, ForSome}
 use Rattle.std.proofs.lemmas.List.{get_or_read, length-set, get_or-set_same}
@@ -25,10 +25,8 @@ use Rattle.hx_handler.specs.Makings.{tried_of}
 use Rattle.hx_handler.specs.Told.{IsTold}
 use Rattle.hx_print.specs.Texts.{entry_text}
 use Rattle.hx_print.specs.declared.Note.TheVariants as notes
-use Rattle.hx_text.specs.Texts.{PutsFront, Prints}
+use Rattle.hx_text.specs.Texts.{PutsFront}
 use Rattle.hx_board.specs.Board.{Held as Board, HasHistory, happened as on_board}
-use Rattle.hx_board.specs.declared.faults.RoomFault.{RoomFault}
-use Rattle.hx_board.specs.declared.faults.RoomFault.TheVariants as rooms
 use Rattle.hx_replicas.specs.Participants.{Participant, Slot, slot_of, accepted_by, makes, finish, brought, end_of, leaves_error}
 use Rattle.hx_replicas.specs.declared.slots.Work.TheVariants.{Out}
 use Rattle.hx_replicas.specs.Jobs.{ParticipantState, Held, Job, Ran, Done, RunsWith, runs_of, is_failed}
@@ -40,24 +38,18 @@ use Rattle.hx_agreed.proofs.Operations.{take_keeps}
 use Rattle.hx_worlds.specs.World.{Answers, State, told_outcome, participant_of, with_participant}
 use Rattle.hx_worlds.specs.declared.Voice.{Voice}
 use Rattle.hx_worlds.specs.declared.Voice.TheVariants.{Quiet}
-use Rattle.hx_worlds.specs.Runs.{Run, Deed, GoesOn, done, and_then, make, note, happened, items_of}
+use Rattle.hx_worlds.specs.Runs.{Deed, GoesOn, done, and_then, make, note, happened, items_of}
 use Rattle.hx_worlds.specs.Items.{Happens}
 use Rattle.hx_worlds.specs.Jobs.{do_take, take_accepted, put_back, ran}
 use Rattle.hx_scene.specs.Scenes.{SceneState, OpenState, plain_job, world_of, at, staff_of, new_staff, lists_of}
-use Rattle.hx_scene.specs.Doing.{Asked, Gives, left, IsToldBy, AreTold, IsRunsBelow, IsBelow, IsCounted, Keeps, Reaches, Ends, IsCut, Does}
+use Rattle.hx_scene.specs.Doing.{Asked, Gives, left, IsToldBy, AreTold, IsRunsBelow, IsBelow, IsCounted, Keeps, Reaches, Ends, IsCut}
 use Rattle.hx_scene.specs.Kept.{IsScene, IsListed}
 use Rattle.hx_scene.specs.Taking.{HandsOut, IsStill}
-use Rattle.hx_scene.proofs.Reaching.{listed_there, told_both, gives_first, gives_rest, left_both, at_happened, event_cut, event_ends, nothing_yet, one_step, kept_going}
+use Rattle.hx_scene.proofs.Reaching.{listed_there, told_both, gives_first, gives_rest, left_both, at_happened, event_cut, event_ends, nothing_yet, one_step, kept_going, keeps_unasked}
 use Rattle.hx_scene.proofs.Standing.{valid_in}
+use Rattle.hx_scene.proofs.Making.{Makes, ComesTo, IsCutHere, makes_as}
 use Rattle.hx_scene.proofs.Handing.{runs_more, below_more, below_handed, below_still, runs_ready, all_put}
 use Rattle.hx_scene.proofs.Taking.{participant_at, list_at, asked_if, making, running, making_for, running_for, with_staff, with_open, opened, world_with, take_at, ran_at}
-
--- for want of memory
-pub wants_memory : {A R : Type 0} (f : State → Run A) (answer : R → A) (s : SceneState) (p : List ℕ) (u : SceneState) (q : List ℕ) (result : Result R RoomFault)
-    → IsErrAnd result (λ e. e ≡ rooms.OutOfMemory) → IsCut f s p u q → Does f answer s p u q result
-wants_memory f answer s p u q (Ok x) e cut = absurd e
-wants_memory f answer s p u q (Err (rooms.HistoryFull weight)) e cut = cc
-wants_memory f answer s p u q (Err rooms.OutOfMemory) e cut = cut
 
 -- a message is handed out in a scene
 pub record IsHandedOut (s : SceneState) (i : InstanceId) (id : MsgId) (b : ParticipantState) (job : Job) : Type 0 where
@@ -224,7 +216,7 @@ module _ {s : SceneState} {i : InstanceId} {id : MsgId} {b : ParticipantState} {
       ∙ ap (λ x. GoesOn (Happens e ∷ []) x tt) (end ∙ ap (λ z. at (with_open t2 i r) z) (sym (left_both first more a)))
 
   -- the event is made, the scene is as that tells, and it is printed, whole or by a front
-  pub take_ends : (v : Voice) (r : Ran) → IsRunBy job r → take_refusal s.board.cluster job.message.session job.message.id ≡ None → (p q : List ℕ)
+  take_ends : (v : Voice) (r : Ran) → IsRunBy job r → take_refusal s.board.cluster job.message.session job.message.id ≡ None → (p q : List ℕ)
       → q ≡ p ++ entry_text s.spec s.board.cluster (events.Take job.message.session job.message.id)
       → Ends (λ x. do_take v i id x) s p tt (taken_scene s i b (events.Take job.message.session job.message.id) r) q
   take_ends v r k free p q text =
@@ -232,7 +224,7 @@ module _ {s : SceneState} {i : InstanceId} {id : MsgId} {b : ParticipantState} {
       event_ends (λ x. do_take v i id x) e tt (asked_by s i job ++ running_for i job.message job.handler r.outcome) s (taken_scene s i b e r) p q (λ a given. taken_goes v r k free a given) refl refl
       (keeps_taken e r k) text
 
-  pub take_cut : (v : Voice) (r : Ran) → IsRunBy job r → take_refusal s.board.cluster job.message.session job.message.id ≡ None → (p q : List ℕ)
+  take_cut : (v : Voice) (r : Ran) → IsRunBy job r → take_refusal s.board.cluster job.message.session job.message.id ≡ None → (p q : List ℕ)
       → PutsFront (entry_text s.spec s.board.cluster (events.Take job.message.session job.message.id)) p q
       → IsCut (λ x. do_take v i id x) s p (taken_scene s i b (events.Take job.message.session job.message.id) r) q
   take_cut v r k free p q front =
@@ -240,7 +232,7 @@ module _ {s : SceneState} {i : InstanceId} {id : MsgId} {b : ParticipantState} {
       event_cut (λ x. do_take v i id x) e (asked_by s i job ++ running_for i job.message job.handler r.outcome) s (taken_scene s i b e r) p q (λ a given. ([], ap items_of (taken_goes v r k free a given)))
       refl refl (keeps_taken e r k) front
 
-  pub take_scene : (r : Ran) → IsRunBy job r → take_refusal s.board.cluster job.message.session job.message.id ≡ None
+  take_scene : (r : Ran) → IsRunBy job r → take_refusal s.board.cluster job.message.session job.message.id ≡ None
       → HasHistory (on_board s.board (events.Take job.message.session job.message.id)) → IsScene (taken_scene s i b (events.Take job.message.session job.message.id) r)
   take_scene r k free history =
       let e : Event = events.Take job.message.session job.message.id in
@@ -303,12 +295,12 @@ module _ {s : SceneState} {i : InstanceId} {id : MsgId} {b : ParticipantState} {
     );
   }
 
-  pub back_reaches : (v : Voice) (c : ParticipantState) (fault : TakeFault) → IsPutBack b c job → take_refusal s.board.cluster job.message.session job.message.id ≡ Some fault → (p : List ℕ)
+  back_reaches : (v : Voice) (c : ParticipantState) (fault : TakeFault) → IsPutBack b c job → take_refusal s.board.cluster job.message.session job.message.id ≡ Some fault → (p : List ℕ)
       → Reaches (λ x. do_take v i id x) s p (λ x. note v notes.SessionEnded x) (back_scene s i b c) p
   back_reaches v c fault k full p =
       one_step (λ x. do_take v i id x) (λ x. note v notes.SessionEnded x) s p (back_scene s i b c) (asked_by s i job) (λ a given. back_goes v c fault k full a given) refl refl (keeps_back c k)
 
-  pub back_is : (c : ParticipantState) (fault : TakeFault) → IsPutBack b c job → take_refusal s.board.cluster job.message.session job.message.id ≡ Some fault → IsScene (back_scene s i b c)
+  back_is : (c : ParticipantState) (fault : TakeFault) → IsPutBack b c job → take_refusal s.board.cluster job.message.session job.message.id ≡ Some fault → IsScene (back_scene s i b c)
   back_is c fault k full =
       let kept = kept_going {spec = s.spec} (back_reaches Quiet c fault k full []) h.scene.of_history h.scene.in_step (λ a st. take_keeps s.spec (valid_in s h.scene) (since s.board.cluster.line) Quiet i id (at s a) st) in
       record {
@@ -328,20 +320,13 @@ module _ {s : SceneState} {i : InstanceId} {b : ParticipantState} (scene : IsSce
   still_lists = map-set_same (λ (p : ParticipantState). p.listed) s.staff i.0 b new_staff still.listed
 
   keeps_still : Keeps s (with_staff s i b) []
-  keeps_still = record {
-    lists = still_lists;
-    lines = refl;
-    told = λ c. (
-      record {
-        few = c.few;
-        staff = All-set (IsBelow s.handed) s.staff i.0 b (below_still s.handed (staff_of s i) b still (below_at s i lt c.staff)) c.staff;
-        jobs = c.jobs;
-      },
-      tt,
-    );
-  }
+  keeps_still = keeps_unasked still_lists refl (λ c. record {
+    few = c.few;
+    staff = All-set (IsBelow s.handed) s.staff i.0 b (below_still s.handed (staff_of s i) b still (below_at s i lt c.staff)) c.staff;
+    jobs = c.jobs;
+  })
 
-  pub still_scene : IsScene (with_staff s i b)
+  still_scene : IsScene (with_staff s i b)
   still_scene = record {
     own = scene.own;
     history = scene.history;
@@ -350,10 +335,10 @@ module _ {s : SceneState} {i : InstanceId} {b : ParticipantState} (scene : IsSce
     listed = subst (λ (l : List (Option (List Failure))). All (IsListed l) s.jobs) (sym still_lists) scene.listed;
   }
 
-  pub still_cut : (f : State → Deed) (p : List ℕ) → IsCut f s p (with_staff s i b) p
+  still_cut : (f : State → Deed) (p : List ℕ) → IsCut f s p (with_staff s i b) p
   still_cut f p = nothing_yet f s p (with_staff s i b) refl refl keeps_still
 
-  pub none_reaches : (v : Voice) (id : MsgId) (p : List ℕ) → accepted_by (staff_of s i).plain id ≡ None → Reaches (λ x. do_take v i id x) s p (λ x. note v notes.NoJob x) (with_staff s i b) p
+  none_reaches : (v : Voice) (id : MsgId) (p : List ℕ) → accepted_by (staff_of s i).plain id ≡ None → Reaches (λ x. do_take v i id x) s p (λ x. note v notes.NoJob x) (with_staff s i b) p
   none_reaches v id p none =
       one_step (λ x. do_take v i id x) (λ x. note v notes.NoJob x) s p (with_staff s i b) []
       (λ a _. ap (λ (w : Participant). take_accepted v i (accepted_by w id) (at s a)) (participant_at s i lt) ∙ ap (λ o. take_accepted v i o (at s a)) none
@@ -373,21 +358,21 @@ handed_of s i id a b found job scene lt at_i asked some is few =
       few = few;
     }
 
-pub still_of : (s : SceneState) (i : InstanceId) (a b : ParticipantState) → i.0 < length s.staff → a ≡ slice_index_or s.staff i.0 a → IsStill a b → IsStill (staff_of s i) b
+still_of : (s : SceneState) (i : InstanceId) (a b : ParticipantState) → i.0 < length s.staff → a ≡ slice_index_or s.staff i.0 a → IsStill a b → IsStill (staff_of s i) b
 still_of s i a b lt at_i still = subst (λ (p : ParticipantState). IsStill p b) (get_or_read s.staff i.0 a lt at_i new_staff) still
 
-pub none_of : (s : SceneState) (i : InstanceId) (id : MsgId) (a : ParticipantState) (found : Option Job) → i.0 < length s.staff → a ≡ slice_index_or s.staff i.0 a
+none_of : (s : SceneState) (i : InstanceId) (id : MsgId) (a : ParticipantState) (found : Option Job) → i.0 < length s.staff → a ≡ slice_index_or s.staff i.0 a
     → option_map (λ j. j.message) found ≡ accepted_by a.plain id → found ≡ None → accepted_by (staff_of s i).plain id ≡ None
 none_of s i id a found lt at_i asked is =
     ap (λ (p : ParticipantState). accepted_by p.plain id) (sym (get_or_read s.staff i.0 a lt at_i new_staff)) ∙ sym asked ∙ ap (λ o. option_map (λ j. j.message) o) is
 
-pub refused_as : (c : Cluster) (m k : Message) (o : Option TakeFault) → m ≡ k → take_refusal c m.session m.id ≡ o → take_refusal c k.session k.id ≡ o
+refused_as : (c : Cluster) (m k : Message) (o : Option TakeFault) → m ≡ k → take_refusal c m.session m.id ≡ o → take_refusal c k.session k.id ≡ o
 refused_as c m k o same is = subst (λ (z : Message). take_refusal c z.session z.id ≡ o) same is
 
-pub board_is : (b board : Board) (m k : Message) → m ≡ k → board ≡ on_board b (events.Take m.session m.id) → board ≡ on_board b (events.Take k.session k.id)
+board_is : (b board : Board) (m k : Message) → m ≡ k → board ≡ on_board b (events.Take m.session m.id) → board ≡ on_board b (events.Take k.session k.id)
 board_is b board m k same is = is ∙ ap (λ (z : Message). on_board b (events.Take z.session z.id)) same
 
-pub scene_is : (s : SceneState) (i : InstanceId) (b : ParticipantState) (board : Board) (jobs reserved : List OpenState) (e : Event) (r : Ran) → board ≡ on_board s.board e → jobs ≡ reserved ++ opened i r ∷ []
+scene_is : (s : SceneState) (i : InstanceId) (b : ParticipantState) (board : Board) (jobs reserved : List OpenState) (e : Event) (r : Ran) → board ≡ on_board s.board e → jobs ≡ reserved ++ opened i r ∷ []
     → reserved ≡ s.jobs → record s { board = board; staff = slice_set s.staff i.0 b; jobs = jobs; handed = s.handed + 1 } ≡ taken_scene s i b e r
 scene_is s i b board jobs reserved e r is pushed same =
     let are : jobs ≡ s.jobs ++ opened i r ∷ [] = pushed ∙ ap (λ (js : List OpenState). js ++ opened i r ∷ []) same in
@@ -425,13 +410,38 @@ back_listed {a} staff i b x job d lt at_i is h =
     subst (λ (z : Done). ForSome z.handler (λ y. y.listed ≡ x.listed)) (sym is)
     (subst (λ (z : ParticipantState). ForSome job.handler (λ y. y.listed ≡ z.listed)) (sym same) (λ y e. h.handed.listed y e ∙ sym h.listed))
 
-pub with_parts_is : (P : SceneState → Type 0) (s : SceneState) (board : Board) (jobs : List OpenState) → board ≡ s.board → jobs ≡ s.jobs → P s → P (record s { board = board; jobs = jobs })
+with_parts_is : (P : SceneState → Type 0) (s : SceneState) (board : Board) (jobs : List OpenState) → board ≡ s.board → jobs ≡ s.jobs → P s → P (record s { board = board; jobs = jobs })
 with_parts_is P s board jobs is are here =
     subst (λ (z : Board). P (record s { board = z; jobs = jobs })) (sym is) (subst (λ (z : List OpenState). P (record s { jobs = z })) (sym are) here)
 
--- what was printed
-pub printed_front : {T E : Type 0} {text old new : List ℕ} {result : Result T E} {fault : E} → Prints text old result new → result ≡ Err fault → PutsFront text old new
-printed_front {T} {E} {text} {old} {new} p is = subst (λ (r : Result T E). OnErr r (PutsFront text old new)) is p.err
+-- the message is taken and run, or its session has ended and it is put back; or there is none
+pub take_makes : {s : SceneState} {i : InstanceId} {id : MsgId} {b : ParticipantState} {job : Job} {m : Message} {board : Board} {jobs reserved : List OpenState} → IsHandedOut s i id b job → (v : Voice) (r : Ran) → IsRunBy job r
+    → m ≡ job.message → take_refusal s.board.cluster m.session m.id ≡ None → board ≡ on_board s.board (events.Take m.session m.id) → jobs ≡ reserved ++ opened i r ∷ [] → reserved ≡ s.jobs
+    → Makes (λ x. do_take v i id x) (events.Take job.message.session job.message.id) s board (record s { board = board; staff = slice_set s.staff i.0 b; jobs = jobs; handed = s.handed + 1 })
+take_makes {s} {i} {id} {b} {job} {m} {board} {jobs} {reserved} h v r k same free is pushed kept =
+    let made = board_is s.board board m job.message same is in
+    let refused = refused_as s.board.cluster m job.message None same free in
+    makes_as (scene_is s i b board jobs reserved (events.Take job.message.session job.message.id) r made pushed kept) made refl (take_ends h v r k refused) (take_cut h v r k refused) (take_scene h r k refused)
 
-pub printed_whole : {T E : Type 0} {text old new : List ℕ} {result : Result T E} {x : T} → Prints text old result new → result ≡ Ok x → new ≡ old ++ text
-printed_whole {T} {E} {text} {old} {new} p is = subst (λ (r : Result T E). OnOk r (new ≡ old ++ text)) is p.ok
+pub back_comes : {s : SceneState} {i : InstanceId} {id : MsgId} {b c : ParticipantState} {job : Job} {m : Message} {board : Board} {jobs : List OpenState} → IsHandedOut s i id b job → (v : Voice) (fault : TakeFault)
+    → IsPutBack b c job → m ≡ job.message → take_refusal s.board.cluster m.session m.id ≡ Some fault → board ≡ s.board → jobs ≡ s.jobs
+    → ComesTo (λ x. do_take v i id x) (λ x. note v notes.SessionEnded x) s (record (back_scene s i b c) { board = board; jobs = jobs })
+back_comes {s} {i} {id} {b} {c} {job} {m} {board} {jobs} h v fault k same full is are =
+    let refused = refused_as s.board.cluster m job.message (Some fault) same full in
+    with_parts_is (λ (u : SceneState). ComesTo (λ x. do_take v i id x) (λ x. note v notes.SessionEnded x) s u) (back_scene s i b c) board jobs is are
+    (record { reaches = λ p. back_reaches h v c fault k refused p; scene = back_is h c fault k refused })
+
+pub none_comes : {s : SceneState} {i : InstanceId} {a b : ParticipantState} {found : Option Job} {jobs : List OpenState} (v : Voice) (id : MsgId) → IsScene s → i.0 < length s.staff → a ≡ slice_index_or s.staff i.0 a → IsStill a b
+    → option_map (λ j. j.message) found ≡ accepted_by a.plain id → found ≡ None → jobs ≡ s.jobs
+    → ComesTo (λ x. do_take v i id x) (λ x. note v notes.NoJob x) s (record (with_staff s i b) { jobs = jobs })
+none_comes {s} {i} {a} {b} {found} {jobs} v id scene lt at_i same asked is are =
+    let still = still_of s i a b lt at_i same in
+    with_parts_is (λ (u : SceneState). ComesTo (λ x. do_take v i id x) (λ x. note v notes.NoJob x) s u) (with_staff s i b) s.board jobs refl are
+    (record { reaches = λ p. none_reaches scene lt still v id p (none_of s i id a found lt at_i asked is); scene = still_scene scene lt still })
+
+-- no memory was there to hand it out
+pub still_here : {s : SceneState} {i : InstanceId} {a b : ParticipantState} {jobs : List OpenState} (f : State → Deed) → IsScene s → i.0 < length s.staff → a ≡ slice_index_or s.staff i.0 a → IsStill a b → jobs ≡ s.jobs
+    → IsCutHere f s (record (with_staff s i b) { jobs = jobs })
+still_here {s} {i} {a} {b} {jobs} f scene lt at_i same are =
+    let still = still_of s i a b lt at_i same in
+    with_parts_is (IsCutHere f s) (with_staff s i b) s.board jobs refl are (record { cut = λ p. still_cut scene lt still f p; scene = still_scene scene lt still })

@@ -35,8 +35,9 @@ use Rattle.hx_worlds.specs.Jobs.{do_write, write_job, is_job, as_written_job, wi
 use Rattle.hx_scene.specs.Scenes.{SceneState, OpenState, plain_job, world_of, at, lists_of}
 use Rattle.hx_scene.specs.Doing.{IsRunsBelow, Keeps, Reaches, Ends, IsCut}
 use Rattle.hx_scene.specs.Kept.{IsScene, IsListed}
-use Rattle.hx_scene.proofs.Reaching.{at_happened, event_cut, event_ends, one_step, kept_going, keeps_nothing}
+use Rattle.hx_scene.proofs.Reaching.{at_happened, event_cut, event_ends, here, reaches_as, kept_going, keeps_unasked}
 use Rattle.hx_scene.proofs.Standing.{valid_in}
+use Rattle.hx_scene.proofs.Making.{Makes, makes_as}
 
 -- the only one of a list that passes a test is mapped
 module _ {X : Type 0} (p : X → Bool) (f : X → X) where
@@ -140,31 +141,24 @@ module _ {s : SceneState} {i : InstanceId} {id : MsgId} {n : ℕ} {j : OpenState
       ∙ ap (λ js. GoesOn (Happens event ∷ []) (record { world = record (world_of t) { jobs = js }; answers = a }) tt) jobs_written
 
   keeps_written : Keeps s (written_scene s n j event) []
-  keeps_written = record {
-    lists = refl;
-    lines = refl;
-    told = λ c. (
-      record {
-        few = c.few;
-        staff = c.staff;
-        jobs = All-set (λ k. IsRunsBelow s.handed (plain_job k).handler) s.jobs n (written_job j)
-            (subst (λ (k : OpenState). IsRunsBelow s.handed (plain_job k).handler) (sym h.here) (All-get_or (λ k. IsRunsBelow s.handed (plain_job k).handler) s.jobs n j within c.jobs)) c.jobs;
-      },
-      tt,
-    );
-  }
+  keeps_written = keeps_unasked refl refl (λ c. record {
+    few = c.few;
+    staff = c.staff;
+    jobs = All-set (λ k. IsRunsBelow s.handed (plain_job k).handler) s.jobs n (written_job j)
+        (subst (λ (k : OpenState). IsRunsBelow s.handed (plain_job k).handler) (sym h.here) (All-get_or (λ k. IsRunsBelow s.handed (plain_job k).handler) s.jobs n j within c.jobs)) c.jobs;
+  })
 
-  pub write_ends : (v : Voice) → j.is_written ≡ false → write_refusal s.board.cluster j.ran.message.session j.ran.message.id ≡ None → (p q : List ℕ) → q ≡ p ++ entry_text s.spec s.board.cluster event
+  write_ends : (v : Voice) → j.is_written ≡ false → write_refusal s.board.cluster j.ran.message.session j.ran.message.id ≡ None → (p q : List ℕ) → q ≡ p ++ entry_text s.spec s.board.cluster event
       → Ends (λ x. do_write v i id x) s p tt (written_scene s n j event) q
   write_ends v unwritten free p q text =
       event_ends (λ x. do_write v i id x) event tt [] s (written_scene s n j event) p q (λ a _. write_goes v a unwritten free) refl refl keeps_written text
 
-  pub write_cut : (v : Voice) → j.is_written ≡ false → write_refusal s.board.cluster j.ran.message.session j.ran.message.id ≡ None → (p q : List ℕ) → PutsFront (entry_text s.spec s.board.cluster event) p q
+  write_cut : (v : Voice) → j.is_written ≡ false → write_refusal s.board.cluster j.ran.message.session j.ran.message.id ≡ None → (p q : List ℕ) → PutsFront (entry_text s.spec s.board.cluster event) p q
       → IsCut (λ x. do_write v i id x) s p (written_scene s n j event) q
   write_cut v unwritten free p q front =
       event_cut (λ x. do_write v i id x) event [] s (written_scene s n j event) p q (λ a _. ([], ap items_of (write_goes v a unwritten free))) refl refl keeps_written front
 
-  pub write_scene : j.is_written ≡ false → write_refusal s.board.cluster j.ran.message.session j.ran.message.id ≡ None → HasHistory (on_board s.board event) → IsScene (written_scene s n j event)
+  write_scene : j.is_written ≡ false → write_refusal s.board.cluster j.ran.message.session j.ran.message.id ≡ None → HasHistory (on_board s.board event) → IsScene (written_scene s n j event)
   write_scene unwritten free history =
       let kept = kept_going {spec = s.spec} (write_ends Quiet unwritten free [] (entry_text s.spec s.board.cluster event) refl) h.scene.of_history h.scene.in_step
       (λ a st. write_keeps s.spec (valid_in s h.scene) (since s.board.cluster.line) Quiet i id (at s a) st) in
@@ -179,22 +173,28 @@ module _ {s : SceneState} {i : InstanceId} {id : MsgId} {n : ℕ} {j : OpenState
   -- it was written before
   pub written_before : (v : Voice) (p : List ℕ) → j.is_written ≡ true → Reaches (λ x. do_write v i id x) s p (λ x. note v notes.NoJob x) s p
   written_before v p written =
-      one_step (λ x. do_write v i id x) (λ x. note v notes.NoJob x) s p s []
-      (λ a _. ap (λ o. write_job v o (at s a)) found
+      reaches_as
+      (λ a. ap (λ o. write_job v o (at s a)) found
       ∙ ap (λ (b : Bool). if b then note v notes.NoJob (at s a) else if can_write s.board.cluster j.ran.message.session j.ran.message.id then and_then (make event (at s a)) (λ y. done (with_written j.instance j.ran.message.id y)) else note v notes.SessionEnded (end_job (plain_job j) (at s a))) written)
-      refl refl (keeps_nothing s)
+      (here (λ x. note v notes.NoJob x) s p)
 
-pub write_none : (s : SceneState) (i : InstanceId) (id : MsgId) (v : Voice) (p : List ℕ) → position (λ k. is_job i id (plain_job k)) s.jobs ≡ None
+pub write_none : (s : SceneState) (i : InstanceId) (id : MsgId) → position (λ k. is_job i id (plain_job k)) s.jobs ≡ None → (v : Voice) (p : List ℕ)
     → Reaches (λ x. do_write v i id x) s p (λ x. note v notes.NoJob x) s p
-write_none s i id v p none =
-    one_step (λ x. do_write v i id x) (λ x. note v notes.NoJob x) s p s [] (λ a _. ap (λ o. write_job v o (at s a)) (not_found s i id none)) refl refl (keeps_nothing s)
+write_none s i id none v p = reaches_as (λ a. ap (λ o. write_job v o (at s a)) (not_found s i id none)) (here (λ x. note v notes.NoJob x) s p)
 
 -- by what the calls told
 pub place_is : (jobs : List OpenState) (i : InstanceId) (id : MsgId) (js : List OpenState) (o r : Option ℕ) → js ≡ jobs → r ≡ position (λ k. is_job i id (plain_job k)) js → r ≡ o
     → position (λ k. is_job i id (plain_job k)) jobs ≡ o
 place_is jobs i id js o r same at_r is = ap (λ ks. position (λ k. is_job i id (plain_job k)) ks) (sym same) ∙ sym at_r ∙ is
 
-pub event_is : (j : OpenState) (s : SessionId) (id : MsgId) (o : Outcome) → s ≡ j.ran.message.session → id ≡ j.ran.message.id → o ≡ j.ran.outcome
+pub stands_found : {s : SceneState} {js : List OpenState} {r : Option ℕ} {j : OpenState} (i : InstanceId) (id : MsgId) (n : ℕ) → IsScene s → js ≡ s.jobs
+    → r ≡ position (λ k. is_job i id (plain_job k)) js → r ≡ Some n → j ≡ slice_index_or s.jobs n j → StandsAt s i id n j
+stands_found {s} {js} {r} i id n scene same at_r is here = record { scene = scene; place = place_is s.jobs i id js (Some n) r same at_r is; here = here }
+
+pub mark_is : {j k : OpenState} {b : Bool} → k ≡ j → k.is_written ≡ b → j.is_written ≡ b
+mark_is same is = ap (λ (z : OpenState). z.is_written) (sym same) ∙ is
+
+event_is : (j : OpenState) (s : SessionId) (id : MsgId) (o : Outcome) → s ≡ j.ran.message.session → id ≡ j.ran.message.id → o ≡ j.ran.outcome
     → events.Write s id o ≡ events.Write j.ran.message.session j.ran.message.id j.ran.outcome
 event_is j s id o session number outcome =
     ap (λ (z : SessionId). events.Write z id o) session ∙ ap (λ (z : MsgId). events.Write j.ran.message.session z o) number
@@ -204,8 +204,20 @@ pub refusal_is : {R : Type 0} (refusal : SessionId → MsgId → R) (j : OpenSta
     → refusal j.ran.message.session j.ran.message.id ≡ r
 refusal_is refusal j s id r session number is = ap (λ (z : MsgId). refusal j.ran.message.session z) (sym number) ∙ ap (λ (z : SessionId). refusal z id) (sym session) ∙ is
 
-pub written_is : (s : SceneState) (n : ℕ) (j k l : OpenState) (board : Held) (e : Event) → n < length s.jobs → j ≡ slice_index_or s.jobs n j → l ≡ slice_index_or s.jobs n l → k ≡ l → board ≡ on_board s.board e
-    → record s { board = board; jobs = slice_set s.jobs n (record k { is_written = true }) } ≡ written_scene s n j e
+-- the board was changed, and the job at a place marked
+abbrev pub marked_scene : SceneState → ℕ → Held → OpenState → SceneState
+marked_scene s n board k = record s { board = board; jobs = slice_set s.jobs n (record k { is_written = true }) }
+
+written_is : (s : SceneState) (n : ℕ) (j k l : OpenState) (board : Held) (e : Event) → n < length s.jobs → j ≡ slice_index_or s.jobs n j → l ≡ slice_index_or s.jobs n l → k ≡ l → board ≡ on_board s.board e
+    → marked_scene s n board k ≡ written_scene s n j e
 written_is s n j k l board e lt here there same is =
-    ap (λ (z : Held). record s { board = z; jobs = slice_set s.jobs n (record k { is_written = true }) }) is
-    ∙ ap (λ (z : OpenState). record s { board = on_board s.board e; jobs = slice_set s.jobs n (record z { is_written = true }) }) (same ∙ get_or_read s.jobs n l lt there j ∙ sym here)
+    ap (λ (z : Held). marked_scene s n z k) is ∙ ap (λ (z : OpenState). marked_scene s n (on_board s.board e) z) (same ∙ get_or_read s.jobs n l lt there j ∙ sym here)
+
+pub write_makes : {s : SceneState} {i : InstanceId} {id : MsgId} {n : ℕ} {j k l : OpenState} {session : SessionId} {number : MsgId} {outcome : Outcome} {board : Held} → StandsAt s i id n j → (v : Voice)
+    → j.is_written ≡ false → session ≡ j.ran.message.session → number ≡ j.ran.message.id → outcome ≡ j.ran.outcome → write_refusal s.board.cluster session number ≡ None
+    → board ≡ on_board s.board (events.Write session number outcome) → l ≡ slice_index_or s.jobs n l → k ≡ l
+    → Makes (λ x. do_write v i id x) (events.Write j.ran.message.session j.ran.message.id j.ran.outcome) s board (marked_scene s n board k)
+write_makes {s} {i} {id} {n} {j} {k} {l} {session} {number} {outcome} {board} h v unwritten same_session same_number same_outcome free is there same =
+    let made : board ≡ on_board s.board (event h) = is ∙ ap (λ (z : Event). on_board s.board z) (event_is j session number outcome same_session same_number same_outcome) in
+    let refused = refusal_is (λ (z : SessionId) (m : MsgId). write_refusal s.board.cluster z m) j session number None same_session same_number free in
+    makes_as (written_is s n j k l board (event h) (within h) h.here there same made) made refl (write_ends h v unwritten refused) (write_cut h v unwritten refused) (write_scene h unwritten refused)

@@ -1,5 +1,6 @@
 pub mod Bags
 pub mod Scenes
+pub mod Fields
 pub mod Doing
 pub mod Kept
 pub mod Telling

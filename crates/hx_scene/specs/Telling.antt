@@ -5,8 +5,10 @@ use Rattle.hx_board.specs.Board.{charged}
 use Rattle.hx_board.specs.Refusals.{full}
 use Rattle.hx_board.specs.declared.faults.RoomFault.{RoomFault}
 use Rattle.hx_board.specs.declared.faults.RoomFault.TheVariants as rooms
-use Rattle.hx_print.specs.Texts.{summary_text}
+use Rattle.hx_print.specs.Texts.{sent_text, waiting_text, moved_text, settled_text, settle_text, summary_text}
 use Rattle.hx_scene.specs.declared.telling.Summary.{Summary}
+use Rattle.hx_scene.specs.declared.telling.Line.{Line}
+use Rattle.hx_scene.specs.declared.telling.Line.TheVariants as lines
 use Rattle.hx_scene.specs.Scenes.{SceneState}
 
 -- the charge is made, unless the history has no room for it
@@ -17,3 +19,12 @@ pub record IsCharged {R : Type 0} (n : ℕ) (s u : SceneState) (result : Result 
 
 abbrev pub text_of : Summary → List ℕ
 text_of s = summary_text s.sent s.ok s.failed s.joined s.ended
+
+-- what is said in one line
+abbrev pub line_text : Line → List ℕ
+line_text (lines.Sent k n) = sent_text k n
+line_text (lines.Waiting k n) = waiting_text k n
+line_text (lines.Moved k from to) = moved_text k from to
+line_text (lines.Settled k) = settled_text k
+line_text (lines.Settle k n) = settle_text k n
+line_text (lines.Summary summary) = text_of summary

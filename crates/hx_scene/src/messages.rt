@@ -53,7 +53,7 @@ impl<F: Factory> Scene<F> {
             &open,
         );
         self.bag.put_all(mail.messages.as_slice());
-        self.print_last(&self.no_roll(), out)?;
+        self.print_event(out)?;
         Ok(mail.messages.into_vec())
     }
 

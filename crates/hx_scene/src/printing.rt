@@ -1,12 +1,13 @@
 //! How events are printed.
 
-ghost use Rattle.std.specs.Prelude.{◌≡◌, [], ◌∷◌, ◌++◌, List, length, IfOk};
+ghost use Rattle.std.specs.Prelude.{◌≡◌, [], ◌∷◌, ◌++◌, List, length, IfOk, IfErr};
 ghost use Rattle.hx_cluster.specs.declared.happenings.Event.{Event as Happening};
 ghost use Rattle.hx_text.specs.Texts.{Prints};
 ghost use Rattle.hx_print.specs.Texts.{event_text, names_of, roll_of};
 ghost use Rattle.hx_scene.specs.Advances.{no_roll};
 
 use crate::Scene;
+use hx_board::RoomFault;
 use hx_cluster::Resource;
 use hx_handler::Factory;
 use hx_lists::Seq;
@@ -51,6 +52,17 @@ impl<F: Factory> Scene<F> {
             Some(told) => print_event(told.event(), roll, &self.spec, out),
             None => Ok(()),
         }
+    }
+
+    /// Prints the last event, whose log line needs nothing of the cluster.
+    pub(crate) fn print_event(&self, out: &mut Page) -> Result<(), RoomFault>
+        ensures prints { (h : List Happening) (e : Happening)
+            → self.now.board.history ≡ h ++ e ∷ []
+            → Prints (event_text self.now.spec no_roll e) out.old result out.new }
+        ensures memory { IfErr result (λ fault. fault ≡ RoomFault.OutOfMemory) }
+    {
+        self.print_last(&self.no_roll(), out)?;
+        Ok(())
     }
 
     /// Prints the last event, with the roll before it, if there are more than so many.

@@ -71,8 +71,7 @@ impl<F: Factory> Scene<F> {
                     ran: job.run(),
                     is_written: false,
                 });
-                self.print_last(&self.no_roll(), out)?;
-                Ok(())
+                self.print_event(out)
             }
             Err(_) => {
                 self.participants[instance.0 as usize].finish(job.put_back());
@@ -105,8 +104,7 @@ impl<F: Factory> Scene<F> {
         match written {
             Ok(()) => {
                 self.jobs[place].is_written = true;
-                self.print_last(&self.no_roll(), out)?;
-                Ok(())
+                self.print_event(out)
             }
             Err(_) => {
                 end_at(&mut self.jobs, &mut self.participants, place);
@@ -138,10 +136,7 @@ impl<F: Factory> Scene<F> {
         self.board.history();
         end_at(&mut self.jobs, &mut self.participants, place);
         match acked {
-            Ok(()) => {
-                self.print_last(&self.no_roll(), out)?;
-                Ok(())
-            }
+            Ok(()) => self.print_event(out),
             Err(_) => self.note(voice, &Note::SessionEnded, out),
         }
     }

@@ -47,27 +47,11 @@ impl<F: Factory> Model for Scene<F> {
 
     ghost Value = { SceneState };
 
-    ghost view = { λ a. record {
-      spec = a.spec;
-      board = a.board;
-      controllers = a.controllers.items;
-      staff = a.participants.items;
-      jobs = a.jobs.items;
-      bag = a.bag.items;
-      handed = a.handed;
-    } };
+    ghost use Rattle.hx_scene.specs.Fields.{scene_of};
 
-    ghost invariant = { λ a.
-        IsScene (record {
-          spec = a.spec;
-          board = a.board;
-          controllers = a.controllers.items;
-          staff = a.participants.items;
-          jobs = a.jobs.items;
-          bag = a.bag.items;
-          handed = a.handed;
-        })
-        × (a.hops.items ≡ a.spec.models) };
+    ghost view = { scene_of };
+
+    ghost invariant = { λ a. IsScene (scene_of a) × (a.hops.items ≡ a.spec.models) };
 }
 
 /// The hops of models, in their order.

@@ -28,8 +28,7 @@ impl<F: Factory> Scene<F> {
     {
         self.board.next_line()?;
         self.board.history();
-        self.print_last(&self.no_roll(), out)?;
-        Ok(())
+        self.print_event(out)
     }
 
     /// Makes a step, or notes why not.

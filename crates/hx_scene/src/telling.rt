@@ -6,7 +6,7 @@ ghost use Rattle.hx_print.specs.Texts.{settle_text, failed_text, full_text, view
 ghost use Rattle.hx_text.specs.Texts.{Prints};
 ghost use Rattle.hx_worlds.specs.Runs.{say, say_if_loud, note as noted};
 ghost use Rattle.hx_scene.specs.Doing.{DoesDeed};
-ghost use Rattle.hx_scene.specs.Telling.{IsCharged, text_of};
+ghost use Rattle.hx_scene.specs.Telling.{IsCharged, text_of, line_text};
 
 use crate::Scene;
 use hx_board::RoomFault;
@@ -48,6 +48,30 @@ pub fn print_counts(summary: &Summary, out: &mut Page) -> Result<(), AllocError>
     print_summary(sent, ok, failed, joined, ended, out)
 }
 
+/// What is said in one line, without the names of the description.
+#[derive(Clone, Copy, Debug)]
+enum Line {
+    Sent(ControllerId, u32),
+    Waiting(ControllerId, u32),
+    Moved(ControllerId, u64, u64),
+    Settled(ControllerId),
+    Settle(ControllerId, u64),
+    Summary(Summary),
+}
+
+fn print_line(line: Line, out: &mut Page) -> Result<(), AllocError>
+    ensures { Prints (line_text line) out.old result out.new }
+{
+    match line {
+        Line::Sent(controller, n) => print_sent(controller, n, out),
+        Line::Waiting(controller, n) => print_waiting(controller, n, out),
+        Line::Moved(controller, from, to) => print_moved(controller, from, to, out),
+        Line::Settled(controller) => print_settled(controller, out),
+        Line::Settle(controller, n) => print_settle(controller, n, out),
+        Line::Summary(summary) => print_counts(&summary, out),
+    }
+}
+
 impl<F: Factory> Scene<F> {
     /// Charges the board, where the history has room.
     fn charge(&mut self, n: u64) -> Result<(), RoomFault>
@@ -59,6 +83,16 @@ impl<F: Factory> Scene<F> {
                 weight: full.weight,
             }),
         }
+    }
+
+    /// Charges the board for a line, and prints it.
+    fn say_line(&mut self, line: Line, out: &mut Page) -> Result<(), RoomFault>
+        ensures { DoesDeed (λ x. say 1 (line_text line) x)
+            self.old out.old self.new out.new result }
+    {
+        self.charge(1)?;
+        print_line(line, out)?;
+        Ok(())
     }
 
     /// Notes why a line, or a part of one, was not done.
@@ -105,9 +139,7 @@ impl<F: Factory> Scene<F> {
         ensures { DoesDeed (λ x. say 1 (sent_text controller n) x)
             self.old out.old self.new out.new result }
     {
-        self.charge(1)?;
-        print_sent(controller, n, out)?;
-        Ok(())
+        self.say_line(Line::Sent(controller, n), out)
     }
 
     /// Says that a pass waits for pending messages.
@@ -120,9 +152,7 @@ impl<F: Factory> Scene<F> {
         ensures { DoesDeed (λ x. say 1 (waiting_text controller n) x)
             self.old out.old self.new out.new result }
     {
-        self.charge(1)?;
-        print_waiting(controller, n, out)?;
-        Ok(())
+        self.say_line(Line::Waiting(controller, n), out)
     }
 
     /// Says that the cluster changed under a pass.
@@ -136,9 +166,7 @@ impl<F: Factory> Scene<F> {
         ensures { DoesDeed (λ x. say 1 (moved_text controller from to) x)
             self.old out.old self.new out.new result }
     {
-        self.charge(1)?;
-        print_moved(controller, from, to, out)?;
-        Ok(())
+        self.say_line(Line::Moved(controller, from, to), out)
     }
 
     /// Says that a pass settled.
@@ -146,9 +174,7 @@ impl<F: Factory> Scene<F> {
         ensures { DoesDeed (λ x. say 1 (settled_text controller) x)
             self.old out.old self.new out.new result }
     {
-        self.charge(1)?;
-        print_settled(controller, out)?;
-        Ok(())
+        self.say_line(Line::Settled(controller), out)
     }
 
     /// Says that a settle took so many rounds.
@@ -161,9 +187,7 @@ impl<F: Factory> Scene<F> {
         ensures { DoesDeed (λ x. say 1 (settle_text controller n) x)
             self.old out.old self.new out.new result }
     {
-        self.charge(1)?;
-        print_settle(controller, n, out)?;
-        Ok(())
+        self.say_line(Line::Settle(controller, n), out)
     }
 
     /// Says that a replica is in ERROR, and nobody asked it to leave.
@@ -243,8 +267,6 @@ impl<F: Factory> Scene<F> {
         ensures { DoesDeed (λ x. say 1 (text_of summary.now) x)
             self.old out.old self.new out.new result }
     {
-        self.charge(1)?;
-        print_counts(summary, out)?;
-        Ok(())
+        self.say_line(Line::Summary(*summary), out)
     }
 }

@@ -1,10 +1,9 @@
 -- An operation for each item of a list, and for each number that items have.
-use Rattle.std.proofs.Common.{◌≡◌, List, [], ◌∷◌, map, refl, false}
+use Rattle.std.proofs.Common.{◌≡◌, List, [], ◌∷◌, map, refl}
 use Rattle.hx_ids.specs.declared.InstanceId.{InstanceId}
 use Rattle.hx_ids.specs.declared.SessionId.{SessionId}
 use Rattle.hx_ids.specs.declared.PartId.{PartId}
 use Rattle.hx_ids.specs.declared.MsgId.{MsgId}
-use Rattle.hx_cluster.specs.declared.state.Message.{Message}
 use Rattle.hx_worlds.specs.World.{State}
 use Rattle.hx_worlds.specs.Runs.{Deed, and_then, for_each}
 
@@ -24,16 +23,3 @@ no_session = (record { 0 = 0 }, no_instance)
 
 abbrev pub no_part : PartId
 no_part = record { resource = record { 0 = 0 }; index = 0 }
-
-abbrev pub no_message : Message
-no_message = record {
-  id = no_id;
-  session = record { 0 = 0 };
-  part = no_part;
-  from = record { 0 = 0 };
-  to = record { 0 = 0 };
-  initial = record { 0 = 0 };
-  epoch = record { 0 = 0 };
-  taken = false;
-  written = false;
-}

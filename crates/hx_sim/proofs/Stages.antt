@@ -1,9 +1,8 @@
 -- Where a controller's turn is, and which call comes next.
-use Rattle.std.proofs.Common.{◌≡◌, ℕ, suc, Bool, true, false, ◌==◌, List, [], ◌∷◌, length, Option, Some, None, refl, sym, ap, ◌∙◌}
+use Rattle.std.proofs.Common.{◌≡◌, ℕ, Bool, true, false, ◌==◌, List, [], ◌∷◌, Option, Some, None, refl, ap, ◌∙◌}
 use Rattle.hx_cluster.specs.declared.planning.Plan.{Plan}
-use Rattle.hx_ids.specs.declared.SessionId.{SessionId}
-use Rattle.hx_print.specs.declared.Word.{Word}
-use Rattle.hx_pass.specs.Turns.{Call, Live, Mail, States, Ideals, Send, Post}
+use Rattle.hx_pass.specs.Turns.{Call, Send}
+use Rattle.hx_control.specs.declared.Stage.{Stage}
 use Rattle.hx_control.specs.declared.Stage.TheVariants as stages
 use Rattle.hx_control.specs.Controllers.{Controller, stage, stage_at, stage_before_dispatch}
 use Rattle.hx_control.specs.declared.PassOutcome.{PassOutcome}
@@ -20,19 +19,11 @@ no_idle_dispatch : (plan : Option Plan) → stage_before_dispatch plan ≡ stage
 no_idle_dispatch None e = cc
 no_idle_dispatch (Some plan) e = cc
 
-no_ideals_dispatch : (plan : Option Plan) → stage_before_dispatch plan ≡ stages.Ideals → ⊥
-no_ideals_dispatch None e = cc
-no_ideals_dispatch (Some plan) e = cc
-
 -- an idle turn has no call left, and one that is under way has one
 pub idle_at : (x : Controller) (calls : List Call) → stage_at x calls ≡ stages.Idle → calls ≡ []
 idle_at x [] e = refl
-idle_at x (Live ∷ rest) e = cc
-idle_at x (Mail s ∷ rest) e = cc
-idle_at x (States s ∷ rest) e = cc
-idle_at x (Ideals ∷ rest) e = cc
 idle_at x (Send ∷ rest) e = absurd (no_idle_dispatch x.plan e)
-idle_at x (Post ∷ rest) e = cc
+idle_at x _ e = cc
 
 busy_at : (x : Controller) (calls : List Call) → (stage_at x calls ≡ stages.Idle → ⊥) → (v : Voice) (k : ControllerId) (f : State → Run (Option PassOutcome)) (y : State)
     → (if_under_way calls f y ≡ f y) × (begin_if_idle v k calls y ≡ gives y None)
@@ -55,98 +46,33 @@ step_on_busy v k x other = (busy_at (controller_of x.world k) (left_of x k) othe
 pub under_way : (v : Voice) (k : ControllerId) (x : State) (f : State → Run (Option PassOutcome)) → (stage (controller_of x.world k) ≡ stages.Idle → ⊥) → if_under_way (left_of x k) f x ≡ f x
 under_way v k x f other = (busy_at (controller_of x.world k) (left_of x k) other v k f x).0
 
--- the word for its step
-word_before_dispatch : (plan : Option Plan) (rest : List Call) → word_for (stage_before_dispatch plan) ≡ word_of (Send ∷ rest)
-word_before_dispatch None rest = refl
-word_before_dispatch (Some plan) rest = refl
+-- whether the reads before the ideals are passed over
+abbrev passes_over : Stage → ℕ → Bool
+passes_over stages.Ideals shown = shown == 0
+passes_over _ shown = false
 
-pub word_at : (x : Controller) (calls : List Call) → word_for (stage_at x calls) ≡ word_of calls
-word_at x [] = refl
-word_at x (Live ∷ rest) = refl
-word_at x (Mail s ∷ rest) = refl
-word_at x (States s ∷ rest) = refl
-word_at x (Ideals ∷ rest) = refl
-word_at x (Send ∷ rest) = word_before_dispatch x.plan rest
-word_at x (Post ∷ rest) = refl
+not_over : (stage : Stage) (shown : ℕ) → (stage ≡ stages.Ideals → ⊥) → passes_over stage shown ≡ false
+not_over stages.Ideals shown other = absurd (other refl)
+not_over _ shown other = refl
 
--- the kind of the next call
-live_dispatch : (plan : Option Plan) → false ≡ is_live_stage (stage_before_dispatch plan)
-live_dispatch None = refl
-live_dispatch (Some plan) = refl
+-- what a stage tells of the next call
+pub record TellsNext (stage : Stage) (calls : List Call) : Type 0 where
+  pub word : word_for stage ≡ word_of calls
+  pub live : is_first_of is_live_call calls ≡ is_live_stage stage
+  pub mail : is_first_of is_mail_call calls ≡ is_mail_stage stage
+  pub states : is_first_of is_states_call calls ≡ is_states_stage stage
+  pub ideals : is_first_of is_ideals_call calls ≡ is_ideals_stage stage
+  pub send : is_first_of is_send_call calls ≡ is_send_stage stage
+  pub post : is_first_of is_post_call calls ≡ is_post_stage stage
+  pub over : (shown : ℕ) → is_nothing_shown calls shown ≡ passes_over stage shown
 
-pub live_at : (x : Controller) (calls : List Call) → is_first_of is_live_call calls ≡ is_live_stage (stage_at x calls)
-live_at x [] = refl
-live_at x (Live ∷ rest) = refl
-live_at x (Mail s ∷ rest) = refl
-live_at x (States s ∷ rest) = refl
-live_at x (Ideals ∷ rest) = refl
-live_at x (Send ∷ rest) = live_dispatch x.plan
-live_at x (Post ∷ rest) = refl
+tells_dispatch : (plan : Option Plan) (rest : List Call) → TellsNext (stage_before_dispatch plan) (Send ∷ rest)
+tells_dispatch None rest = record { word = refl; live = refl; mail = refl; states = refl; ideals = refl; send = refl; post = refl; over = λ shown. refl }
+tells_dispatch (Some plan) rest = record { word = refl; live = refl; mail = refl; states = refl; ideals = refl; send = refl; post = refl; over = λ shown. refl }
 
-mail_dispatch : (plan : Option Plan) → false ≡ is_mail_stage (stage_before_dispatch plan)
-mail_dispatch None = refl
-mail_dispatch (Some plan) = refl
-
-pub mail_at : (x : Controller) (calls : List Call) → is_first_of is_mail_call calls ≡ is_mail_stage (stage_at x calls)
-mail_at x [] = refl
-mail_at x (Live ∷ rest) = refl
-mail_at x (Mail s ∷ rest) = refl
-mail_at x (States s ∷ rest) = refl
-mail_at x (Ideals ∷ rest) = refl
-mail_at x (Send ∷ rest) = mail_dispatch x.plan
-mail_at x (Post ∷ rest) = refl
-
-states_dispatch : (plan : Option Plan) → false ≡ is_states_stage (stage_before_dispatch plan)
-states_dispatch None = refl
-states_dispatch (Some plan) = refl
-
-pub states_at : (x : Controller) (calls : List Call) → is_first_of is_states_call calls ≡ is_states_stage (stage_at x calls)
-states_at x [] = refl
-states_at x (Live ∷ rest) = refl
-states_at x (Mail s ∷ rest) = refl
-states_at x (States s ∷ rest) = refl
-states_at x (Ideals ∷ rest) = refl
-states_at x (Send ∷ rest) = states_dispatch x.plan
-states_at x (Post ∷ rest) = refl
-
-ideals_dispatch : (plan : Option Plan) → false ≡ is_ideals_stage (stage_before_dispatch plan)
-ideals_dispatch None = refl
-ideals_dispatch (Some plan) = refl
-
-pub ideals_at : (x : Controller) (calls : List Call) → is_first_of is_ideals_call calls ≡ is_ideals_stage (stage_at x calls)
-ideals_at x [] = refl
-ideals_at x (Live ∷ rest) = refl
-ideals_at x (Mail s ∷ rest) = refl
-ideals_at x (States s ∷ rest) = refl
-ideals_at x (Ideals ∷ rest) = refl
-ideals_at x (Send ∷ rest) = ideals_dispatch x.plan
-ideals_at x (Post ∷ rest) = refl
-
-send_dispatch : (plan : Option Plan) → true ≡ is_send_stage (stage_before_dispatch plan)
-send_dispatch None = refl
-send_dispatch (Some plan) = refl
-
-pub send_at : (x : Controller) (calls : List Call) → is_first_of is_send_call calls ≡ is_send_stage (stage_at x calls)
-send_at x [] = refl
-send_at x (Live ∷ rest) = refl
-send_at x (Mail s ∷ rest) = refl
-send_at x (States s ∷ rest) = refl
-send_at x (Ideals ∷ rest) = refl
-send_at x (Send ∷ rest) = send_dispatch x.plan
-send_at x (Post ∷ rest) = refl
-
-post_dispatch : (plan : Option Plan) → false ≡ is_post_stage (stage_before_dispatch plan)
-post_dispatch None = refl
-post_dispatch (Some plan) = refl
-
-pub post_at : (x : Controller) (calls : List Call) → is_first_of is_post_call calls ≡ is_post_stage (stage_at x calls)
-post_at x [] = refl
-post_at x (Live ∷ rest) = refl
-post_at x (Mail s ∷ rest) = refl
-post_at x (States s ∷ rest) = refl
-post_at x (Ideals ∷ rest) = refl
-post_at x (Send ∷ rest) = post_dispatch x.plan
-post_at x (Post ∷ rest) = refl
+pub tells_next : (x : Controller) (calls : List Call) → TellsNext (stage_at x calls) calls
+tells_next x (Send ∷ rest) = tells_dispatch x.plan rest
+tells_next x _ = record { word = refl; live = refl; mail = refl; states = refl; ideals = refl; send = refl; post = refl; over = λ shown. refl }
 
 -- by the kind of the next call, what is done
 pub first_is : (is_of : Call → Bool) (calls : List Call) (f otherwise : State → Deed) (x : State) → is_first_of is_of calls ≡ true → in_turn is_of calls f otherwise x ≡ f x
@@ -158,22 +84,10 @@ first_is_not is_of [] f otherwise x e = refl
 first_is_not is_of (call ∷ rest) f otherwise x e = ap (λ (b : Bool). chosen b f otherwise x) e
 
 pub passed_over_at : (x : Controller) (calls : List Call) (shown : ℕ) → stage_at x calls ≡ stages.Ideals → is_nothing_shown calls shown ≡ (shown == 0)
-passed_over_at x [] shown e = cc
-passed_over_at x (Live ∷ rest) shown e = cc
-passed_over_at x (Mail s ∷ rest) shown e = cc
-passed_over_at x (States s ∷ rest) shown e = cc
-passed_over_at x (Ideals ∷ rest) shown e = refl
-passed_over_at x (Send ∷ rest) shown e = absurd (no_ideals_dispatch x.plan e)
-passed_over_at x (Post ∷ rest) shown e = cc
+passed_over_at x calls shown e = (tells_next x calls).over shown ∙ ap (λ stage. passes_over stage shown) e
 
 pub not_passed_over_at : (x : Controller) (calls : List Call) (shown : ℕ) → (stage_at x calls ≡ stages.Ideals → ⊥) → is_nothing_shown calls shown ≡ false
-not_passed_over_at x [] shown other = refl
-not_passed_over_at x (Live ∷ rest) shown other = refl
-not_passed_over_at x (Mail s ∷ rest) shown other = refl
-not_passed_over_at x (States s ∷ rest) shown other = refl
-not_passed_over_at x (Ideals ∷ rest) shown other = absurd (other refl)
-not_passed_over_at x (Send ∷ rest) shown other = refl
-not_passed_over_at x (Post ∷ rest) shown other = refl
+not_passed_over_at x calls shown other = (tells_next x calls).over shown ∙ not_over (stage_at x calls) shown other
 
 -- a call: of a dispatch without a plan, or any other
 plans_or_not : (v : Voice) (k : ControllerId) (plan : Option Plan) (x : State) → stage_before_dispatch plan ≡ stages.Plan
@@ -182,13 +96,8 @@ plans_or_not v k None x e = refl
 plans_or_not v k (Some plan) x e = cc
 
 plan_at : (v : Voice) (k : ControllerId) (x : State) (calls : List Call) → stage_at (controller_of x.world k) calls ≡ stages.Plan → do_call_of v k calls x ≡ plan_and_send v k x
-plan_at v k x [] e = cc
-plan_at v k x (Live ∷ rest) e = cc
-plan_at v k x (Mail s ∷ rest) e = cc
-plan_at v k x (States s ∷ rest) e = cc
-plan_at v k x (Ideals ∷ rest) e = cc
 plan_at v k x (Send ∷ rest) e = plans_or_not v k (controller_of x.world k).plan x e
-plan_at v k x (Post ∷ rest) e = cc
+plan_at v k x _ e = cc
 
 pub call_plans : (v : Voice) (k : ControllerId) (x : State) → stage (controller_of x.world k) ≡ stages.Plan → do_call v k x ≡ plan_and_send v k x
 call_plans v k x e = plan_at v k x (left_of x k) e
@@ -199,13 +108,8 @@ planned v k None x rest is other = absurd (other refl)
 planned v k (Some plan) x rest is other = after_none (step_on v k x) ∙ ap (λ (calls : List Call). if_under_way calls (λ z. step v k z) x) is
 
 step_at : (v : Voice) (k : ControllerId) (x : State) (calls : List Call) → left_of x k ≡ calls → (stage_at (controller_of x.world k) calls ≡ stages.Plan → ⊥) → do_call_of v k calls x ≡ step v k x
-step_at v k x [] is other = refl
-step_at v k x (Live ∷ rest) is other = refl
-step_at v k x (Mail s ∷ rest) is other = refl
-step_at v k x (States s ∷ rest) is other = refl
-step_at v k x (Ideals ∷ rest) is other = refl
 step_at v k x (Send ∷ rest) is other = planned v k (controller_of x.world k).plan x rest is other
-step_at v k x (Post ∷ rest) is other = refl
+step_at v k x _ is other = refl
 
 pub call_steps : (v : Voice) (k : ControllerId) (x : State) → (stage (controller_of x.world k) ≡ stages.Plan → ⊥) → do_call v k x ≡ step v k x
 call_steps v k x other = step_at v k x (left_of x k) refl other

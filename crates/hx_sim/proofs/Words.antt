@@ -1,5 +1,5 @@
 -- Words for the calls of a turn, which are done only in their turn.
-use Rattle.std.proofs.Common.{◌≡◌, ℕ, Bool, true, false, List, Option, refl, sym, ap, ◌∙◌}
+use Rattle.std.proofs.Common.{◌≡◌, ℕ, Bool, true, false, List, Option, sym, ap, ◌∙◌}
 use Rattle.std.specs.Prelude.{Result}
 use Rattle.hx_lists.specs.Lists.{count}
 use Rattle.hx_ids.specs.declared.ControllerId.{ControllerId}
@@ -8,12 +8,13 @@ use Rattle.hx_control.specs.declared.PassOutcome.{PassOutcome}
 use Rattle.hx_board.specs.declared.faults.RoomFault.{RoomFault}
 use Rattle.hx_worlds.specs.declared.Voice.{Voice}
 use Rattle.hx_worlds.specs.World.{Answers, State, controller_of}
-use Rattle.hx_worlds.specs.Runs.{Deed, done}
+use Rattle.hx_worlds.specs.Runs.{Run, Deed, done}
 use Rattle.hx_worlds.specs.Turns.{left_of, do_call, do_calls, do_word, do_words, out_of_turn, without_outcome}
 use Rattle.hx_scene.specs.Scenes.{SceneState, at, world_of}
 use Rattle.hx_scene.specs.Doing.{Ends, Fails, Does}
 use Rattle.hx_scene.proofs.Reaching.{does_as, fails_as, fails_inside, reaches_as, then_on}
-use Rattle.hx_sim.specs.Words.{is_first_of}
+use Rattle.hx_control.specs.Controllers.{Controller}
+use Rattle.hx_sim.specs.Words.{is_first_of, IsNextOf}
 use Rattle.hx_sim.proofs.Stages.{first_is, first_is_not}
 
 abbrev pub IsFirst : (Call → Bool) → SceneState → ControllerId → Bool → Type 0
@@ -59,3 +60,15 @@ pub words_else : {R : Type 0} (v : Voice) (k : ControllerId) (is_of : Call → B
 words_else v k is_of otherwise s p first u q result e =
     does_as (do_words v k is_of otherwise) otherwise s
     (λ a. first_is_not is_of (left_of (at s a) k) (λ y. without_outcome (do_calls v k (count is_of (left_of y k)) y)) otherwise (at s a) first) (λ r. tt) p u q result e
+
+-- by the turn that a call showed
+pub turn_is : {s u : SceneState} {x : Controller} (k : ControllerId) → x ≡ controller_of (world_of s) k → s ≡ u → x ≡ controller_of (world_of u) k
+turn_is k is same = is ∙ ap (λ (s : SceneState). controller_of (world_of s) k) same
+
+pub next_is : {x y : Controller} {is_next : Bool} (is_of : Call → Bool) → is_next ≡ is_first_of is_of x.turn.left → x ≡ y → IsNextOf is_of y is_next
+next_is is_of is same = is ∙ ap (λ (x : Controller). is_first_of is_of x.turn.left) same
+
+-- an operation of a word, by another word that it is
+pub does_same : {X A R : Type 0} {x y : X} (f : X → State → Run A) → x ≡ y → (answer : R → A) (s : SceneState) (p : List ℕ) (u : SceneState) (q : List ℕ) (result : Result R RoomFault)
+    → Does (f y) answer s p u q result → Does (f x) answer s p u q result
+does_same {X} {A} {R} {x} {y} f is answer s p u q result does = does_as (f x) (f y) s (λ a. ap (λ (w : X). f w (at s a)) is) answer p u q result does

@@ -2,11 +2,12 @@
 //! left.
 
 ghost use Rattle.std.specs.Prelude.{◌≡◌, true, Bool, List};
+ghost use Rattle.hx_lists.specs.Lists.{count};
 ghost use Rattle.hx_cluster.specs.Steps.{has_controller};
 ghost use Rattle.hx_control.specs.Controllers.{stage as stage_of};
 ghost use Rattle.hx_pass.specs.Turns.{Call};
 ghost use Rattle.hx_worlds.specs.World.{controller_of};
-ghost use Rattle.hx_worlds.specs.Turns.{do_call, do_calls, do_rest, do_pass, do_word, do_read, do_send};
+ghost use Rattle.hx_worlds.specs.Turns.{do_call, do_calls, do_rest, do_pass, do_word, do_words, do_read, do_send};
 ghost use Rattle.hx_worlds.specs.Turns.{do_post, out_of_turn, is_passed_over, pass_over, left_of, begin_if_idle};
 ghost use Rattle.hx_scene.specs.Scenes.{world_of};
 ghost use Rattle.hx_scene.specs.Doing.{Does, DoesDeed};
@@ -327,6 +328,29 @@ impl<F: Factory> World<F> {
         }
     }
 
+    /// Makes the calls of a kind that are left, where the next one is of that kind.
+    fn calls_if(
+        &mut self,
+        is_next: bool,
+        voice: Voice,
+        controller: ControllerId,
+        left: usize,
+        out: &mut Page,
+    ) -> Result<(), RoomFault>
+        requires { has_controller self.old.board.cluster controller ≡ true }
+        ensures { (is_of : Call → Bool) → IsNextOf is_of (controller_of (world_of self.old) controller) is_next
+            → left ≡ count is_of (controller_of (world_of self.old) controller).turn.left
+            → DoesDeed (λ x. do_words voice controller is_of (λ y. pass_over voice controller y) x)
+            self.old out.old self.new out.new result }
+    {
+        if is_next {
+            self.calls(voice, controller, left, out)?;
+            Ok(())
+        } else {
+            self.pass_over(voice, controller, out)
+        }
+    }
+
     pub(crate) fn read_mail(
         &mut self,
         voice: Voice,
@@ -338,13 +362,9 @@ impl<F: Factory> World<F> {
             self.old out.old self.new out.new result }
     {
         let turn = self.scene.controller(controller);
-        if is_mail(turn.stage()) {
-            let count = turn.mail_left();
-            self.calls(voice, controller, count, out)?;
-            Ok(())
-        } else {
-            self.pass_over(voice, controller, out)
-        }
+        let is_next = is_mail(turn.stage());
+        let left = turn.mail_left();
+        self.calls_if(is_next, voice, controller, left, out)
     }
 
     pub(crate) fn read_states(
@@ -358,12 +378,8 @@ impl<F: Factory> World<F> {
             self.old out.old self.new out.new result }
     {
         let turn = self.scene.controller(controller);
-        if is_states(turn.stage()) {
-            let count = turn.states_left();
-            self.calls(voice, controller, count, out)?;
-            Ok(())
-        } else {
-            self.pass_over(voice, controller, out)
-        }
+        let is_next = is_states(turn.stage());
+        let left = turn.states_left();
+        self.calls_if(is_next, voice, controller, left, out)
     }
 }

@@ -2,60 +2,23 @@
 
 ghost use Rattle.std.specs.Prelude.{◌≡◌, [], ◌∷◌, IfOk, IfSome};
 ghost use Rattle.hx_lists.specs.Lists.{count};
-ghost use Rattle.hx_control.specs.Steps.{is_sent};
 ghost use Rattle.hx_worlds.specs.Scripts.{do_summary};
-ghost use Rattle.hx_worlds.specs.Summaries.{sent_in, joined_in, ended_in, is_write, summary_of};
+ghost use Rattle.hx_worlds.specs.Summaries.{ended_in, is_write, summary_of};
 ghost use Rattle.hx_scene.specs.Telling.{text_of};
 ghost use Rattle.hx_scene.specs.Doing.{DoesDeed};
 ghost use Rattle.hx_sim.specs.Counting.{has_outcome, IsCounted};
 
 use crate::World;
+use hx_agree::{joined_in, sent_in};
 use hx_board::RoomFault;
-use hx_cluster::{Admin, Did, Dispatched, Event, Outcome, Placed};
+use hx_cluster::{Admin, Did, Event, Outcome};
 use hx_handler::Factory;
 use hx_history::Entries;
 use hx_scene::Summary;
 use hx_text::Page;
 use std::alloc::AllocError;
 
-fn is_sent(placed: &Placed) -> bool
-    ensures { result ≡ is_sent placed.now }
-{
-    matches!(placed, Placed::Sent(_))
-}
-
-/// How many messages a dispatch sent.
-fn sent_by(answer: &Dispatched) -> u64
-    ensures { result ≡ count is_sent answer.now.placed }
-{
-    answer
-        .placed
-        .iter()
-        .filter(|placed| is_sent(placed))
-        .count() as u64
-}
-
-/// How many messages an event sent.
-fn sent_in(event: &Event) -> u64
-    ensures { result ≡ sent_in event.now }
-{
-    match event {
-        Event::Dispatch { answer, .. } => sent_by(answer),
-        _ => 0,
-    }
-}
-
-/// How many sessions it opened.
-fn joined_in(event: &Event) -> u64
-    ensures { result ≡ joined_in event.now }
-{
-    match event {
-        Event::Admin(Admin::Join { .. }, _) => 1,
-        _ => 0,
-    }
-}
-
-/// How many sessions it ended.
+/// How many sessions an event ended.
 fn ended_in(event: &Event) -> u64
     ensures { result ≡ ended_in event.now }
 {

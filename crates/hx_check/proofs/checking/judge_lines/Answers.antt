@@ -7,37 +7,24 @@ use Rattle.hx_check.specs.declared.Cause.{Cause}
 use Rattle.hx_check.specs.Judge.{judged_entry, judged_from}
 use Rattle.hx_check.specs.Judging.{IsJudgedAs}
 use Rattle.hx_check.specs.Streams.{entry_at, names_left}
-use Rattle.hx_check.proofs.Streaming.{past_remark, past_indented, at_loose, at_fault, past_head, past_all, names_past_other, names_past_entry, readable_past, readable_on, kept_both, models_on, models_kept}
+use Rattle.hx_check.proofs.Streaming.{judged_past, past_remark, past_indented, at_loose, at_fault, past_head, past_all, names_past_other, names_past_entry, readable_on, kept_both, models_on, models_kept}
 use Rattle.hx_check.proofs.checking.judge_lines.Goals as goal
 
 pub loop-place-preserved-in-PassedOver : goal.loop-place-preserved-in-PassedOver
 loop-place-preserved-in-PassedOver c =
+    let l = c.loop-place in
     let is : sort_of c.get.result.now ≡ sorts.PassedOver = sym c.sort_of.ensures ∙ c.in-PassedOver.is in
-    let lt : c.loop-place.place < length c.args.lines.now = omega arith in
-    record {
-      verdict = c.loop-place.invariant.verdict ∙ past_remark c.args.spec.now c.loop-place.judge c.loop-place.entries c.loop-place.begun c.loop-place.spec c.loop-place.place c.args.lines.now c.get.result.now c.get.ensures is;
-      names = c.loop-place.invariant.names ∙ names_past_other c.loop-place.spec c.args.lines.now c.loop-place.place c.get.result.now sorts.PassedOver c.get.ensures is (λ e. cc);
-      readable = readable_past c.loop-place.spec c.loop-place.place c.args.lines.now c.loop-place.invariant.readable lt;
-      kept = c.loop-place.invariant.kept;
-      models = c.loop-place.invariant.models;
-      counted = omega (arith, c.loop-place.invariant.counted);
-    }
+    judged_past c.args.spec.now c.args.judge.now c.args.lines.now l.spec l.judge l.place l.entries l.begun c.get.result.now sorts.PassedOver l.invariant c.get.ensures is (λ e. cc) (omega arith)
+    (past_remark c.args.spec.now l.judge l.entries l.begun l.spec l.place c.args.lines.now c.get.result.now c.get.ensures is)
 
 pub loop-place-preserved-then-begun : goal.loop-place-preserved-then-begun
 loop-place-preserved-then-begun c =
+    let l = c.loop-place in
     let is : sort_of c.get.result.now ≡ sorts.Indented = sym c.sort_of.ensures ∙ c.in-Indented.is in
-    let lt : c.loop-place.place < length c.args.lines.now = omega arith in
-    record {
-      verdict = c.loop-place.invariant.verdict
-          ∙ ap (λ (b : Bool). judged_from c.args.spec.now c.loop-place.judge c.loop-place.entries (left_from b c.loop-place.spec (c.loop-place.place + 1) (drop c.loop-place.place c.args.lines.now)).0) c.if-begun.true
-          ∙ past_indented c.args.spec.now c.loop-place.judge c.loop-place.entries c.loop-place.spec c.loop-place.place c.args.lines.now c.get.result.now c.get.ensures is
-          ∙ ap (λ (b : Bool). judged_from c.args.spec.now c.loop-place.judge c.loop-place.entries (left_from b c.loop-place.spec (c.loop-place.place + 1 + 1) (drop (c.loop-place.place + 1) c.args.lines.now)).0) (sym c.if-begun.true);
-      names = c.loop-place.invariant.names ∙ names_past_other c.loop-place.spec c.args.lines.now c.loop-place.place c.get.result.now sorts.Indented c.get.ensures is (λ e. cc);
-      readable = readable_past c.loop-place.spec c.loop-place.place c.args.lines.now c.loop-place.invariant.readable lt;
-      kept = c.loop-place.invariant.kept;
-      models = c.loop-place.invariant.models;
-      counted = omega (arith, c.loop-place.invariant.counted);
-    }
+    judged_past c.args.spec.now c.args.judge.now c.args.lines.now l.spec l.judge l.place l.entries l.begun c.get.result.now sorts.Indented l.invariant c.get.ensures is (λ e. cc) (omega arith)
+    (ap (λ (b : Bool). judged_from c.args.spec.now l.judge l.entries (left_from b l.spec (l.place + 1) (drop l.place c.args.lines.now)).0) c.if-begun.true
+    ∙ past_indented c.args.spec.now l.judge l.entries l.spec l.place c.args.lines.now c.get.result.now c.get.ensures is
+    ∙ ap (λ (b : Bool). judged_from c.args.spec.now l.judge l.entries (left_from b l.spec (l.place + 1 + 1) (drop (l.place + 1) c.args.lines.now)).0) (sym c.if-begun.true))
 
 pub returns-in-Indented-clause-verdict : goal.returns-in-Indented-clause-verdict
 returns-in-Indented-clause-verdict c =

@@ -1,6 +1,6 @@
 use Rattle.std.proofs.Common.{ℕ, List, [], ◌∷◌, ◌++◌, sym, ap₂, ◌∙◌, arith}
 use Rattle.hx_control.specs.Controllers.{Controller, idle_controller}
-use Rattle.hx_replies.proofs.Staff.{map-numbers_below_more}
+use Rattle.hx_lists.proofs.Numbers.{map-numbers_below_more}
 use Rattle.hx_replies.proofs.simulation.controllers_of.Goals as goal
 
 pub loop-number-preserved : goal.loop-number-preserved

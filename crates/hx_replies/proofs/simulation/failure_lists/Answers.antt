@@ -2,7 +2,7 @@ use Rattle.std.proofs.Common.{ℕ, List, [], ◌∷◌, ◌++◌, map, sym, ap, 
 use Rattle.std.proofs.lemmas.List.{map-append}
 use Rattle.hx_cluster.specs.declared.description.Failure.{Failure}
 use Rattle.hx_replicas.specs.Participants.{failures_on}
-use Rattle.hx_replies.proofs.Staff.{map-numbers_below_more}
+use Rattle.hx_lists.proofs.Numbers.{map-numbers_below_more}
 use Rattle.hx_replies.proofs.simulation.failure_lists.Goals as goal
 
 pub loop-instance-preserved : goal.loop-instance-preserved

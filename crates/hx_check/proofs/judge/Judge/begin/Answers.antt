@@ -27,10 +27,7 @@ invariant_of-self-in_err-begin_turn c =
 pub invariant_of-self-2 : goal.invariant_of-self-2
 invariant_of-self-2 c =
     let a = c.self.inside in
-    let w : Standing = record { cluster = a.replayed; turns = a.turns.items; marks = a.marks.items } in
     let k = c.args.c in
-    let may = subst (λ (x : Standing). (has_controller x.cluster k && is_leader k x.cluster.leader) ≡ true) (sym c.self.view_is) (sym c.may_begin.ensures ∙ c.if-not-may_begin.false) in
-    let both = and_parts (has_controller a.replayed k) (is_leader k a.replayed.leader) may in
     let kept = kept_next a.replayed c.begin.new.self (events.Begin k (begun_of a.replayed k)) a.hops.items a.turns.items c.in_ok-begun.ensures.ok c.self.invariant in
     (kept.0, subst (λ (ts : List Turn). AreTurns c.begin.new.self ts) (sym c.in_ok-begin_turn.ensures.ok) (turns_with c.begin.new.self a.turns.items k.0 (begun_turn c.in_ok-begun.begun) kept.1 refl))
 
@@ -41,7 +38,6 @@ returns c =
     let k = c.args.c in
     let may = subst (λ (x : Standing). (has_controller x.cluster k && is_leader k x.cluster.leader) ≡ true) (sym c.self.view_is) (sym c.may_begin.ensures ∙ c.if-not-may_begin.false) in
     let both = and_parts (has_controller a.replayed k) (is_leader k a.replayed.leader) may in
-    let kept = kept_next a.replayed c.begin.new.self (events.Begin k (begun_of a.replayed k)) a.hops.items a.turns.items c.in_ok-begun.ensures.ok c.self.invariant in
     let epoch = c.args.epoch in
     let pass = c.args.pass in
     let v : Standing = record { cluster = c.begin.new.self; turns = c.begin_turn.new.turns.items; marks = a.marks.items } in

@@ -13,29 +13,27 @@ use Rattle.hx_check.specs.Judging.{may_place}
 use Rattle.hx_check.proofs.Judged.{all_proposable}
 use Rattle.hx_check.proofs.Turning.{turn_below, kept_next}
 use Rattle.hx_check.proofs.judge.Judge.place.Goals as goal
+use Rattle.hx_check.proofs.judge.Judge.place.Goals.{Else-not-may_place}
 
-pub dispatch-requires-clause-there : goal.dispatch-requires-clause-there
-dispatch-requires-clause-there c =
-    let a = c.self.inside in
+-- each move may be made, and the controller is there
+may : (c : Else-not-may_place) → (list_all (is_move c.self.inside.replayed) c.args.moves.now ≡ true) × (has_controller c.self.inside.replayed c.args.c ≡ true)
+may c =
+    let x = c.self.inside.replayed in
     let k = c.args.c in
     let moves = c.args.moves.now in
-    let may = subst (λ (x : Standing). may_place x.cluster k c.args.epoch c.args.pass moves ≡ true) (sym c.self.view_is) (sym c.may_place.ensures ∙ c.if-not-may_place.false) in
-    let both = and_parts (list_all (is_move a.replayed) moves && is_epoch a.replayed c.args.epoch) (is_pass a.replayed k c.args.pass) may in
-    let there : has_controller a.replayed k ≡ true = (and_parts (has_controller a.replayed k) ((pass_of a.replayed k).0 == c.args.pass.0) both.1).0 in
-    there
+    let yes = subst (λ (x : Standing). may_place x.cluster k c.args.epoch c.args.pass moves ≡ true) (sym c.self.view_is) (sym c.may_place.ensures ∙ c.if-not-may_place.false) in
+    let both = and_parts (list_all (is_move x) moves && is_epoch x c.args.epoch) (is_pass x k c.args.pass) yes in
+    ((and_parts (list_all (is_move x) moves) (is_epoch x c.args.epoch) both.0).0, (and_parts (has_controller x k) ((pass_of x k).0 == c.args.pass.0) both.1).0)
+
+pub dispatch-requires-clause-there : goal.dispatch-requires-clause-there
+dispatch-requires-clause-there c = (may (goal.at.dispatch-requires-clause-there c).Else-not-may_place).1
 
 pub dispatch-requires-clause-range : goal.dispatch-requires-clause-range
 dispatch-requires-clause-range c =
-    let a = c.self.inside in
-    let w : Standing = record { cluster = a.replayed; turns = a.turns.items; marks = a.marks.items } in
-    let k = c.args.c in
+    let x = c.self.inside.replayed in
     let moves = c.args.moves.now in
-    let may = subst (λ (x : Standing). may_place x.cluster k c.args.epoch c.args.pass moves ≡ true) (sym c.self.view_is) (sym c.may_place.ensures ∙ c.if-not-may_place.false) in
-    let both = and_parts (list_all (is_move a.replayed) moves && is_epoch a.replayed c.args.epoch) (is_pass a.replayed k c.args.pass) may in
-    let there : has_controller a.replayed k ≡ true = (and_parts (has_controller a.replayed k) ((pass_of a.replayed k).0 == c.args.pass.0) both.1).0 in
-    let each : list_all (is_move a.replayed) moves ≡ true = (and_parts (list_all (is_move a.replayed) moves) (is_epoch a.replayed c.args.epoch) both.0).0 in
     let told : c.as_slice.result.now ≡ map proposal_of moves = c.as_slice.ensures.value ∙ c.in_ok-proposals.ensures in
-    subst (λ (qs : List Proposal). list_all (is_proposable a.replayed) qs ≡ true) (sym told) (all_proposable a.replayed moves each)
+    subst (λ (qs : List Proposal). list_all (is_proposable x) qs ≡ true) (sym told) (all_proposable x moves (may (goal.at.dispatch-requires-clause-range c).Else-not-may_place).0)
 
 pub invariant_of-self-2 : goal.invariant_of-self-2
 invariant_of-self-2 c =
@@ -46,9 +44,5 @@ invariant_of-self-2 c =
 pub returns-clause-turn : goal.returns-clause-turn
 returns-clause-turn c =
     let a = c.self.inside in
-    let k = c.args.c in
-    let moves = c.args.moves.now in
-    let may = subst (λ (x : Standing). may_place x.cluster k c.args.epoch c.args.pass moves ≡ true) (sym c.self.view_is) (sym c.may_place.ensures ∙ c.if-not-may_place.false) in
-    let both = and_parts (list_all (is_move a.replayed) moves && is_epoch a.replayed c.args.epoch) (is_pass a.replayed k c.args.pass) may in
-    let there : has_controller a.replayed k ≡ true = (and_parts (has_controller a.replayed k) ((pass_of a.replayed k).0 == c.args.pass.0) both.1).0 in
-    λ yes. subst (λ (x : Standing). k.0 < length x.turns) c.self.view_is (turn_below a.replayed a.turns.items k c.self.invariant.1 there)
+    let there = (may (goal.at.returns-clause-turn c).Else-not-may_place).1 in
+    λ yes. subst (λ (x : Standing). c.args.c.0 < length x.turns) c.self.view_is (turn_below a.replayed a.turns.items c.args.c c.self.invariant.1 there)

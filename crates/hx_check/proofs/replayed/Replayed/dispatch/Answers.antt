@@ -2,13 +2,11 @@ use Rattle.std.proofs.Common.{◌≡◌, true, refl, sym, subst, arith}
 use Rattle.hx_cluster.specs.declared.state.Cluster.{Cluster}
 use Rattle.hx_cluster.specs.declared.happenings.Event.TheVariants as events
 use Rattle.std.specs.List.{list_all}
-use Rattle.std.proofs.lemmas.Bool.{and_from}
 use Rattle.hx_cluster.specs.Steps.{has_controller}
 use Rattle.hx_cluster.specs.Reads.{pass_of}
 use Rattle.hx_cluster.specs.Events.{is_proposable, is_pass, dispatched_of}
 use Rattle.hx_check.specs.Judging.{IsLedTo}
-use Rattle.hx_check.proofs.Replaying.{led_on, room_led}
-use Rattle.hx_check.proofs.Same.{eqb-refl}
+use Rattle.hx_check.proofs.Replaying.{own_epoch, own_pass, led_on, room_led}
 use Rattle.hx_check.proofs.replayed.Replayed.dispatch.Goals as goal
 
 pub dispatch-requires-clause-range : goal.dispatch-requires-clause-range
@@ -28,6 +26,6 @@ invariant_of-self-2 c =
     let R : Cluster → Type 0 = λ x. list_all (is_proposable x) qs ≡ true in
     let there : has_controller a.records k ≡ true = subst P (sym c.self.view_is) c.requires.there in
     let each : list_all (is_proposable a.records) qs ≡ true = subst R (sym c.self.view_is) c.requires.range in
-    let now : is_pass a.records k (pass_of a.records k) ≡ true = and_from (has_controller a.records k) _ there (eqb-refl (pass_of a.records k).0) in
-    let led = led_on a.records a.weight c.in_ok-weight.weight (events.Dispatch k a.records.epoch (pass_of a.records k) qs (dispatched_of a.records k qs)) c.self.invariant (each, eqb-refl a.records.epoch.0, now, refl) (omega (arith, c.in_ok-weight.ensures.0)) c.in_ok-weight.ensures.1 in
+    let now : is_pass a.records k (pass_of a.records k) ≡ true = own_pass a.records k there in
+    let led = led_on a.records a.weight c.in_ok-weight.weight (events.Dispatch k a.records.epoch (pass_of a.records k) qs (dispatched_of a.records k qs)) c.self.invariant (each, own_epoch a.records, now, refl) (omega (arith, c.in_ok-weight.ensures.0)) c.in_ok-weight.ensures.1 in
     subst (λ (x : Cluster). IsLedTo x c.in_ok-weight.weight) (sym c.in_ok-answer.ensures.after) led

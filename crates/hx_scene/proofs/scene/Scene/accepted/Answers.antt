@@ -1,4 +1,4 @@
-use Rattle.std.proofs.Common.{◌≡◌, ◌<◌, length, refl, sym, ap, subst, ◌∙◌, arith, IfOk}
+use Rattle.std.proofs.Common.{◌≡◌, sym, subst, arith, IfOk}
 use Rattle.hx_replicas.specs.Participants.{Participant, accepted_all}
 use Rattle.hx_scene.proofs.Standing.{has_staff, participant_is}
 use Rattle.hx_scene.proofs.scene.Scene.accepted.Goals as goal

@@ -1,123 +1,67 @@
-use Rattle.std.proofs.Common.{◌≡◌, Some, None, sym, ap, subst, ◌∙◌, arith, true, false}
-use Rattle.hx_ids.specs.declared.SessionId.{SessionId}
-use Rattle.hx_ids.specs.declared.MsgId.{MsgId}
-use Rattle.hx_cluster.specs.Marks.{ack_refusal}
-use Rattle.hx_cluster.specs.declared.happenings.Event.{Event}
+use Rattle.std.proofs.Common.{Some, None, arith}
 use Rattle.hx_cluster.specs.declared.happenings.Event.TheVariants as events
-use Rattle.hx_board.specs.Board.{Held, HasHistory, happened}
 use Rattle.hx_worlds.specs.Jobs.{do_ack}
 use Rattle.hx_worlds.specs.Runs.{note}
 use Rattle.hx_print.specs.declared.Note.TheVariants as notes
-use Rattle.hx_scene.specs.Scenes.{SceneState, OpenState}
-use Rattle.hx_scene.specs.Kept.{IsScene}
-use Rattle.hx_scene.specs.Doing.{Reaches, Ends, IsCut}
 use Rattle.hx_scene.proofs.Reaching.{does_after}
-use Rattle.hx_scene.proofs.Taken.{wants_memory, printed_front, printed_whole}
-use Rattle.hx_scene.proofs.Written
-use Rattle.hx_scene.proofs.Acked
+use Rattle.hx_scene.specs.Fields.{scene_of}
+use Rattle.hx_scene.proofs.Making.{Makes, ComesTo, makes_printed, comes_to}
+use Rattle.hx_scene.proofs.Written.{StandsAt, stands_found, mark_is, place_is, place_within}
+use Rattle.hx_scene.proofs.Written.{within as within_jobs}
+use Rattle.hx_scene.proofs.Acked.{ended_scene, job_can, ack_none, ack_before, ack_makes, ack_comes}
 use Rattle.hx_scene.proofs.scene.Scene.ack.Goals as goal
+use Rattle.hx_scene.proofs.scene.Scene.ack.Goals.{After-index-job, In-Ok, In-Err}
+use Rattle.hx_scene.proofs.scene.Scene.ack.Given.{Over}
+
+-- the job that was found stands in the scene
+stands : (g : Over) (c : After-index-job g) → StandsAt (scene_of c.self.inside) c.args.instance c.args.id c.in-Some.place c.index-job.result.now
+stands g c = stands_found c.args.instance c.args.id c.in-Some.place c.self.invariant.0 c.deref.ensures.value c.place_of.ensures c.in-Some.is c.index-job.ensures
+
+-- it was acknowledged, and ends
+acked : (g : Over) (c : In-Ok g) → Makes (λ x. do_ack c.args.voice c.args.instance c.args.id x) (events.Ack c.index-job.result.now.ran.message.session c.index-job.result.now.ran.message.id) (scene_of c.self.inside)
+    c.ack-acked.new.self (ended_scene (scene_of c.self.inside) c.ack-acked.new.self c.end_at.new.jobs.items c.end_at.new.participants.items)
+acked g c =
+    ack_makes (stands_found c.args.instance c.args.id c.in-Some.place c.self.invariant.0 c.deref.ensures.value c.place_of.ensures c.in-Some.is c.index-job.ensures) c.end_at.ensures.jobs c.end_at.ensures.plain c.end_at.ensures.kept
+    c.session.ensures c.id.ensures c.args.voice (mark_is c.job.view_is c.if-not-job.false) c.in-Ok.ensures.refused c.in-Ok.ensures.ok
+
+-- its session had ended, and so it does
+over : (g : Over) (c : In-Err g) → ComesTo (λ x. do_ack c.args.voice c.args.instance c.args.id x) (λ x. note c.args.voice notes.SessionEnded x) (scene_of c.self.inside)
+    (ended_scene (scene_of c.self.inside) c.ack-acked.new.self c.end_at.new.jobs.items c.end_at.new.participants.items)
+over g c =
+    ack_comes (stands_found c.args.instance c.args.id c.in-Some.place c.self.invariant.0 c.deref.ensures.value c.place_of.ensures c.in-Some.is c.index-job.ensures) c.end_at.ensures.jobs c.end_at.ensures.plain c.end_at.ensures.kept
+    c.session.ensures c.id.ensures c.args.voice c.in-Err.field-0 (mark_is c.job.view_is c.if-not-job.false) c.in-Err.ensures.refused c.in-Err.ensures.err
 
 pub returns-in_default : goal.returns-in_default
 returns-in_default g c =
-    let s : SceneState = record { spec = c.self.inside.spec; board = c.self.inside.board; controllers = c.self.inside.controllers.items; staff = c.self.inside.participants.items; jobs = c.self.inside.jobs.items; bag = c.self.inside.bag.items; handed = c.self.inside.handed } in
-    let none = Written.place_is s.jobs c.args.instance c.args.id c.deref.result.now None c.place_of.result c.deref.ensures.value c.place_of.ensures c.in_default.is in
-    does_after (subst (λ (z : SceneState). Reaches (λ x. do_ack c.args.voice c.args.instance c.args.id x) z c.args.out.now (λ x. note c.args.voice notes.NoJob x) z c.args.out.now) c.self.view_is
-    (Acked.ack_none s c.args.instance c.args.id c.args.voice c.args.out.now none)) _ c.note.new.self c.note.new.out c.note.result c.note.ensures.does
+    let none = place_is (scene_of c.self.inside).jobs c.args.instance c.args.id c.deref.result.now None c.place_of.result c.deref.ensures.value c.place_of.ensures c.in_default.is in
+    comes_to c.self.view_is (ack_none _ c.args.instance c.args.id none c.args.voice) c.args.out.now c.note.new.self c.note.new.out c.note.result c.note.ensures.does
 
 pub index-job-requires : goal.index-job-requires
 index-job-requires g c =
-    let s : SceneState = record { spec = c.self.inside.spec; board = c.self.inside.board; controllers = c.self.inside.controllers.items; staff = c.self.inside.participants.items; jobs = c.self.inside.jobs.items; bag = c.self.inside.bag.items; handed = c.self.inside.handed } in
-    let place = Written.place_is s.jobs c.args.instance c.args.id c.deref.result.now (Some c.in-Some.place) c.place_of.result c.deref.ensures.value c.place_of.ensures c.in-Some.is in
-    let lt = Written.place_within s c.args.instance c.args.id c.in-Some.place place in
+    let lt = place_within (scene_of c.self.inside) c.args.instance c.args.id c.in-Some.place (place_is (scene_of c.self.inside).jobs c.args.instance c.args.id c.deref.result.now (Some c.in-Some.place) c.place_of.result c.deref.ensures.value c.place_of.ensures c.in-Some.is) in
     omega (arith, lt, c.self.inside.jobs.ok.0)
 
 pub returns-then-not-job : goal.returns-then-not-job
 returns-then-not-job g c =
-    let s : SceneState = record { spec = c.self.inside.spec; board = c.self.inside.board; controllers = c.self.inside.controllers.items; staff = c.self.inside.participants.items; jobs = c.self.inside.jobs.items; bag = c.self.inside.bag.items; handed = c.self.inside.handed } in
-    let place = Written.place_is s.jobs c.args.instance c.args.id c.deref.result.now (Some c.in-Some.place) c.place_of.result c.deref.ensures.value c.place_of.ensures c.in-Some.is in
-    let j : OpenState = c.index-job.result.now in
-    let h : Written.StandsAt s c.args.instance c.args.id c.in-Some.place j = record { scene = c.self.invariant.0; place = place; here = c.index-job.ensures } in
-    let marked : j.is_written ≡ false = ap (λ (z : OpenState). z.is_written) (sym {A = OpenState} c.job.view_is) ∙ c.if-not-job.true in
-    does_after (subst (λ (z : SceneState). Reaches (λ x. do_ack c.args.voice c.args.instance c.args.id x) z c.args.out.now (λ x. note c.args.voice notes.NoJob x) z c.args.out.now) c.self.view_is
-    (Acked.ack_before h c.args.voice c.args.out.now marked)) _ c.note-then-not-job.new.self c.note-then-not-job.new.out c.note-then-not-job.result c.note-then-not-job.ensures.does
+    let h = stands g (goal.at.returns-then-not-job g c).After-index-job in
+    comes_to c.self.view_is (λ p. ack_before h c.args.voice p (mark_is c.job.view_is c.if-not-job.true)) c.args.out.now c.note-then-not-job.new.self c.note-then-not-job.new.out c.note-then-not-job.result c.note-then-not-job.ensures.does
 
 pub end_at-requires-clause-place : goal.end_at-requires-clause-place
-end_at-requires-clause-place g c κs within =
-    let s : SceneState = record { spec = c.self.inside.spec; board = c.self.inside.board; controllers = c.self.inside.controllers.items; staff = c.self.inside.participants.items; jobs = c.self.inside.jobs.items; bag = c.self.inside.bag.items; handed = c.self.inside.handed } in
-    let place = Written.place_is s.jobs c.args.instance c.args.id c.deref.result.now (Some c.in-Some.place) c.place_of.result c.deref.ensures.value c.place_of.ensures c.in-Some.is in
-    Written.place_within s c.args.instance c.args.id c.in-Some.place place
+end_at-requires-clause-place g c κs within = within_jobs (stands g (goal.at.end_at-requires-clause-place g c).After-index-job)
 
 pub end_at-requires-clause-can : goal.end_at-requires-clause-can
-end_at-requires-clause-can g c κs within =
-    let s : SceneState = record { spec = c.self.inside.spec; board = c.self.inside.board; controllers = c.self.inside.controllers.items; staff = c.self.inside.participants.items; jobs = c.self.inside.jobs.items; bag = c.self.inside.bag.items; handed = c.self.inside.handed } in
-    λ j e. Acked.job_can s c.in-Some.place j c.self.invariant.0 e
+end_at-requires-clause-can g c κs within j e = job_can (scene_of c.self.inside) c.in-Some.place j c.self.invariant.0 e
 
 pub invariant_of-self : goal.invariant_of-self
-invariant_of-self g c =
-    let s : SceneState = record { spec = c.self.inside.spec; board = c.self.inside.board; controllers = c.self.inside.controllers.items; staff = c.self.inside.participants.items; jobs = c.self.inside.jobs.items; bag = c.self.inside.bag.items; handed = c.self.inside.handed } in
-    let place = Written.place_is s.jobs c.args.instance c.args.id c.deref.result.now (Some c.in-Some.place) c.place_of.result c.deref.ensures.value c.place_of.ensures c.in-Some.is in
-    let j : OpenState = c.index-job.result.now in
-    let h : Written.StandsAt s c.args.instance c.args.id c.in-Some.place j = record { scene = c.self.invariant.0; place = place; here = c.index-job.ensures } in
-    let marked : j.is_written ≡ true = ap (λ (z : OpenState). z.is_written) (sym {A = OpenState} c.job.view_is) ∙ c.if-not-job.false in
-    let free = Written.refusal_is (λ (z : SessionId) (m : MsgId). ack_refusal s.board.cluster z m) j c.session.result c.id.result None c.session.ensures c.id.ensures c.in-Ok.ensures.refused in
-    let board : c.ack-acked.new.self ≡ happened s.board (events.Ack j.ran.message.session j.ran.message.id) = c.in-Ok.ensures.ok ∙ ap (λ (z : Event). happened s.board z) (Acked.event_is j c.session.result c.id.result c.session.ensures c.id.ensures) in
-    let ended : Acked.IsEnded s c.in-Some.place j c.end_at.new.jobs.items c.end_at.new.participants.items = record { jobs = c.end_at.ensures.jobs; plain = c.end_at.ensures.plain j (Written.got h); kept = c.end_at.ensures.kept } in
-    (subst (λ (z : Held). IsScene (Acked.ended_scene s z c.end_at.new.jobs.items c.end_at.new.participants.items)) (sym {A = Held} board) (Acked.ack_scene h ended marked free (subst HasHistory board c.history.ensures.history)), c.self.invariant.1)
+invariant_of-self g c = ((acked g (goal.at.invariant_of-self g c).In-Ok).scene c.history.ensures.history, c.self.invariant.1)
 
-pub returns-in_err-print_last-in-Ok : goal.returns-in_err-print_last-in-Ok
-returns-in_err-print_last-in-Ok g c =
-    let s : SceneState = record { spec = c.self.inside.spec; board = c.self.inside.board; controllers = c.self.inside.controllers.items; staff = c.self.inside.participants.items; jobs = c.self.inside.jobs.items; bag = c.self.inside.bag.items; handed = c.self.inside.handed } in
-    let place = Written.place_is s.jobs c.args.instance c.args.id c.deref.result.now (Some c.in-Some.place) c.place_of.result c.deref.ensures.value c.place_of.ensures c.in-Some.is in
-    let j : OpenState = c.index-job.result.now in
-    let h : Written.StandsAt s c.args.instance c.args.id c.in-Some.place j = record { scene = c.self.invariant.0; place = place; here = c.index-job.ensures } in
-    let marked : j.is_written ≡ true = ap (λ (z : OpenState). z.is_written) (sym {A = OpenState} c.job.view_is) ∙ c.if-not-job.false in
-    let free = Written.refusal_is (λ (z : SessionId) (m : MsgId). ack_refusal s.board.cluster z m) j c.session.result c.id.result None c.session.ensures c.id.ensures c.in-Ok.ensures.refused in
-    let board : c.ack-acked.new.self ≡ happened s.board (events.Ack j.ran.message.session j.ran.message.id) = c.in-Ok.ensures.ok ∙ ap (λ (z : Event). happened s.board z) (Acked.event_is j c.session.result c.id.result c.session.ensures c.id.ensures) in
-    let ended : Acked.IsEnded s c.in-Some.place j c.end_at.new.jobs.items c.end_at.new.participants.items = record { jobs = c.end_at.ensures.jobs; plain = c.end_at.ensures.plain j (Written.got h); kept = c.end_at.ensures.kept } in
-    let printed = c.print_last.ensures s.board.history (events.Ack j.ran.message.session j.ran.message.id) (ap (λ (z : Held). z.history) board) in
-    rw (← c.self.view_is)
-    (wants_memory (λ x. do_ack c.args.voice c.args.instance c.args.id x) _ s c.args.out.now _ c.print_last.new.out c.from_residual.result c.from_residual.ensures.1
-    (subst (λ (z : Held). IsCut (λ x. do_ack c.args.voice c.args.instance c.args.id x) s c.args.out.now (Acked.ended_scene s z c.end_at.new.jobs.items c.end_at.new.participants.items) c.print_last.new.out) (sym {A = Held} board)
-    (Acked.ack_cut h ended c.args.voice marked free c.args.out.now c.print_last.new.out (printed_front printed c.in_err-print_last-in-Ok.was))))
+pub returns-in-Ok : goal.returns-in-Ok
+returns-in-Ok g c =
+    rw (← c.self.view_is) (makes_printed (acked g (goal.at.returns-in-Ok g c).In-Ok) c.args.out.now c.print_event.new.out c.print_event.result c.print_event.ensures.prints c.print_event.ensures.memory)
 
 pub invariant_of-self-in-Err : goal.invariant_of-self-in-Err
-invariant_of-self-in-Err g c =
-    let s : SceneState = record { spec = c.self.inside.spec; board = c.self.inside.board; controllers = c.self.inside.controllers.items; staff = c.self.inside.participants.items; jobs = c.self.inside.jobs.items; bag = c.self.inside.bag.items; handed = c.self.inside.handed } in
-    let place = Written.place_is s.jobs c.args.instance c.args.id c.deref.result.now (Some c.in-Some.place) c.place_of.result c.deref.ensures.value c.place_of.ensures c.in-Some.is in
-    let j : OpenState = c.index-job.result.now in
-    let h : Written.StandsAt s c.args.instance c.args.id c.in-Some.place j = record { scene = c.self.invariant.0; place = place; here = c.index-job.ensures } in
-    let marked : j.is_written ≡ true = ap (λ (z : OpenState). z.is_written) (sym {A = OpenState} c.job.view_is) ∙ c.if-not-job.false in
-    let full = Written.refusal_is (λ (z : SessionId) (m : MsgId). ack_refusal s.board.cluster z m) j c.session.result c.id.result (Some c.in-Err.field-0) c.session.ensures c.id.ensures c.in-Err.ensures.refused in
-    let ended : Acked.IsEnded s c.in-Some.place j c.end_at.new.jobs.items c.end_at.new.participants.items = record { jobs = c.end_at.ensures.jobs; plain = c.end_at.ensures.plain j (Written.got h); kept = c.end_at.ensures.kept } in (
-      subst (λ (z : Held). IsScene (Acked.ended_scene s z c.end_at.new.jobs.items c.end_at.new.participants.items)) (sym {A = Held} c.in-Err.ensures.err)
-          (Acked.ack_ended_scene h ended c.in-Err.field-0 marked full),
-      c.self.invariant.1,
-    )
-
-pub returns-in_ok-print_last-in-Ok : goal.returns-in_ok-print_last-in-Ok
-returns-in_ok-print_last-in-Ok g c =
-    let s : SceneState = record { spec = c.self.inside.spec; board = c.self.inside.board; controllers = c.self.inside.controllers.items; staff = c.self.inside.participants.items; jobs = c.self.inside.jobs.items; bag = c.self.inside.bag.items; handed = c.self.inside.handed } in
-    let place = Written.place_is s.jobs c.args.instance c.args.id c.deref.result.now (Some c.in-Some.place) c.place_of.result c.deref.ensures.value c.place_of.ensures c.in-Some.is in
-    let j : OpenState = c.index-job.result.now in
-    let h : Written.StandsAt s c.args.instance c.args.id c.in-Some.place j = record { scene = c.self.invariant.0; place = place; here = c.index-job.ensures } in
-    let marked : j.is_written ≡ true = ap (λ (z : OpenState). z.is_written) (sym {A = OpenState} c.job.view_is) ∙ c.if-not-job.false in
-    let free = Written.refusal_is (λ (z : SessionId) (m : MsgId). ack_refusal s.board.cluster z m) j c.session.result c.id.result None c.session.ensures c.id.ensures c.in-Ok.ensures.refused in
-    let board : c.ack-acked.new.self ≡ happened s.board (events.Ack j.ran.message.session j.ran.message.id) = c.in-Ok.ensures.ok ∙ ap (λ (z : Event). happened s.board z) (Acked.event_is j c.session.result c.id.result c.session.ensures c.id.ensures) in
-    let ended : Acked.IsEnded s c.in-Some.place j c.end_at.new.jobs.items c.end_at.new.participants.items = record { jobs = c.end_at.ensures.jobs; plain = c.end_at.ensures.plain j (Written.got h); kept = c.end_at.ensures.kept } in
-    let printed = c.print_last.ensures s.board.history (events.Ack j.ran.message.session j.ran.message.id) (ap (λ (z : Held). z.history) board) in
-    rw (← c.self.view_is)
-    (subst (λ (z : Held). Ends (λ x. do_ack c.args.voice c.args.instance c.args.id x) s c.args.out.now tt (Acked.ended_scene s z c.end_at.new.jobs.items c.end_at.new.participants.items) c.print_last.new.out) (sym {A = Held} board)
-    (Acked.ack_ends h ended c.args.voice marked free c.args.out.now c.print_last.new.out (printed_whole printed c.in_ok-print_last-in-Ok.was)))
+invariant_of-self-in-Err g c = ((over g (goal.at.invariant_of-self-in-Err g c).In-Err).scene, c.self.invariant.1)
 
 pub returns-in-Err : goal.returns-in-Err
 returns-in-Err g c =
-    let s : SceneState = record { spec = c.self.inside.spec; board = c.self.inside.board; controllers = c.self.inside.controllers.items; staff = c.self.inside.participants.items; jobs = c.self.inside.jobs.items; bag = c.self.inside.bag.items; handed = c.self.inside.handed } in
-    let place = Written.place_is s.jobs c.args.instance c.args.id c.deref.result.now (Some c.in-Some.place) c.place_of.result c.deref.ensures.value c.place_of.ensures c.in-Some.is in
-    let j : OpenState = c.index-job.result.now in
-    let h : Written.StandsAt s c.args.instance c.args.id c.in-Some.place j = record { scene = c.self.invariant.0; place = place; here = c.index-job.ensures } in
-    let marked : j.is_written ≡ true = ap (λ (z : OpenState). z.is_written) (sym {A = OpenState} c.job.view_is) ∙ c.if-not-job.false in
-    let full = Written.refusal_is (λ (z : SessionId) (m : MsgId). ack_refusal s.board.cluster z m) j c.session.result c.id.result (Some c.in-Err.field-0) c.session.ensures c.id.ensures c.in-Err.ensures.refused in
-    let ended : Acked.IsEnded s c.in-Some.place j c.end_at.new.jobs.items c.end_at.new.participants.items = record { jobs = c.end_at.ensures.jobs; plain = c.end_at.ensures.plain j (Written.got h); kept = c.end_at.ensures.kept } in
-    rw (← c.self.view_is)
-    (does_after (subst (λ (z : Held). Reaches (λ x. do_ack c.args.voice c.args.instance c.args.id x) s c.args.out.now (λ x. note c.args.voice notes.SessionEnded x) (Acked.ended_scene s z c.end_at.new.jobs.items c.end_at.new.participants.items) c.args.out.now) (sym {A = Held} c.in-Err.ensures.err)
-    (Acked.ack_reaches h ended c.args.voice c.in-Err.field-0 c.args.out.now marked full)) _ c.note-in-Err.new.self c.note-in-Err.new.out c.note-in-Err.result c.note-in-Err.ensures.does)
+    rw (← c.self.view_is) (does_after ((over g (goal.at.returns-in-Err g c).In-Err).reaches c.args.out.now) _ c.note-in-Err.new.self c.note-in-Err.new.out c.note-in-Err.result c.note-in-Err.ensures.does)

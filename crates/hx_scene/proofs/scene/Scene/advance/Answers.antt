@@ -1,4 +1,4 @@
-use Rattle.std.proofs.Common.{◌≡◌, List, length, refl, ap, subst, ◌∙◌}
+use Rattle.std.proofs.Common.{length, ap, subst, ◌∙◌}
 use Rattle.hx_scene.specs.Scenes.{SceneState}
 use Rattle.hx_scene.specs.Kept.{IsScene}
 use Rattle.hx_scene.proofs.Turning.{advance_wanted, advance_printed, advance_front, advance_full, advance_memory, advance_fault}

@@ -1,7 +1,7 @@
 use Rattle.std.proofs.Common.{ap, ◌∙◌}
 use Rattle.hx_worlds.specs.declared.Voice.{Voice}
 use Rattle.hx_worlds.specs.Runs.{note}
-use Rattle.hx_scene.specs.Scenes.{SceneState, at}
+use Rattle.hx_scene.specs.Scenes.{at}
 use Rattle.hx_scene.proofs.Saying.{say_full, say_cut, say_whole, say_nothing, same_text}
 use Rattle.hx_print.specs.Texts.{note_text}
 use Rattle.hx_scene.proofs.scene.Scene.note.Goals as goal
@@ -21,12 +21,3 @@ pub returns-clause-does : goal.returns-clause-does
 returns-clause-does g c =
     say_whole _ c.in_ok-charge.ensures c.in_ok-print_note.ensures
     (λ a. ap (λ (v : Voice). note v c.args.note.now (at c.args.self.now a)) c.in-Loud.is ∙ same_text (λ spec. note_text spec c.in-Loud.line c.args.note.now) c.in_ok-charge.ensures c.self.view_is a)
-
-pub returns-in_err-charge-clause-bag : goal.returns-in_err-charge-clause-bag
-returns-in_err-charge-clause-bag g c = ap (λ (v : SceneState). v.bag) c.in_err-charge.ensures.err
-
-pub returns-in_err-print_note-clause-bag : goal.returns-in_err-print_note-clause-bag
-returns-in_err-print_note-clause-bag g c = ap (λ (v : SceneState). v.bag) c.in_ok-charge.ensures.ok
-
-pub returns-clause-bag : goal.returns-clause-bag
-returns-clause-bag g c = ap (λ (v : SceneState). v.bag) c.in_ok-charge.ensures.ok

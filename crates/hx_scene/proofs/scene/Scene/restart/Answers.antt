@@ -1,4 +1,4 @@
-use Rattle.std.proofs.Common.{◌<◌, length, arith}
+use Rattle.std.proofs.Common.{arith}
 use Rattle.hx_scene.proofs.Standing.{has_turn}
 use Rattle.hx_scene.proofs.Turning.{idle_is, scene_restarted}
 use Rattle.hx_scene.proofs.scene.Scene.restart.Goals as goal

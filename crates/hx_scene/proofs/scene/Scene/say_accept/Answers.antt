@@ -1,7 +1,7 @@
 use Rattle.std.proofs.Common.{ap, ◌∙◌}
 use Rattle.hx_worlds.specs.declared.Voice.{Voice}
 use Rattle.hx_worlds.specs.Runs.{say_if_loud}
-use Rattle.hx_scene.specs.Scenes.{SceneState, at}
+use Rattle.hx_scene.specs.Scenes.{at}
 use Rattle.hx_scene.proofs.Saying.{say_full, say_cut, say_whole, say_nothing, same_text}
 use Rattle.hx_print.specs.Texts.{accept_text}
 use Rattle.hx_scene.proofs.scene.Scene.say_accept.Goals as goal
@@ -21,12 +21,3 @@ pub returns-clause-does : goal.returns-clause-does
 returns-clause-does g c =
     say_whole _ c.in_ok-charge.ensures c.in_ok-print_accept.ensures
     (λ a. ap (λ (v : Voice). say_if_loud v 1 (accept_text c.args.self.now.spec c.args.instance c.args.id) (at c.args.self.now a)) c.in-Loud.is ∙ same_text (λ spec. accept_text spec c.args.instance c.args.id) c.in_ok-charge.ensures c.self.view_is a)
-
-pub returns-in_err-charge-clause-bag : goal.returns-in_err-charge-clause-bag
-returns-in_err-charge-clause-bag g c = ap (λ (v : SceneState). v.bag) c.in_err-charge.ensures.err
-
-pub returns-in_err-print_accept-clause-bag : goal.returns-in_err-print_accept-clause-bag
-returns-in_err-print_accept-clause-bag g c = ap (λ (v : SceneState). v.bag) c.in_ok-charge.ensures.ok
-
-pub returns-clause-bag : goal.returns-clause-bag
-returns-clause-bag g c = ap (λ (v : SceneState). v.bag) c.in_ok-charge.ensures.ok

@@ -1,8 +1,7 @@
-use Rattle.std.proofs.Common.{◌≡◌, ◌+◌, ℕ, List, length, refl, sym, ap, ◌∙◌}
-use Rattle.hx_worlds.specs.declared.Voice.{Voice}
-use Rattle.hx_worlds.specs.Runs.{say, say_if_loud, note}
+use Rattle.std.proofs.Common.{◌+◌, List, length, sym, ap, ◌∙◌}
+use Rattle.hx_worlds.specs.Runs.{say}
 use Rattle.hx_scene.specs.Scenes.{at}
-use Rattle.hx_scene.proofs.Saying.{say_full, say_cut, say_whole, say_nothing, same_text, same_line}
+use Rattle.hx_scene.proofs.Saying.{say_full, say_cut, say_whole, same_line}
 use Rattle.hx_print.specs.Texts.{full_text, full_line}
 use Rattle.hx_cluster.specs.Reads.{live_shown}
 use Rattle.hx_ids.specs.declared.SessionId.{SessionId}

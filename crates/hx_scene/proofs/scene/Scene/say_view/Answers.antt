@@ -1,8 +1,5 @@
-use Rattle.std.proofs.Common.{◌≡◌, ◌+◌, ℕ, List, length, refl, sym, ap, ◌∙◌}
-use Rattle.hx_worlds.specs.declared.Voice.{Voice}
-use Rattle.hx_worlds.specs.Runs.{say, say_if_loud, note}
-use Rattle.hx_scene.specs.Scenes.{at}
-use Rattle.hx_scene.proofs.Saying.{say_full, say_cut, say_whole, say_nothing, same_text, same_line}
+use Rattle.std.proofs.Common.{refl}
+use Rattle.hx_scene.proofs.Saying.{say_full, say_cut, say_whole, same_line}
 use Rattle.hx_print.specs.Texts.{seen_line}
 use Rattle.hx_scene.proofs.scene.Scene.say_view.Goals as goal
 

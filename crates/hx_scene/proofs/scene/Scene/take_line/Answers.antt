@@ -1,4 +1,4 @@
-use Rattle.hx_scene.proofs.Happening.{line_printed, line_front, line_refused, scene_of_line}
+use Rattle.hx_scene.proofs.Happening.{line_done, line_refused, scene_of_line}
 use Rattle.hx_scene.proofs.scene.Scene.take_line.Goals as goal
 
 pub returns-in_err-next_line : goal.returns-in_err-next_line
@@ -14,14 +14,8 @@ invariant_of-self-2 g c = (
   c.self.invariant.1,
 )
 
-pub returns-in_err-print_last : goal.returns-in_err-print_last
-returns-in_err-print_last g c =
-    rw (← c.self.view_is)
-    (line_front c.args.number _ c.next_line.new.self c.args.out.now c.print_last.new.out c.in_err-print_last.field-0.0 c.from_residual-in_err-print_last.result (rw (← c.self.view_is) at c.requires.next)
-    c.in_ok-next_line.ensures.refused c.in_ok-next_line.ensures.ok (rw c.no_roll.ensures at c.in_err-print_last.ensures) c.from_residual-in_err-print_last.ensures.1)
-
 pub returns : goal.returns
 returns g c =
     rw (← c.self.view_is)
-    (line_printed c.args.number _ c.next_line.new.self c.args.out.now c.print_last.new.out c.in_ok-print_last.field-0 (rw (← c.self.view_is) at c.requires.next) c.in_ok-next_line.ensures.refused
-    c.in_ok-next_line.ensures.ok (rw c.no_roll.ensures at c.in_ok-print_last.ensures))
+    (line_done c.args.number _ c.next_line.new.self c.args.out.now c.print_event.new.out c.print_event.result (rw (← c.self.view_is) at c.requires.next) c.in_ok-next_line.ensures.refused c.in_ok-next_line.ensures.ok
+    c.print_event.ensures.prints c.print_event.ensures.memory)

@@ -1,4 +1,4 @@
-use Rattle.std.proofs.Common.{◌<◌, length, arith}
+use Rattle.std.proofs.Common.{arith}
 use Rattle.hx_scene.proofs.Standing.{has_turn}
 use Rattle.hx_scene.proofs.Turning.{turn_has, turn_plans, scene_stepped, stepped_is}
 use Rattle.hx_scene.proofs.scene.Scene.take_step.Goals as goal

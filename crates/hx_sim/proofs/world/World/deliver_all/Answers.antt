@@ -3,7 +3,7 @@ use Rattle.hx_worlds.specs.declared.Voice.TheVariants.{Quiet}
 use Rattle.hx_worlds.specs.Jobs.{deliver}
 use Rattle.hx_scene.specs.Scenes.{SceneState}
 use Rattle.hx_scene.proofs.Reaching.{here, does_err, each_more, each_fails}
-use Rattle.hx_sim.proofs.Each.{no_message}
+use Rattle.hx_cluster.proofs.Absent.{no_message}
 use Rattle.hx_sim.proofs.Lasting.{instance_lasts}
 use Rattle.hx_sim.proofs.world.World.deliver_all.Goals as goal
 

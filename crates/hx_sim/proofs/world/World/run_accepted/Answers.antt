@@ -5,7 +5,7 @@ use Rattle.hx_worlds.specs.Runs.{for_each}
 use Rattle.hx_worlds.specs.Jobs.{run_message}
 use Rattle.hx_scene.specs.Scenes.{at, world_of}
 use Rattle.hx_scene.proofs.Reaching.{here, reaches_as, does_err, cut_here, each_more, each_fails, each_end}
-use Rattle.hx_sim.proofs.Each.{no_message}
+use Rattle.hx_cluster.proofs.Absent.{no_message}
 use Rattle.hx_sim.proofs.Lasting.{instance_lasts}
 use Rattle.hx_sim.proofs.world.World.run_accepted.Goals as goal
 

@@ -1,12 +1,12 @@
-use Rattle.std.proofs.Common.{rules, ◌≡◌, true, false, refl, sym, ap, ◌∙◌}
+use Rattle.std.proofs.Common.{sym, ap, ◌∙◌}
 use Rattle.hx_worlds.specs.World.{controller_of}
 use Rattle.hx_worlds.specs.Turns.{is_send_call}
 use Rattle.hx_scene.specs.Scenes.{world_of}
 use Rattle.hx_sim.specs.Words.{is_send_stage}
-use Rattle.hx_sim.proofs.Stages.{send_at}
+use Rattle.hx_sim.proofs.Stages.{tells_next}
 use Rattle.hx_sim.proofs.world.World.send.Goals as goal
 
 pub returns : goal.returns
 returns g c =
     let x = controller_of (world_of c.args.self.now) c.args.controller in
-    c.call_if.ensures is_send_call (c.is_send-is_next.ensures ∙ ap is_send_stage c.stage.ensures ∙ sym (send_at x x.turn.left))
+    c.call_if.ensures is_send_call (c.is_send-is_next.ensures ∙ ap is_send_stage c.stage.ensures ∙ sym (tells_next x x.turn.left).send)

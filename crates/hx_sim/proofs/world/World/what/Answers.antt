@@ -5,6 +5,7 @@ use Rattle.hx_scene.specs.Scenes.{at}
 use Rattle.hx_scene.proofs.Reaching.{does_as, does_err, fails_as, fails_inside, reaches_as, then_on}
 use Rattle.hx_sim.proofs.Asking.{IsAsking, asks_alone}
 use Rattle.hx_sim.proofs.Standing.{instance_in, instance_and, controller_in, same_in}
+use Rattle.hx_sim.proofs.Words.{does_same}
 use Rattle.hx_sim.proofs.world.World.what.Goals as goal
 
 pub die-requires-after_bounds : goal.die-requires-after_bounds
@@ -44,74 +45,46 @@ pub pass-requires-after_bounds : goal.pass-requires-after_bounds
 pass-requires-after_bounds g c κs within = rw (← c.self.view_is) (controller_in c.self.inside.scene c.board.ensures.scene _ (same_in c.self.inside.scene (rw (← c.self.view_is) at c.requires) c.in-Pass.is))
 
 pub returns-in-Die : goal.returns-in-Die
-returns-in-Die g c =
-    let s = c.self.inside.scene in
-    rw (← c.self.view_is) (does_as _ _ s (λ a. ap (λ w. do_what c.args.voice w (at s a)) c.in-Die.is) _ _ _ _ _ c.die.ensures)
+returns-in-Die g c = rw (← c.self.view_is) (does_same (do_what c.args.voice) c.in-Die.is _ _ _ _ _ _ c.die.ensures)
 
 pub returns-in-Take : goal.returns-in-Take
-returns-in-Take g c =
-    let s = c.self.inside.scene in
-    rw (← c.self.view_is) (does_as _ _ s (λ a. ap (λ w. do_what c.args.voice w (at s a)) c.in-Take.is) _ _ _ _ _ c.take.ensures)
+returns-in-Take g c = rw (← c.self.view_is) (does_same (do_what c.args.voice) c.in-Take.is _ _ _ _ _ _ c.take.ensures)
 
 pub returns-in-Write : goal.returns-in-Write
-returns-in-Write g c =
-    let s = c.self.inside.scene in
-    rw (← c.self.view_is) (does_as _ _ s (λ a. ap (λ w. do_what c.args.voice w (at s a)) c.in-Write.is) _ _ _ _ _ c.write.ensures)
+returns-in-Write g c = rw (← c.self.view_is) (does_same (do_what c.args.voice) c.in-Write.is _ _ _ _ _ _ c.write.ensures)
 
 pub returns-in-Ack : goal.returns-in-Ack
-returns-in-Ack g c =
-    let s = c.self.inside.scene in
-    rw (← c.self.view_is) (does_as _ _ s (λ a. ap (λ w. do_what c.args.voice w (at s a)) c.in-Ack.is) _ _ _ _ _ c.ack.ensures)
+returns-in-Ack g c = rw (← c.self.view_is) (does_same (do_what c.args.voice) c.in-Ack.is _ _ _ _ _ _ c.ack.ensures)
 
 pub returns-in-Begin : goal.returns-in-Begin
-returns-in-Begin g c =
-    let s = c.args.self.now in
-    does_as _ _ s (λ a. ap (λ w. do_what c.args.voice w (at s a)) c.in-Begin.is) _ _ _ _ _ c.begin.ensures
+returns-in-Begin g c = does_same (do_what c.args.voice) c.in-Begin.is _ _ _ _ _ _ c.begin.ensures
 
 pub returns-in-Read : goal.returns-in-Read
-returns-in-Read g c =
-    let s = c.args.self.now in
-    does_as _ _ s (λ a. ap (λ w. do_what c.args.voice w (at s a)) c.in-Read.is) _ _ _ _ _ c.read.ensures
+returns-in-Read g c = does_same (do_what c.args.voice) c.in-Read.is _ _ _ _ _ _ c.read.ensures
 
 pub returns-in-Send : goal.returns-in-Send
-returns-in-Send g c =
-    let s = c.args.self.now in
-    does_as _ _ s (λ a. ap (λ w. do_what c.args.voice w (at s a)) c.in-Send.is) _ _ _ _ _ c.send.ensures
+returns-in-Send g c = does_same (do_what c.args.voice) c.in-Send.is _ _ _ _ _ _ c.send.ensures
 
 pub returns-in-Post : goal.returns-in-Post
-returns-in-Post g c =
-    let s = c.args.self.now in
-    does_as _ _ s (λ a. ap (λ w. do_what c.args.voice w (at s a)) c.in-Post.is) _ _ _ _ _ c.post.ensures
+returns-in-Post g c = does_same (do_what c.args.voice) c.in-Post.is _ _ _ _ _ _ c.post.ensures
 
 pub returns-in-Deliver : goal.returns-in-Deliver
-returns-in-Deliver g c =
-    let s = c.args.self.now in
-    does_as _ _ s (λ a. ap (λ w. do_what c.args.voice w (at s a)) c.in-Deliver.is) _ _ _ _ _ c.deliver.ensures
+returns-in-Deliver g c = does_same (do_what c.args.voice) c.in-Deliver.is _ _ _ _ _ _ c.deliver.ensures
 
 pub returns-in-Work : goal.returns-in-Work
-returns-in-Work g c =
-    let s = c.args.self.now in
-    does_as _ _ s (λ a. ap (λ w. do_what c.args.voice w (at s a)) c.in-Work.is) _ _ _ _ _ c.work.ensures
+returns-in-Work g c = does_same (do_what c.args.voice) c.in-Work.is _ _ _ _ _ _ c.work.ensures
 
 pub returns-in-Settle : goal.returns-in-Settle
-returns-in-Settle g c =
-    let s = c.args.self.now in
-    does_as _ _ s (λ a. ap (λ w. do_what c.args.voice w (at s a)) c.in-Settle.is) _ _ _ _ _ c.settle_aloud.ensures
+returns-in-Settle g c = does_same (do_what c.args.voice) c.in-Settle.is _ _ _ _ _ _ c.settle_aloud.ensures
 
 pub returns-in-View : goal.returns-in-View
-returns-in-View g c =
-    let s = c.args.self.now in
-    does_as _ _ s (λ a. ap (λ w. do_what c.args.voice w (at s a)) c.in-View.is) _ _ _ _ _ c.view.ensures
+returns-in-View g c = does_same (do_what c.args.voice) c.in-View.is _ _ _ _ _ _ c.view.ensures
 
 pub returns-in-Route : goal.returns-in-Route
-returns-in-Route g c =
-    let s = c.args.self.now in
-    does_as _ _ s (λ a. ap (λ w. do_what c.args.voice w (at s a)) c.in-Route.is) _ _ _ _ _ c.route.ensures
+returns-in-Route g c = does_same (do_what c.args.voice) c.in-Route.is _ _ _ _ _ _ c.route.ensures
 
 pub returns-in-Summary : goal.returns-in-Summary
-returns-in-Summary g c =
-    let s = c.args.self.now in
-    does_as _ _ s (λ a. ap (λ w. do_what c.args.voice w (at s a)) c.in-Summary.is) _ _ _ _ _ c.summary.ensures
+returns-in-Summary g c = does_same (do_what c.args.voice) c.in-Summary.is _ _ _ _ _ _ c.summary.ensures
 
 pub returns-in_err-pass-in-Pass : goal.returns-in_err-pass-in-Pass
 returns-in_err-pass-in-Pass g c =

@@ -1,0 +1,12 @@
+use Rattle.std.proofs.Common.{refl}
+use Rattle.hx_scene.proofs.Saying.{say_full, say_cut, say_whole}
+use Rattle.hx_scene.proofs.scene.Scene.say_line.Goals as goal
+
+pub returns-in_err-charge : goal.returns-in_err-charge
+returns-in_err-charge g c = say_full _ _ c.args.out.now c.from_residual.result c.in_err-charge.ensures (λ a. refl) c.from_residual.ensures.1
+
+pub returns-in_err-print_line : goal.returns-in_err-print_line
+returns-in_err-print_line g c = say_cut _ c.from_residual-in_err-print_line.result c.in_ok-charge.ensures c.in_err-print_line.ensures (λ a. refl) c.from_residual-in_err-print_line.ensures.1
+
+pub returns : goal.returns
+returns g c = say_whole _ c.in_ok-charge.ensures c.in_ok-print_line.ensures (λ a. refl)
