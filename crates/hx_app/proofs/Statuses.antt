@@ -8,7 +8,7 @@ use Rattle.hx_words.specs.declared.Words.{Words}
 use Rattle.hx_words.specs.declared.Words.TheVariants as asks
 use Rattle.hx_words.specs.declared.WordsFault.{WordsFault}
 use Rattle.hx_words.specs.declared.WordsFault.TheVariants as faults
-use Rattle.hx_words.specs.Tasks.{HoldsOfAsked}
+use Rattle.hx_words.specs.Tasks.{HoldsOfAsked, IsAnswer, asked_by}
 use Rattle.hx_answers.specs.Constants.{most_bytes, no_memory}
 use Rattle.hx_answers.specs.Answers.{Answer, usage, version, words_refused}
 use Rattle.hx_app.specs.declared.program.Behind.{Behind}
@@ -44,10 +44,10 @@ runs_answer behind source source' sink sink' bytes text status result given end 
     }
 
 -- what was found is what was asked for
-pub as_asked : (asked found : Result Words WordsFault) (source source' : SourceAt) (sink sink' : SinkAt) (status : ℕ) → asked ≡ found
-    → RunsWords source source' sink sink' status found → RunsWords source source' sink sink' status asked
-as_asked asked found source source' sink sink' status is runs =
-    let P : Result Words WordsFault → Type 0 = λ r. RunsWords source source' sink sink' status r in subst P (sym is) runs
+pub as_asked : {answer : Result Words WordsFault} (words : List (List ℕ)) (found : Result Words WordsFault) (source source' : SourceAt) (sink sink' : SinkAt) (status : ℕ) (of : HoldsOfAsked words (IsAnswer answer))
+    → asked_by of.0 words ≡ found → RunsWords source source' sink sink' status found → HoldsOfAsked words (RunsWords source source' sink sink' status)
+as_asked words found source source' sink sink' status of is runs =
+    let P : Result Words WordsFault → Type 0 = λ r. RunsWords source source' sink sink' status r in (of.0, of.1, subst P (sym is) runs)
 
 -- memory was wanted before anything was read or written
 run_unheard : (mode : RunMode) (task : Task) (source : SourceAt) (sink : SinkAt) → RunsIn mode task source source sink sink no_memory

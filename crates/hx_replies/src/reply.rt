@@ -3,7 +3,7 @@ ghost use Rattle.std.specs.Prelude.{◌≡◌, ◌≤◌, ◌++◌, length, IfOk
 ghost use Rattle.hx_print.specs.Texts.{history_full_text};
 ghost use Rattle.hx_worlds.specs.Summaries.{summary_of};
 ghost use Rattle.hx_answers.specs.Answers.{AnswersAs};
-ghost use Rattle.hx_answers.specs.Constants.{most_bytes, history_full};
+ghost use Rattle.hx_answers.specs.Constants.{most_bytes, done, history_full};
 ghost use Rattle.hx_words.specs.Tasks.{HasRanges};
 ghost use Rattle.hx_replies.specs.Simulation.{IsGiven};
 ghost use Rattle.hx_replies.specs.Answers.{
@@ -35,6 +35,17 @@ fn refused(alloc: Global, fault: &InputFault) -> Result<Reply, AllocError>
     }
 }
 
+/// A text that was run to its end.
+fn done(text: Page) -> Reply
+    ensures status { result.status.0 ≡ done }
+    ensures text { result.text ≡ text }
+{
+    Reply {
+        status: Status::DONE,
+        text,
+    }
+}
+
 /// A text behind which the history had no room.
 fn ended_full(weight: u64, text: Page) -> Result<Reply, AllocError>
     ensures status { IfOk result (λ reply. reply.status.0 ≡ history_full) }
@@ -55,10 +66,7 @@ fn simulated(alloc: Global, scenario: Scenario) -> Result<Reply, AllocError>
 {
     let run = simulate(alloc, scenario)?;
     match run.full {
-        None => Ok(Reply {
-            status: Status::DONE,
-            text: run.page,
-        }),
+        None => Ok(done(run.page)),
         Some(weight) => ended_full(weight, run.page),
     }
 }
@@ -80,10 +88,7 @@ fn summarized(alloc: Global, scenario: Scenario) -> Result<Reply, AllocError>
 {
     let run = simulate(alloc, scenario)?;
     match run.full {
-        None => Ok(Reply {
-            status: Status::DONE,
-            text: summary_page(alloc, &run.board)?,
-        }),
+        None => Ok(done(summary_page(alloc, &run.board)?)),
         Some(weight) => ended_full(weight, Page::new(alloc)),
     }
 }

@@ -1,10 +1,8 @@
-use Rattle.std.proofs.Common.{refl}
 use Rattle.hx_replies.proofs.Answered.{sim_done, sim_ends_full}
 use Rattle.hx_replies.proofs.reply.simulated.Goals as goal
 
 pub returns-in-None : goal.returns-in-None
-returns-in-None c =
-    sim_done c.args.scenario c.in_ok-run.run' c.in_ok-run.ensures (record { status = record { 0 = 0 }; text = c.in_ok-run.run'.page }) c.in-None.is refl refl
+returns-in-None c = sim_done c.args.scenario c.in_ok-run.run' c.in_ok-run.ensures c.done.result c.in-None.is c.done.ensures.status c.done.ensures.text
 
 pub returns : goal.returns
 returns c =

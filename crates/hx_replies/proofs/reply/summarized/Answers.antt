@@ -1,10 +1,10 @@
-use Rattle.std.proofs.Common.{refl}
+use Rattle.std.proofs.Common.{◌∙◌}
 use Rattle.hx_replies.proofs.Answered.{summary_done, summary_ends_full}
 use Rattle.hx_replies.proofs.reply.summarized.Goals as goal
 
 pub returns-in-None : goal.returns-in-None
 returns-in-None c =
-    summary_done c.args.scenario c.in_ok-run.run' c.in_ok-run.ensures (record { status = record { 0 = 0 }; text = c.in_ok-summary_page-in-None.field-0 }) c.in-None.is refl c.in_ok-summary_page-in-None.ensures
+    summary_done c.args.scenario c.in_ok-run.run' c.in_ok-run.ensures c.done.result c.in-None.is c.done.ensures.status (c.done.ensures.text ∙ c.in_ok-summary_page-in-None.ensures)
 
 pub returns : goal.returns
 returns c =
