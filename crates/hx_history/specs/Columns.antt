@@ -2,10 +2,7 @@
 use Rattle.std.specs.Prelude.{◌≡◌, ℕ, ◌%◌, ◌^◌, List, [], ◌∷◌, ◌++◌, length, take, drop, Option, None, Some, option_to_list, slice_get, slice_index}
 use Rattle.std.specs.List.{sum_by}
 use Rattle.hx_ids.specs.declared.ControllerId.{ControllerId}
-use Rattle.hx_ids.specs.declared.InstanceId.{InstanceId}
-use Rattle.hx_ids.specs.declared.PassNo.{PassNo}
-use Rattle.hx_ids.specs.declared.SessionId.{SessionId}
-use Rattle.hx_ids.specs.declared.MsgId.{MsgId}
+use Rattle.hx_ids.specs.Words.{instance, message, pass, session}
 use Rattle.hx_cluster.specs.declared.happenings.Begun.{Begun}
 use Rattle.hx_cluster.specs.declared.happenings.Admin.TheVariants as steps
 use Rattle.hx_cluster.specs.declared.happenings.Did.TheVariants as dids
@@ -30,21 +27,9 @@ abbrev pub kept_of : Kind → ℕ
 kept_of kinds.Whole = 1
 kept_of _ = 0
 
--- what a word is the number of
+-- the controller whose number a word ends in
 abbrev pub controller : ℕ → ControllerId
 controller word = record { 0 = word % 2 ^ 8 }
-
-abbrev pub instance : ℕ → InstanceId
-instance word = record { 0 = word }
-
-abbrev pub pass : ℕ → PassNo
-pass word = record { 0 = word }
-
-abbrev pub session : ℕ → SessionId
-session word = record { 0 = word }
-
-abbrev pub message : ℕ → MsgId
-message word = record { 0 = word }
 
 abbrev pub begun : List ℕ → Begun
 begun ws = record { epoch = record { 0 = slice_index ws 1 }; pass = pass (slice_index ws 2); change = slice_index ws 3 }

@@ -5,6 +5,7 @@ ghost use Rattle.hx_cluster.specs.declared.happenings.Did.TheVariants as dids;
 ghost use Rattle.hx_cluster.specs.declared.happenings.Event.TheVariants as events;
 ghost use Rattle.hx_history.specs.Columns as Spec;
 ghost use Rattle.hx_history.specs.Told.{event_in};
+ghost use Rattle.hx_ids.specs.Words as Ids;
 
 use crate::kinds::Kind;
 use hx_cluster::{Admin, Begun, Did, Event, Outcome};
@@ -41,21 +42,21 @@ fn controller(word: u32) -> ControllerId
 
 #[inline]
 fn pass(word: u32) -> PassNo
-    ensures { result ≡ Spec.pass word }
+    ensures { result ≡ Ids.pass word }
 {
     PassNo(u64::from(word))
 }
 
 #[inline]
 fn session(word: u32) -> SessionId
-    ensures { result ≡ Spec.session word }
+    ensures { result ≡ Ids.session word }
 {
     SessionId(u64::from(word))
 }
 
 #[inline]
 fn message(word: u32) -> MsgId
-    ensures { result ≡ Spec.message word }
+    ensures { result ≡ Ids.message word }
 {
     MsgId(u64::from(word))
 }
@@ -74,7 +75,7 @@ fn begun(words: &[u32]) -> Begun
 
 #[inline]
 fn fetched(instance: u32, session: Option<SessionId>, count: u32) -> Event
-    ensures { result ≡ events.Fetch (Spec.instance instance) session count }
+    ensures { result ≡ events.Fetch (Ids.instance instance) session count }
 {
     Event::Fetch {
         instance: InstanceId(instance),
@@ -85,7 +86,7 @@ fn fetched(instance: u32, session: Option<SessionId>, count: u32) -> Event
 
 #[inline]
 fn written(of: u32, id: u32, outcome: Outcome) -> Event
-    ensures { result ≡ events.Write (Spec.session of) (Spec.message id) outcome }
+    ensures { result ≡ events.Write (Ids.session of) (Ids.message id) outcome }
 {
     Event::Write(session(of), message(id), outcome)
 }
