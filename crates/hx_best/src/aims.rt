@@ -156,12 +156,13 @@ fn is_one(state: Option<StateId>, mark: Option<Mark>) -> bool
     state.is_some() || mark.is_some()
 }
 
-fn push_some(found: &mut Vec<Target>, target: Option<Target>) -> Result<(), AllocError>
-    ensures { OnOk result (found.new.items ≡ found.old.items ++ cons_option target []) }
+/// Adds an item at the end, if there is one.
+pub fn push_some<T: Drop>(items: &mut Vec<T>, item: Option<T>) -> Result<(), AllocError>
+    ensures { OnOk result (items.new.items ≡ items.old.items ++ cons_option item []) }
 {
-    match target {
-        Some(target) => {
-            found.push(target)?;
+    match item {
+        Some(item) => {
+            items.push(item)?;
             Ok(())
         }
         None => Ok(()),

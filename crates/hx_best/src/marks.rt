@@ -74,7 +74,7 @@ impl<'a> Shown<'a> {
         Shown {
             places,
             part,
-            rows: places.index().rows_at(part),
+            rows: places.index().shown().rows_at(part),
         }
     }
 
@@ -118,7 +118,8 @@ impl<'a> Shown<'a> {
     pub fn is_asked(&self, session: SessionId) -> bool
         ensures { result ≡ is_asked self.now.0.view session self.now.1 }
     {
-        has_flag(self.places.index().resets_at(self.part), session, self.part)
+        let shown = self.places.index().shown();
+        has_flag(shown.resets_at(self.part), session, self.part)
     }
 
     /// Whether an instance can take a state of the part.

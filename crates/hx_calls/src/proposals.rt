@@ -3,7 +3,7 @@ ghost use Rattle.std.specs.Prelude.{◌≡◌, ℕ, ◌+◌, ◌*◌, ◌^◌, �
 ghost use Rattle.std.specs.Prelude.{unwrap_or, IfOk, OnOk, OnErr};
 ghost use Rattle.hx_cluster.specs.Ends.{state_of, message_of, limit_at};
 ghost use Rattle.hx_cluster.specs.Messages.{throttled_from, bounded, placed_idle, placed_of};
-ghost use Rattle.hx_cluster.specs.Messages.{after_placed, after_proposal, placed_all};
+ghost use Rattle.hx_cluster.specs.Messages.{message_from, after_placed, after_proposal, placed_all};
 ghost use Rattle.hx_cluster.specs.Messages.{after_proposals, next_pass, after_dispatch};
 ghost use Rattle.hx_cluster.specs.Events.{dispatched_of};
 ghost use Rattle.hx_cluster.specs.Apart.{with_rows};
@@ -44,14 +44,11 @@ fn throttle(cluster: &Cluster, proposal: &Proposal) -> Result<Placed, AllocError
     Ok(Placed::Sent(MsgId(cluster.next_msg)))
 }
 
-/// Sends a message.
-fn send(cluster: &mut Cluster, id: MsgId, proposal: &Proposal) -> Result<(), AllocError>
-    requires room { (cluster.old.next_msg + 1 < 2 ^ 64) × (cluster.old.change + 1 < 2 ^ 64) }
-    ensures ok { OnOk result (
-        cluster.new ≡ after_placed cluster.old proposal.now (Placed.Sent id)) }
-    ensures err { OnErr result (cluster.new ≡ cluster.old) }
+/// The message of this number that a proposal becomes.
+pub fn message_from(cluster: &Cluster, id: MsgId, proposal: &Proposal) -> Message
+    ensures { result ≡ message_from cluster.now id proposal.now }
 {
-    let message = Message {
+    Message {
         id,
         session: proposal.session,
         part: proposal.part,
@@ -61,7 +58,17 @@ fn send(cluster: &mut Cluster, id: MsgId, proposal: &Proposal) -> Result<(), All
         epoch: cluster.epoch,
         taken: false,
         written: false,
-    };
+    }
+}
+
+/// Sends a message.
+fn send(cluster: &mut Cluster, id: MsgId, proposal: &Proposal) -> Result<(), AllocError>
+    requires room { (cluster.old.next_msg + 1 < 2 ^ 64) × (cluster.old.change + 1 < 2 ^ 64) }
+    ensures ok { OnOk result (
+        cluster.new ≡ after_placed cluster.old proposal.now (Placed.Sent id)) }
+    ensures err { OnErr result (cluster.new ≡ cluster.old) }
+{
+    let message = message_from(cluster, id, proposal);
     cluster.mail.push(message)?;
     cluster.next_msg += 1;
     cluster.change += 1;

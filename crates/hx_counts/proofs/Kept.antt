@@ -17,31 +17,36 @@ both false b h = cc
 abbrev number_at : {K : Type 0} → (K → K → Bool) → List (K × ℕ) → K → ℕ
 number_at is es q = unwrap_or (lookup (is q) es) 0
 
+-- a test of keys tells which are the same
+pub record TellsKeys {K : Type 0} (is : K → K → Bool) : Type 0 where
+  same : (a b : K) → is a b ≡ true → a ≡ b
+  turn : (a b : K) → is a b ≡ is b a
+
 -- one more under a key
-raised : {K : Type 0} (is : K → K → Bool) → ((a b : K) → is a b ≡ true → a ≡ b) → ((a b : K) → is a b ≡ is b a) → (key q : K) (es new : List (K × ℕ))
+pub raised : {K : Type 0} (is : K → K → Bool) → TellsKeys is → (key q : K) (es new : List (K × ℕ))
     → lookup (is q) new ≡ (if is key q then Some (number_at is es key + 1) else lookup (is q) es)
     → number_at is new q ≡ number_at is es q + (if is q key then 1 else 0)
-raised is same turn key q es new h = ap (λ (o : Option ℕ). unwrap_or o 0) h ∙ one (is key q) refl ∙ ap (λ (b : Bool). number_at is es q + (if b then 1 else 0)) (turn key q)
+raised is tells key q es new h = ap (λ (o : Option ℕ). unwrap_or o 0) h ∙ one (is key q) refl ∙ ap (λ (b : Bool). number_at is es q + (if b then 1 else 0)) (tells.turn key q)
   where
     one : (b : Bool) → is key q ≡ b → unwrap_or (if b then Some (number_at is es key + 1) else lookup (is q) es) 0 ≡ number_at is es q + (if b then 1 else 0)
-    one true e = ap (λ x. number_at is es x + 1) (same key q e)
+    one true e = ap (λ x. number_at is es x + 1) (tells.same key q e)
     one false e = omega arith
 
 -- one less
-lowered : {K : Type 0} (is : K → K → Bool) → ((a b : K) → is a b ≡ true → a ≡ b) → ((a b : K) → is a b ≡ is b a) → (key q : K) (es new : List (K × ℕ)) → 0 < number_at is es key
+pub lowered : {K : Type 0} (is : K → K → Bool) → TellsKeys is → (key q : K) (es new : List (K × ℕ)) → 0 < number_at is es key
     → number_at is new q ≡ (if is key q then number_at is es key - 1 else number_at is es q)
     → number_at is new q + (if is q key then 1 else 0) ≡ number_at is es q
-lowered is same turn key q es new some h = ap (λ (b : Bool). number_at is new q + (if b then 1 else 0)) (turn q key) ∙ one (is key q) refl h
+lowered is tells key q es new some h = ap (λ (b : Bool). number_at is new q + (if b then 1 else 0)) (tells.turn q key) ∙ one (is key q) refl h
   where
     one : (b : Bool) → is key q ≡ b → number_at is new q ≡ (if b then number_at is es key - 1 else number_at is es q) → number_at is new q + (if b then 1 else 0) ≡ number_at is es q
-    one true e h = let this : number_at is es key ≡ number_at is es q = ap (λ x. number_at is es x) (same key q e) in omega arith
+    one true e h = let this : number_at is es key ≡ number_at is es q = ap (λ x. number_at is es x) (tells.same key q e) in omega arith
     one false e h = omega arith
 
 -- keys that are the same
-abbrev end_is : PartId × StateId → PartId × StateId → Bool
+abbrev pub end_is : PartId × StateId → PartId × StateId → Bool
 end_is a b = is_end a.0 a.1 b
 
-abbrev load_is : ℕ × ℕ → ℕ × ℕ → Bool
+abbrev pub load_is : ℕ × ℕ → ℕ × ℕ → Bool
 load_is a b = is_load a.0 a.1 b
 
 end_same : (a b : PartId × StateId) → end_is a b ≡ true → a ≡ b
@@ -53,9 +58,6 @@ end_same a b h =
     let s = eqb-true a.1.0 b.1.0 x.1 in
     λ i. (record { resource = record { 0 = r i }; index = k i }, record { 0 = s i })
 
-end_turn : (a b : PartId × StateId) → end_is a b ≡ end_is b a
-end_turn a b = grind (arith, nat_tests)
-
 load_same : (a b : ℕ × ℕ) → load_is a b ≡ true → a ≡ b
 load_same a b h =
     let x = both (a.0 == b.0) (a.1 == b.1) h in
@@ -63,25 +65,8 @@ load_same a b h =
     let k = eqb-true a.1 b.1 x.1 in
     λ i. (r i, k i)
 
-load_turn : (a b : ℕ × ℕ) → load_is a b ≡ load_is b a
-load_turn a b = grind (arith, nat_tests)
+pub ends_tell : TellsKeys end_is
+ends_tell = record { same = end_same; turn = λ a b. grind (arith, nat_tests) }
 
-pub end_raised : (key q : PartId × StateId) (es new : List ((PartId × StateId) × ℕ))
-    → lookup (end_is q) new ≡ (if end_is key q then Some (number_at end_is es key + 1) else lookup (end_is q) es)
-    → number_at end_is new q ≡ number_at end_is es q + (if end_is q key then 1 else 0)
-end_raised = raised end_is end_same end_turn
-
-pub end_lowered : (key q : PartId × StateId) (es new : List ((PartId × StateId) × ℕ)) → 0 < number_at end_is es key
-    → number_at end_is new q ≡ (if end_is key q then number_at end_is es key - 1 else number_at end_is es q)
-    → number_at end_is new q + (if end_is q key then 1 else 0) ≡ number_at end_is es q
-end_lowered = lowered end_is end_same end_turn
-
-pub load_raised : (key q : ℕ × ℕ) (es new : List ((ℕ × ℕ) × ℕ))
-    → lookup (load_is q) new ≡ (if load_is key q then Some (number_at load_is es key + 1) else lookup (load_is q) es)
-    → number_at load_is new q ≡ number_at load_is es q + (if load_is q key then 1 else 0)
-load_raised = raised load_is load_same load_turn
-
-pub load_lowered : (key q : ℕ × ℕ) (es new : List ((ℕ × ℕ) × ℕ)) → 0 < number_at load_is es key
-    → number_at load_is new q ≡ (if load_is key q then number_at load_is es key - 1 else number_at load_is es q)
-    → number_at load_is new q + (if load_is q key then 1 else 0) ≡ number_at load_is es q
-load_lowered = lowered load_is load_same load_turn
+pub loads_tell : TellsKeys load_is
+loads_tell = record { same = load_same; turn = λ a b. grind (arith, nat_tests) }

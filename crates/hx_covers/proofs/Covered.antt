@@ -323,38 +323,37 @@ post_case : (c : Cluster) (turns : ControllerId → Turn) (begun : ControllerId 
 post_case c turns begun h k e true s step quiet other first at = absurd (idle_falls (next c e) k first at)
 post_case c turns begun h k e false s step quiet other first at = other_event c turns begun h k e s step quiet other at
 
+-- a read, which leaves the cluster as it is: the controller's own that is due goes on, and another's changes nothing of its turn
+read_case : (c : Cluster) (turns : ControllerId → Turn) (begun : ControllerId → List Message) (h : List Event) (k : ControllerId) (e : Event) (b due : Bool) (after : Turn) → IsCoverage c turns begun h → IsStep c e
+    → next c e ≡ c → is_dispatch e ≡ false → ends_pass k e ≡ false → begins_by k c.epoch e ≡ true → stands c k after ≡ stands c k (turns k)
+    → (due ≡ true → list_all (begins_by k c.epoch) (h ++ e ∷ []) ≡ true → IsCovered c k (turns k) (begun k) h → IsCovered c k after (begun k) (h ++ e ∷ []))
+    → stands c k (if b then if_due due after else turns k) ≡ true → IsCovered c k (if b then if_due due after else turns k) (begun k) (h ++ e ∷ [])
+read_case c turns begun h k e b due after s step same quiet other free as_before own at =
+    own_read c k b due (turns k) after (begun k) (h ++ e ∷ []) s.first
+    (λ is st. let cov = s.covered k (sym as_before ∙ st) in own is (begins_next c c k h e cov.begins refl free) cov)
+    (λ ne st. subst (λ (d : Cluster). IsCovered d k (turns k) (begun k) (h ++ e ∷ [])) same
+    (other_event c turns begun h k e s step quiet other (subst (λ (d : Cluster). stands d k (turns k) ≡ true) (sym same) st))) at
+
 covered_next : (c : Cluster) (turns : ControllerId → Turn) (begun : ControllerId → List Message) (h : List Event) (k : ControllerId) (e : Event) → IsCoverage c turns begun h → IsStep c e
     → IsInEpoch turns e → 1 ≤ (next c e).epoch.0 → stands (next c e) k (turn_after c k (turns k) e) ≡ true
     → IsCovered (next c e) k (turn_after c k (turns k) e) (mail_begun_after c k (begun k) e) (h ++ e ∷ [])
 covered_next c turns begun h k (events.Begin j answer) s step proper first at = own_begin c turns begun h k j answer (j.0 == k.0) refl s step at
 covered_next c turns begun h k (events.Live j pass) s step proper first at =
     let t = turns k in
-    let e = events.Live j pass in
-    own_read c k (j.0 == k.0) (is_due t Live pass) t (with_live c t) (begun k) (h ++ e ∷ []) s.first
-    (λ due st. let cov = s.covered k st in covered_live c k t (begun k) h (h ++ e ∷ []) (begins_next c c k h e cov.begins refl refl) cov)
-    (λ ne st. other_event c turns begun h k e s step refl refl st) at
+    read_case c turns begun h k (events.Live j pass) (j.0 == k.0) (is_due t Live pass) (with_live c t) s step refl refl refl refl refl
+    (λ due begins cov. covered_live c k t (begun k) h (h ++ events.Live j pass ∷ []) begins cov) at
 covered_next c turns begun h k (events.Mail j pass u) s step proper first at =
     let t = turns k in
-    let e = events.Mail j pass u in
-    own_read c k (j.0 == k.0) (is_due t (Mail u) pass) t (gone_on t (with_mail c u t.view)) (begun k) (h ++ e ∷ []) s.first
-    (λ due st. let cov = s.covered k st in
-    due_mail c k t.begun t.view t.left u (begun k) h (h ++ e ∷ []) (and-first (is_first (Mail u) t.left) (pass.0 == t.begun.pass.0) due) (begins_next c c k h e cov.begins refl refl) cov)
-    (λ ne st. other_event c turns begun h k e s step refl refl st) at
+    read_case c turns begun h k (events.Mail j pass u) (j.0 == k.0) (is_due t (Mail u) pass) (gone_on t (with_mail c u t.view)) s step refl refl refl refl refl
+    (λ due. due_mail c k t.begun t.view t.left u (begun k) h (h ++ events.Mail j pass u ∷ []) (and-first (is_first (Mail u) t.left) (pass.0 == t.begun.pass.0) due)) at
 covered_next c turns begun h k (events.States j pass u) s step proper first at =
     let t = turns k in
-    let e = events.States j pass u in
-    own_read c k (j.0 == k.0) (is_due t (States u) pass) t (gone_on t (with_states c u t.view)) (begun k) (h ++ e ∷ []) s.first
-    (λ due st. let cov = s.covered k st in
-    due_states c k t.begun t.view t.left u (begun k) h (h ++ e ∷ []) (s.turn k).unread (and-first (is_first (States u) t.left) (pass.0 == t.begun.pass.0) due)
-    (begins_next c c k h e cov.begins refl refl) cov)
-    (λ ne st. other_event c turns begun h k e s step refl refl st) at
+    read_case c turns begun h k (events.States j pass u) (j.0 == k.0) (is_due t (States u) pass) (gone_on t (with_states c u t.view)) s step refl refl refl refl refl
+    (λ due. due_states c k t.begun t.view t.left u (begun k) h (h ++ events.States j pass u ∷ []) (s.turn k).unread (and-first (is_first (States u) t.left) (pass.0 == t.begun.pass.0) due)) at
 covered_next c turns begun h k (events.Ideals j pass) s step proper first at =
     let t = turns k in
-    let e = events.Ideals j pass in
-    own_read c k (j.0 == k.0) (is_due t Ideals pass) t (gone_on t (beside t.view c)) (begun k) (h ++ e ∷ []) s.first
-    (λ due st. let cov = s.covered k st in
-    due_ideals c k t.begun t.view t.left (begun k) h (h ++ e ∷ []) (and-first (is_first Ideals t.left) (pass.0 == t.begun.pass.0) due) (begins_next c c k h e cov.begins refl refl) cov)
-    (λ ne st. other_event c turns begun h k e s step refl refl st) at
+    read_case c turns begun h k (events.Ideals j pass) (j.0 == k.0) (is_due t Ideals pass) (gone_on t (beside t.view c)) s step refl refl refl refl refl
+    (λ due. due_ideals c k t.begun t.view t.left (begun k) h (h ++ events.Ideals j pass ∷ []) (and-first (is_first Ideals t.left) (pass.0 == t.begun.pass.0) due)) at
 covered_next c turns begun h k (events.Dispatch j epoch pass proposals answer) s step proper first at =
     let t = turns k in
     let e = events.Dispatch j epoch pass proposals answer in

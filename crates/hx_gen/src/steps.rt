@@ -1,8 +1,8 @@
 //! The next transition of each target.
-ghost use Rattle.std.specs.Prelude.{◌≡◌, ◌<◌, ◌==◌, ◌&&◌, ◌||◌, ◌++◌, [], true, length, None};
-ghost use Rattle.std.specs.Prelude.{slice_index_or, unwrap_or, option_map, IfOk, OnOk};
+ghost use Rattle.std.specs.Prelude.{◌≡◌, ◌<◌, ◌==◌, ◌&&◌, ◌||◌, true, length, None};
+ghost use Rattle.std.specs.Prelude.{slice_index_or, unwrap_or, option_map, IfOk};
 ghost use Rattle.std.specs.Option.{is_some};
-ghost use Rattle.std.specs.List.{list_all, list_any, filter_map, cons_option};
+ghost use Rattle.std.specs.List.{list_all, list_any, filter_map};
 ghost use Rattle.hx_model.specs.Faults.{fault_of};
 ghost use Rattle.hx_model.specs.Model.{has_state as has_state_of};
 ghost use Rattle.hx_cluster.specs.Ends.{model_of, no_model, message_of};
@@ -11,6 +11,7 @@ ghost use Rattle.hx_gen.specs.Candidates.{is_at_goal as is_at_goal_of, hop_of, c
 ghost use Rattle.hx_gen.specs.Stage.{has_model, ranked_as, ranked_by};
 
 use crate::Ranked;
+use hx_best::push_some;
 use hx_cluster::{Candidate, Message, Target, View, message_on};
 use hx_hops::Hops;
 use hx_ids::{ResourceId, StateId};
@@ -207,16 +208,4 @@ fn is_among(states: &[StateId], state: StateId) -> bool
     ensures { result ≡ list_any (λ s. s.0 == state.0) states.now }
 {
     states.iter().any(|s| *s == state)
-}
-
-fn push_some(ranked: &mut Vec<Ranked>, next: Option<Ranked>) -> Result<(), AllocError>
-    ensures { OnOk result (ranked.new.items ≡ ranked.old.items ++ cons_option next []) }
-{
-    match next {
-        Some(next) => {
-            ranked.push(next)?;
-            Ok(())
-        }
-        None => Ok(()),
-    }
 }

@@ -1,12 +1,13 @@
 -- Why the mail is read before the states: a pass that reads them the other way plans what a bound refuses.
-use Rattle.std.specs.Prelude.{◌≡◌, ℕ, refl, List, [], ◌∷◌, ◌++◌, true, false, None, Some}
-use Rattle.hx_ids.specs.Words.{instance, state, model, session, message, epoch, pass, part, live, controller}
+use Rattle.std.specs.Prelude.{◌≡◌, ℕ, refl, List, [], ◌∷◌, ◌++◌, true, false, Some, codes}
+use Rattle.hx_ids.specs.Words.{instance, session, message, epoch, pass, part, live, controller}
 use Rattle.hx_ids.specs.declared.StateId.{StateId}
 use Rattle.hx_ids.specs.declared.PartId.{PartId}
 use Rattle.hx_model.specs.declared.ModelParts.{ModelParts}
 use Rattle.hx_model.specs.Builtin.{one_leads}
 use Rattle.hx_ideal.specs.declared.Mode.{Mode}
 use Rattle.hx_ideal.specs.declared.Mode.TheVariants as modes
+use Rattle.hx_cluster.specs.declared.description.Spec.{Spec}
 use Rattle.hx_cluster.specs.declared.state.Row.{Row}
 use Rattle.hx_cluster.specs.declared.state.Message.{Message}
 use Rattle.hx_cluster.specs.declared.state.Cluster.{Cluster}
@@ -16,13 +17,14 @@ use Rattle.hx_cluster.specs.declared.happenings.Placed.TheVariants as placings
 use Rattle.hx_cluster.specs.declared.happenings.Outcome.TheVariants as outcomes
 use Rattle.hx_cluster.specs.declared.happenings.Event.TheVariants as events
 use Rattle.hx_cluster.specs.Reads.{live_shown, mail_shown, states_shown, ideals_shown}
+use Rattle.hx_cluster.specs.Steps.{opening}
 use Rattle.hx_cluster.specs.Messages.{placed_all}
 use Rattle.hx_cluster.specs.Events.{replay}
 use Rattle.hx_cluster.specs.Views.{is_well_formed}
 use Rattle.hx_pass.specs.Plans.{plan}
 use Rattle.hx_covers.specs.Gate.{Shows}
 use Rattle.hx_lawful.specs.Unrefused.{is_unrefused}
-use Rattle.hx_pass.proofs.Examples.{master, slave, offline}
+use Rattle.hx_pass.proofs.Examples.{master, slave, offline, placed}
 
 abbrev pub models : List ModelParts
 models = one_leads master slave offline ∷ []
@@ -47,29 +49,32 @@ under_way from to = record {
   written = false;
 }
 
--- two instances with a session each, and one part, of which two replicas may be wanted
+-- two instances, and one part, of which two replicas may be wanted
+abbrev description : Mode → Spec
+description mode = record {
+  instances = codes "n1" ∷ codes "n2" ∷ [];
+  states = codes "ERROR" ∷ codes "DROPPED" ∷ codes "MASTER" ∷ codes "SLAVE" ∷ codes "OFFLINE" ∷ codes "ONLINE" ∷ [];
+  resource_names = codes "db" ∷ [];
+  model_names = codes "OneLeads" ∷ [];
+  models = models;
+  controllers = 1;
+  timeout = 30;
+  rules = [];
+  resources = placed 0 2 1 mode ∷ [];
+  failures = [];
+}
+
+-- its board in a third pass, with a session of each instance
 abbrev pub cluster : Mode → List Row → List Message → Cluster
-cluster mode rows mail = record {
-  instances = false ∷ false ∷ [];
-  resources = record { name = 0; model = model 0; ideal = record { replicas = 2; parts = 1; mode = mode }; dropped = false } ∷ [];
+cluster mode rows mail = record (opening (description mode)) {
   live = live 1 0 0 ∷ live 2 1 0 ∷ [];
   rows = rows;
   mail = mail;
-  resets = [];
   leader = Some (controller 0);
-  epoch = epoch 1;
   controllers = (false, pass 3) ∷ [];
-  clock = 0;
-  line = None;
   change = 10;
-  posted = [];
   next_session = 3;
   next_msg = 4;
-  timeout = 30;
-  models = models;
-  rules = [];
-  states = 6;
-  resource_names = 1;
 }
 
 -- the first session's replica is to be a master. Since its message was sent, the list was turned round: the second instance comes first now

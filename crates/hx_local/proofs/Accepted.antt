@@ -24,7 +24,8 @@ use Rattle.hx_gen.proofs.Ranks.{before_ranks}
 use Rattle.hx_gen.specs.Candidates.{is_at_goal, hop_of, candidate_of, comes_before, rank_in, candidates}
 use Rattle.hx_select.specs.Selection.{shown_sessions, goes_to, filling, limit_for, has_room, accepted_of}
 use Rattle.hx_local.specs.Local.{accepted_in}
-use Rattle.hx_local.proofs.Sorted.{rises, rises-sort, rises-chosen, rises-wider, sorted_rises, sort-filter}
+use Rattle.hx_parts.proofs.Rising.{rises, rises-sort}
+use Rattle.hx_local.proofs.Sorted.{rises-chosen, rises-wider, sorted_rises, sort-filter}
 use Rattle.hx_local.proofs.Filtered.{filter-wider, filter-map_none, filter-flat_map, filter-filter_map, filter-chosen}
 use Rattle.hx_local.proofs.Marked.{part_is}
 use Rattle.hx_local.proofs.Alone.{alone, targets_alone}

@@ -18,7 +18,8 @@ use Rattle.hx_cluster.specs.Ends.{part_eq, is_row, is_message, is_shown, model_o
 use Rattle.hx_cluster.specs.Views.{is_good_part, is_good_state, is_good_row, is_good_message, is_well_formed}
 use Rattle.hx_parts.specs.Parts.{items_at}
 use Rattle.hx_local.specs.Local.{IsAlike, ShowSame, DifferWithin, narrowed}
-use Rattle.hx_local.proofs.Sorted.{both, all-filter}
+use Rattle.hx_lists.proofs.Conditions.{all-filter}
+use Rattle.hx_parts.proofs.Rising.{both}
 use Rattle.hx_local.proofs.Filtered.{filter-wider}
 use Rattle.hx_local.proofs.Marked.{part_is, marked_kept, others_out}
 use Rattle.hx_local.proofs.Again.{narrowed_alike, narrowed_shows}
@@ -66,21 +67,19 @@ module _ {X : Type 0} (part_of : X → PartId) (marked : PartId → Bool) (earli
       let agree = all-agree kept new (λ x. marked (part_of x)) as_kept xs in
       grind (arith, split, agree, others)
 
+-- as many items of a part pass a test that only items of the part pass, where the items of the part are the same
+as_many : {X : Type 0} (part_of : X → PartId) (p : PartId) (test : X → Bool) → ((x : X) → test x ≡ true → part_eq (part_of x) p ≡ true) → (xs ys : List X)
+    → items_at part_of p xs ≡ items_at part_of p ys → count test xs ≡ count test ys
+as_many part_of p test mine xs ys same =
+    ap length (sym (filter-wider test (λ x. part_eq (part_of x) p) mine xs)) ∙ ap (count test) same ∙ ap length (filter-wider test (λ x. part_eq (part_of x) p) mine ys)
+
 -- how many rows and messages a session has of a part is what a view shows of the part
 module _ (v w : View) (p : PartId) (same : ShowSame v w p) where
   rows_as_many : (s : SessionId) → count (is_row s p) v.rows ≡ count (is_row s p) w.rows
-  rows_as_many s =
-      let mine : (r : Row) → is_row s p r ≡ true → part_eq r.part p ≡ true = λ r e. (both (r.session.0 == s.0) (part_eq r.part p) e).1 in
-      ap length (sym (filter-wider (is_row s p) (λ r. part_eq r.part p) mine v.rows))
-      ∙ ap (count (is_row s p)) same.rows
-      ∙ ap length (filter-wider (is_row s p) (λ r. part_eq r.part p) mine w.rows)
+  rows_as_many s = as_many (λ r. r.part) p (is_row s p) (λ r e. (both (r.session.0 == s.0) (part_eq r.part p) e).1) v.rows w.rows same.rows
 
   mail_as_many : (s : SessionId) → count (is_message s p) v.mail ≡ count (is_message s p) w.mail
-  mail_as_many s =
-      let mine : (m : Message) → is_message s p m ≡ true → part_eq m.part p ≡ true = λ m e. (both (m.session.0 == s.0) (part_eq m.part p) e).1 in
-      ap length (sym (filter-wider (is_message s p) (λ m. part_eq m.part p) mine v.mail))
-      ∙ ap (count (is_message s p)) same.mail
-      ∙ ap length (filter-wider (is_message s p) (λ m. part_eq m.part p) mine w.mail)
+  mail_as_many s = as_many (λ m. m.part) p (is_message s p) (λ m e. (both (m.session.0 == s.0) (part_eq m.part p) e).1) v.mail w.mail same.mail
 
 -- which parts and states are good depends on the sessions and on what is wanted
 module _ (models : List ModelParts) (v w : View) (alike : IsAlike v w) where

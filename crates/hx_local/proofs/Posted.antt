@@ -15,7 +15,8 @@ use Rattle.hx_parts.specs.Parts.{items_at, IsByPart}
 use Rattle.hx_pass.specs.Turns.{seen_before, seen_of, posted_of}
 use Rattle.hx_marks.specs.Marks.{IsSpliced}
 use Rattle.hx_local.specs.Local.{IsAlike, ShowSame, DifferWithin, narrowed}
-use Rattle.hx_local.proofs.Sorted.{rises-sort, rises-wider, sorted_rises, sort-filter}
+use Rattle.hx_parts.proofs.Rising.{rises-sort}
+use Rattle.hx_local.proofs.Sorted.{rises-wider, sorted_rises, sort-filter}
 use Rattle.hx_local.proofs.Filtered.{map-agree, filter-map}
 use Rattle.hx_local.proofs.OneByPart.{one_by_part}
 use Rattle.hx_local.proofs.Again.{narrowed_alike, narrowed_shows}

@@ -1,3 +1,4 @@
+pub mod AcceptedOf
 pub mod Examples
 mod PreferenceList
 mod BoundReached

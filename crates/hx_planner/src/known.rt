@@ -23,6 +23,14 @@ use hx_same::Same;
 use std::alloc::{AllocError, Global};
 use std::marker;
 
+/// A description, with the hops of its models.
+#[derive(Drop)]
+pub(crate) struct Described<'a> {
+    pub spec: &'a Spec,
+    pub hops: &'a [Hops],
+    ghost hops_are: { hops.now ≡ spec.now.models },
+}
+
 /// A view that is well formed with the models and the number of instances of a description, and
 /// what a pass finds of it: the accepted candidates, and the rows to post. Contracts see the first
 /// three.
@@ -95,13 +103,12 @@ impl Known {
     /// What there is to know of a view, if it is well formed with a description.
     pub fn of(
         alloc: Global,
-        spec: &Spec,
-        hops: &[Hops],
+        described: &Described,
         view: &View,
     ) -> Result<Option<Known>, AllocError>
-        requires { hops.now ≡ spec.now.models }
-        ensures { IfOk result (λ known. IsKnownOf spec.now view.now known) }
+        ensures { IfOk result (λ known. IsKnownOf described.now.spec.now view.now known) }
     {
+        let Described { spec, hops } = *described;
         let models = spec.models.as_slice();
         let instances = spec.instances.len() as usize;
         if !is_well_formed(alloc, models, instances, view)? {

@@ -5,7 +5,7 @@ ghost use Rattle.hx_pass.specs.Drafts.{draft as draft_of};
 ghost use Rattle.hx_pass.specs.Turns.{posted_of};
 ghost use Rattle.hx_planner.specs.Known.{IsKnownOf};
 
-use crate::known::Known;
+use crate::known::{Described, Known};
 use hx_cluster::{Seen, Spec, View};
 use hx_hops::Hops;
 use hx_marks::Marks;
@@ -42,25 +42,23 @@ impl Planner {
     fn know(
         &mut self,
         alloc: Global,
-        spec: &Spec,
-        hops: &[Hops],
+        described: &Described,
         view: &View,
     ) -> Result<Option<Known>, AllocError>
-        requires { hops.now ≡ spec.now.models }
-        ensures known { IfOk result (λ known. IsKnownOf spec.now view.now known) }
+        ensures known { IfOk result (λ known. IsKnownOf described.now.spec.now view.now known) }
         ensures forgotten { self.new ≡ None }
     {
         let Some(known) = self.known.take() else {
-            return Known::of(alloc, spec, hops, view);
+            return Known::of(alloc, described, view);
         };
-        if !known.is_for(spec, view) {
-            return Known::of(alloc, spec, hops, view);
+        if !known.is_for(described.spec, view) {
+            return Known::of(alloc, described, view);
         }
         let mut marks = Marks::none(alloc, view.ideals.resources.as_slice())?;
         if !known.mark_changes(view, &mut marks) {
-            return Known::of(alloc, spec, hops, view);
+            return Known::of(alloc, described, view);
         }
-        known.again(alloc, hops, view, &marks)
+        known.again(alloc, described.hops, view, &marks)
     }
 
     /// The draft of a view, if it is well formed with the description. `hops` are those of the
@@ -82,7 +80,8 @@ impl Planner {
         ensures planned { IfOk result (λ draft.
             MatchOption draft (self.new ≡ None) (λ _. self.new ≡ Some view.now)) }
     {
-        let Some(known) = self.know(alloc, spec, hops, view)? else {
+        let described = Described { spec, hops };
+        let Some(known) = self.know(alloc, &described, view)? else {
             return Ok(None);
         };
         let draft = draft_of_accepted(alloc, spec, view, known.accepted())?;

@@ -1,3 +1,4 @@
+pub mod Making
 pub mod Places
 pub mod Reached
 pub mod Records

@@ -14,8 +14,8 @@ ghost use Rattle.hx_records.specs.Reached.{IsReached};
 ghost use Rattle.hx_records.specs.Records.{unsent, IsAnswered, IsPlacedFrom};
 
 use crate::Records;
-use hx_calls::raise_pass;
-use hx_cluster::{Dispatched, Message, Placed, Proposal, Rule};
+use hx_calls::{message_from, raise_pass};
+use hx_cluster::{Dispatched, Placed, Proposal, Rule};
 use hx_ids::{ControllerId, InstanceId, MsgId, PartId, SessionId, StateId};
 use hx_lists::Seq;
 use hx_model::limit;
@@ -114,16 +114,11 @@ impl Records {
         requires has { has ≡ state_of self.now.rows proposal.now.session proposal.now.part }
         ensures { IfOk result (λ placed. placed ≡ placed_of self.now proposal.now) }
     {
-        let Proposal {
-            session,
-            part,
-            from,
-            to,
-        } = *proposal;
+        let Proposal { part, from, to, .. } = *proposal;
         if self.rest.is_dropped(part.resource) && has.is_none() {
             return Ok(Placed::ResourceDropped);
         }
-        if let Some(message) = self.slots.message(session, part) {
+        if let Some(message) = self.slots.message(proposal.session, part) {
             return Ok(Placed::Busy { id: message.id });
         }
         if has.unwrap_or(self.rest.initial_of(part)) != from {
@@ -153,17 +148,7 @@ impl Records {
             self.new ≡ after_placed self.old proposal.now (Placed.Sent id)) }
         ensures err { OnErr result (self.new ≡ self.old) }
     {
-        let message = Message {
-            id,
-            session: proposal.session,
-            part: proposal.part,
-            from: proposal.from,
-            to: proposal.to,
-            initial: self.rest.initial_of(proposal.part),
-            epoch: self.rest.epoch,
-            taken: false,
-            written: false,
-        };
+        let message = message_from(&self.rest, id, proposal);
         raise(&self.rest, &mut self.counts, instance, has, &message)?;
         if self.slots.send(message).is_err() {
             lower(&self.rest, &mut self.counts, instance, has, &message);

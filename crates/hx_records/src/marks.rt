@@ -33,22 +33,6 @@ fn leave(rest: &Cluster, counts: &mut Counts, has: Option<StateId>, message: &Me
 }
 
 impl Records {
-    /// The message that a session may take, or the first cause why it may not.
-    fn takeable(&self, session: SessionId, id: MsgId) -> Result<Message, TakeFault>
-        ensures refused { RefusedAs (take_refusal self.now session id) result }
-        ensures message { IfOk result (λ m. pending_of self.now session id ≡ Some m) }
-        ensures free { IfOk result (λ m. m.taken ≡ false) }
-    {
-        if !self.is_live(session) {
-            return Err(TakeFault::SessionEnded);
-        }
-        match self.slots.pending(session, id) {
-            None => Err(TakeFault::NoMessage),
-            Some(message) if message.taken => Err(TakeFault::AlreadyTaken),
-            Some(message) => Ok(message),
-        }
-    }
-
     /// The message whose outcome a session may write, or the first cause why it may not.
     fn writable(&self, session: SessionId, id: MsgId) -> Result<Message, WriteRefusal>
         ensures refused { RefusedAs (write_refusal self.now session id) result }
@@ -153,7 +137,15 @@ impl Records {
         ensures ok { OnOk result (self.new ≡ next self.old (Event.Take session id)) }
         ensures err { OnErr result (self.new ≡ self.old) }
     {
-        let message = self.takeable(session, id)?;
+        if !self.is_live(session) {
+            return Err(TakeFault::SessionEnded);
+        }
+        let Some(message) = self.slots.pending(session, id) else {
+            return Err(TakeFault::NoMessage);
+        };
+        if message.taken {
+            return Err(TakeFault::AlreadyTaken);
+        }
         self.mark_taken(&message);
         Ok(())
     }

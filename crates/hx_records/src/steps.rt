@@ -5,6 +5,7 @@ ghost use Rattle.hx_cluster.specs.Numbered.{is_end};
 ghost use Rattle.hx_cluster.specs.Room.{HasRoom};
 ghost use Rattle.hx_safe.proofs.Beside.{is_aside};
 ghost use Rattle.hx_safe.proofs.Whole.{IsWhole};
+ghost use Rattle.hx_records.specs.Making.{IsMakeable};
 ghost use Rattle.hx_records.specs.Reached.{IsReached};
 
 use crate::Records;
@@ -105,9 +106,7 @@ impl Records {
     /// Makes a step that is no join, end, beat, tick or reset.
     fn make_aside(&mut self, step: &Admin, did: &Did) -> Result<(), AllocError>
         requires aside { is_aside step.now ≡ true }
-        requires may { refusal_of self.old step.now ≡ None }
-        requires did { did.now ≡ did_of self.old step.now }
-        requires range { is_in_range self.old step.now ≡ true }
+        requires may { IsMakeable self.old step.now did.now }
         requires whole { IsWhole self.old }
         requires room { HasRoom self.old }
         ensures ok { OnOk result (self.new ≡ after self.old step.now) }

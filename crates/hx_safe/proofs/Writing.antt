@@ -203,17 +203,19 @@ kept_written c s id m outcome k found taken =
         let same : state_of (row_put c.rows m.session m.part (state_after m outcome)) x.session x.part ≡ state_of c.rows x.session x.part = put-other c.rows m.session x.session m.part x.part (state_after m outcome) (grind (arith, nat_tests, e)) in
         grind (arith, w, same)
 
+-- a message whose outcome may be written was taken, and isn't written
+pub taken_unwritten : (live taken written : Bool)
+    → is_none (if live then (if not taken then Some writes.NotTaken else if written then Some writes.AlreadyWritten else None) else Some writes.SessionEnded) ≡ true
+    → (taken ≡ true) × (written ≡ false)
+taken_unwritten false taken written e = cc
+taken_unwritten true false written e = cc
+taken_unwritten true true true e = cc
+taken_unwritten true true false e = (refl, refl)
+
 pub kept_write : (c : Cluster) (s : SessionId) (id : MsgId) (outcome : Outcome) → IsKept c → can_write c s id ≡ true → IsKept (after_write c s id outcome)
 kept_write c s id outcome k can = one (is_live c.live s) (pending_of c s id) refl can
   where
-    taken_if : (live taken written : Bool)
-        → is_none (if live then (if not taken then Some writes.NotTaken else if written then Some writes.AlreadyWritten else None) else Some writes.SessionEnded) ≡ true
-        → taken ≡ true
-    taken_if false taken written e = cc
-    taken_if true false written e = cc
-    taken_if true true written e = refl
-
     one : (live : Bool) (o : Option Message) → pending_of c s id ≡ o → is_none (if live then write_fault o else Some writes.SessionEnded) ≡ true
         → IsKept (written_of c s id outcome o)
     one live None is e = k
-    one live (Some m) is e = kept_written c s id m outcome k is (taken_if live m.taken m.written e)
+    one live (Some m) is e = kept_written c s id m outcome k is (taken_unwritten live m.taken m.written e).0

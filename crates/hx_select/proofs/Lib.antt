@@ -1,4 +1,3 @@
-pub mod OneSelection
 pub mod Filling
 pub mod Walk
 pub mod PartFilling

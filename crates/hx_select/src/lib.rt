@@ -79,7 +79,6 @@ pub fn accepted_on(
 }
 
 /// The bounds name exactly one list of candidates, the accepted ones.
-#[tactic(auto, using(crate::proofs::OneSelection::some_selection))]
 pub fn bounds_name_one_list()
     ensures some { (models : List ModelParts) (view : View) (candidates : List Candidate) → (marks : List Bool) × IsSelection models view candidates marks × (items_where_true marks candidates ≡ accepted_of models view candidates) }
     ensures one { (models : List ModelParts) (view : View) (candidates : List Candidate) (a b : List Bool) → IsSelection models view candidates a → IsSelection models view candidates b → a ≡ b }

@@ -25,6 +25,7 @@ use Rattle.hx_safe.proofs.Counting.{all-find}
 use Rattle.hx_safe.proofs.Models.{state_same, good_model}
 use Rattle.hx_safe.proofs.Ends.{part_same, same-self, find-filter_kept, find-filter_none, put-other, put-here}
 use Rattle.hx_safe.proofs.Kept.{IsKept}
+use Rattle.hx_safe.proofs.Writing.{taken_unwritten}
 use Rattle.hx_tallies.specs.Tallies.{is_free, is_limited, stands_at, IsRowLowered, IsUnchanged, IsCounted, IsLeft, IsPut}
 use Rattle.hx_tallies.proofs.Listed.{IsListed, listed_kept, end-is, count_changed, row_live, message_live}
 use Rattle.hx_tallies.proofs.Sent.{kept_less, message_there, counted_marked}
@@ -174,20 +175,12 @@ pub counted_write : (c : Cluster) (s : SessionId) (id : MsgId) (outcome : Outcom
     → IsCounted (after_write c s id outcome) k
 counted_write c s id outcome k kept old can = one (is_live c.live s) (pending_of c s id) refl can
   where
-    unwritten : (live taken written : Bool)
-        → is_none (if live then (if not taken then Some writes.NotTaken else if written then Some writes.AlreadyWritten else None) else Some writes.SessionEnded) ≡ true
-        → written ≡ false
-    unwritten false taken written e = cc
-    unwritten true false written e = cc
-    unwritten true true true e = cc
-    unwritten true true false e = refl
-
     one : (live : Bool) (o : Option Message) → pending_of c s id ≡ o → is_none (if live then write_fault o else Some writes.SessionEnded) ≡ true
         → IsCounted (after_write c s id outcome) k
     one live None is e = subst (λ (o : Option Message). IsCounted (written_of c s id outcome o) k) (sym is) old
     one live (Some m) is e =
         let pending = all-find (is_pending c) (has_id s id) c.mail m kept.mail.pending is in
-        counted_written c s id m outcome k k (listed_kept c kept) old is (put_still c m k pending (unwritten live m.taken m.written e))
+        counted_written c s id m outcome k k (listed_kept c kept) old is (put_still c m k pending (taken_unwritten live m.taken m.written e).1)
 
 -- a row that goes, where no message is pending
 ends-gone : (c : Cluster) (s : SessionId) (q : PartId) (x : StateId) → IsListed c → message_of c.mail s q ≡ None → state_of c.rows s q ≡ Some x → (p : PartId) (t : StateId)

@@ -258,19 +258,17 @@ counted-marked c f k same_ends same_loads old = record {
         was ∙ sym (count-map (is_counted (shown_of c.live) r key) f c.mail
         ∙ count-same (λ m. is_counted (shown_of c.live) r key (f m)) (is_counted (shown_of c.live) r key) (same_loads r key) c.mail)
 
+-- so does one that is marked or not
+counted-if : (c : Cluster) (mark : Message → Message) → ((r : Rule) (key : ℕ) (m : Message) → is_counted (shown_of c.live) r key (mark m) ≡ is_counted (shown_of c.live) r key m)
+    → (r : Rule) (key : ℕ) (m : Message) (b : Bool) → is_counted (shown_of c.live) r key (if b then mark m else m) ≡ is_counted (shown_of c.live) r key m
+counted-if c mark same r key m true = same r key m
+counted-if c mark same r key m false = refl
+
 pub counted_taken : (c : Cluster) (s : SessionId) (id : MsgId) (k : Numbers) → IsCounted c k → IsCounted (record c { mail = map (as_taken s id) c.mail }) k
-counted_taken c s id k old = counted-marked c (as_taken s id) k (λ u p t. end-taken c.mail s u id p t) (λ r key m. one r key m (has_id s id m)) old
-  where
-    one : (r : Rule) (key : ℕ) (m : Message) (b : Bool) → is_counted (shown_of c.live) r key (if b then record m { taken = true } else m) ≡ is_counted (shown_of c.live) r key m
-    one r key m true = refl
-    one r key m false = refl
+counted_taken c s id k old = counted-marked c (as_taken s id) k (λ u p t. end-taken c.mail s u id p t) (λ r key m. counted-if c (λ m. record m { taken = true }) (λ r key m. refl) r key m (has_id s id m)) old
 
 pub counted_marked : (c : Cluster) (s : SessionId) (id : MsgId) (k : Numbers) → IsCounted c k → IsCounted (record c { mail = map (as_written s id) c.mail }) k
-counted_marked c s id k old = counted-marked c (as_written s id) k (λ u p t. end-written c.mail s u id p t) (λ r key m. one r key m (has_id s id m)) old
-  where
-    one : (r : Rule) (key : ℕ) (m : Message) (b : Bool) → is_counted (shown_of c.live) r key (if b then record m { written = true } else m) ≡ is_counted (shown_of c.live) r key m
-    one r key m true = refl
-    one r key m false = refl
+counted_marked c s id k old = counted-marked c (as_written s id) k (λ u p t. end-written c.mail s u id p t) (λ r key m. counted-if c (λ m. record m { written = true }) (λ r key m. refl) r key m (has_id s id m)) old
 
 pub counted_take : (c : Cluster) (s : SessionId) (id : MsgId) (k : Numbers) → IsCounted c k → IsCounted (after_take c s id) k
 counted_take c s id k old = let all = counted_taken c s id k old in record { ends = all.ends; loads = all.loads }

@@ -1,4 +1,3 @@
-pub mod OneSending
 pub mod Finding
 pub mod Counting
 pub mod Walk

@@ -8,11 +8,8 @@ use Rattle.hx_parts.specs.Parts.{IsByPart}
 use Rattle.hx_best.specs.Targets.{all_targets}
 use Rattle.hx_best.specs.Still.{HasMoving}
 use Rattle.hx_gen.specs.Stage.{has_model}
-use Rattle.hx_gen.specs.Candidates.{candidates}
 use Rattle.hx_gen.proofs.Modelled.{all_targets-modelled}
-use Rattle.hx_gen.proofs.Moving.{candidates_same}
-use Rattle.hx_select.specs.Selection.{accepted_of}
-use Rattle.hx_pass.specs.Plans.{all_candidates}
+use Rattle.hx_pass.proofs.AcceptedOf.{accepted_same}
 use Rattle.hx_pass.proofs.accepted.Goals as goal
 use Rattle.hx_pass.proofs.accepted.Goals.{After-as_slice}
 
@@ -34,11 +31,6 @@ accepted_on-requires c =
     record { by_part = subst (λ (cs : List Candidate). IsByPart (λ c. c.part) cs) (sym c.as_slice-2.ensures.value) c.in_ok-candidates.ensures.by_part }
 
 pub returns : goal.returns
-returns c =
-    let models = c.args.models.now in
-    let view = c.args.view.now in
-    let made : c.in_ok-candidates.candidates.items ≡ all_candidates models view =
-    c.in_ok-candidates.ensures.found
-    ∙ candidates_same models view (all_targets models view) c.as_slice.result.now (moving (goal.at.returns c).After-as_slice) in
-    subst (λ (cs : List Candidate). IfOk c.accepted_on.result (λ accepted. accepted ≡ accepted_of models view cs)) (c.as_slice-2.ensures.value ∙ made)
-    (subst (λ (v : View). IfOk c.accepted_on.result (λ accepted. accepted ≡ accepted_of models v c.as_slice-2.result.now)) (c.shown.ensures ∙ c.in_ok-index.ensures) c.accepted_on.ensures)
+returns c = subst (λ (cs : List Candidate). IfOk c.accepted_on.result (λ accepted. accepted ≡ cs))
+    (accepted_same c.args.models.now c.args.view.now _ (all_targets c.args.models.now c.args.view.now) c.as_slice.result.now _ _ (moving (goal.at.returns c).After-as_slice)
+    c.in_ok-candidates.ensures.found c.as_slice-2.ensures.value (c.shown.ensures ∙ c.in_ok-index.ensures)) c.accepted_on.ensures

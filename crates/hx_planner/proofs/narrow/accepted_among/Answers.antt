@@ -7,13 +7,11 @@ use Rattle.hx_parts.specs.Parts.{IsByPart}
 use Rattle.hx_best.specs.Targets.{all_targets}
 use Rattle.hx_best.specs.Still.{HasMoving}
 use Rattle.hx_gen.specs.Stage.{has_model}
-use Rattle.hx_gen.specs.Candidates.{candidates}
 use Rattle.hx_gen.proofs.Modelled.{all_targets-modelled}
-use Rattle.hx_gen.proofs.Moving.{candidates_same}
-use Rattle.hx_select.specs.Selection.{accepted_of}
 use Rattle.hx_marks.specs.Marks.{is_marked}
 use Rattle.hx_local.specs.Local.{marked_targets}
 use Rattle.hx_lists.proofs.Conditions.{all-filter}
+use Rattle.hx_pass.proofs.AcceptedOf.{accepted_same}
 use Rattle.hx_planner.proofs.narrow.accepted_among.Goals as goal
 use Rattle.hx_planner.proofs.narrow.accepted_among.Goals.{After-as_slice}
 
@@ -37,11 +35,6 @@ accepted_on-requires c =
     record { by_part = subst (λ (cs : List Candidate). IsByPart (λ c. c.part) cs) (sym c.as_slice-2.ensures.value) c.in_ok-candidates.ensures.by_part }
 
 pub returns : goal.returns
-returns c =
-    let models = c.args.models.now in
-    let view = c.args.view.now in
-    let made : c.in_ok-candidates.candidates.items ≡ candidates models view (marked_targets models (is_marked c.args.marks.now) view) =
-    c.in_ok-candidates.ensures.found
-    ∙ candidates_same models view (marked_targets models (is_marked c.args.marks.now) view) c.as_slice.result.now (moving (goal.at.returns c).After-as_slice) in
-    subst (λ (cs : List Candidate). IfOk c.accepted_on.result (λ accepted. accepted ≡ accepted_of models view cs)) (c.as_slice-2.ensures.value ∙ made)
-    (subst (λ (v : View). IfOk c.accepted_on.result (λ accepted. accepted ≡ accepted_of models v c.as_slice-2.result.now)) (c.shown.ensures ∙ c.in_ok-index.ensures) c.accepted_on.ensures)
+returns c = subst (λ (cs : List Candidate). IfOk c.accepted_on.result (λ accepted. accepted ≡ cs))
+    (accepted_same c.args.models.now c.args.view.now _ (marked_targets c.args.models.now (is_marked c.args.marks.now) c.args.view.now) c.as_slice.result.now _ _ (moving (goal.at.returns c).After-as_slice)
+    c.in_ok-candidates.ensures.found c.as_slice-2.ensures.value (c.shown.ensures ∙ c.in_ok-index.ensures)) c.accepted_on.ensures

@@ -19,9 +19,7 @@ make_aside-requires c =
     let is = c.in_default in
     record {
       aside = aside_is c.args.step.now is.not-Join is.not-End is.not-Beat is.not-Tick is.not-Reset;
-      may = c.requires.may;
-      did = c.requires.did;
-      range = c.requires.range;
+      may = (c.requires.may, c.requires.did, c.requires.range);
       whole = whole_reached c.args.self.now c.requires.reached;
       room = c.requires.room;
     }

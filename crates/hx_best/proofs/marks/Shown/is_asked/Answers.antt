@@ -12,5 +12,5 @@ use Rattle.hx_best.proofs.marks.Shown.is_asked.Goals as goal
 pub returns : goal.returns
 returns c =
     subst (λ (x : Placing × PartId). c.has_flag.result ≡ is_asked x.0.view c.args.session x.1) c.self.view_is
-    (c.has_flag.ensures ∙ ap (list_any (is_flag c.args.session c.self.inside.part)) (c.resets_at.ensures ∙ ap (λ (view : View). items_at (λ f. f.1) c.self.inside.part view.ideals.resets) c.index.ensures)
+    (c.has_flag.ensures ∙ ap (list_any (is_flag c.args.session c.self.inside.part)) (c.resets_at.ensures ∙ ap (λ (view : View). items_at (λ f. f.1) c.self.inside.part view.ideals.resets) (c.shown-shown.ensures ∙ c.index.ensures))
     ∙ flag-at c.self.inside.places.now.view.ideals.resets c.args.session c.self.inside.part)

@@ -10,5 +10,5 @@ use Rattle.hx_gen.proofs.steps.Stage.ranked.Goals as goal
 pub loop-target-preserved : goal.loop-target-preserved
 loop-target-preserved c =
     let s = c.args.self.now in
-    ranked_more (λ t. option_map (ranked_as s) (candidate_of s.models s.view t)) c.loop-target.ranked.items c.push_some.new.ranked.items c.args.targets.now c.loop-target.target-index _ c.loop-target-test.true c.loop-target.invariant
+    ranked_more (λ t. option_map (ranked_as s) (candidate_of s.models s.view t)) c.loop-target.ranked.items c.push_some.new.items.items c.args.targets.now c.loop-target.target-index _ c.loop-target-test.true c.loop-target.invariant
     (c.in_ok-push_some.ensures ∙ ap (λ (o : Option Ranked). c.loop-target.ranked.items ++ cons_option o []) c.next.ensures)

@@ -5,5 +5,5 @@ use Rattle.hx_planner.proofs.known.Known.of.Goals as goal
 
 pub accepted-requires-clause-models : goal.accepted-requires-clause-models
 accepted-requires-clause-models c =
-    let formed : is_well_formed c.as_slice-models.result.now (length c.args.spec.now.instances) c.args.view.now ≡ true = search rules in
-    well_formed-modelled c.as_slice-models.result.now (length c.args.spec.now.instances) c.args.view.now formed
+    let formed : is_well_formed c.as_slice-models.result.now (length c.args.described.now.spec.now.instances) c.args.view.now ≡ true = search rules in
+    well_formed-modelled c.as_slice-models.result.now (length c.args.described.now.spec.now.instances) c.args.view.now formed
