@@ -1,40 +1,13 @@
 -- Verdicts, worked out: a log that is lawful, and one at fault by each cause.
-use Rattle.std.specs.Prelude.{◌≡◌, ℕ, false, List, [], ◌∷◌, ◌++◌, map, codes}
+use Rattle.std.specs.Prelude.{◌≡◌, ℕ, List, ◌++◌, codes}
 use Rattle.std.specs.Fmt.{digits}
 use Rattle.std.proofs.Common.{refl}
-use Rattle.hx_ids.specs.Words.{instance, state, model}
 use Rattle.hx_text.specs.Lines.{lines_of}
-use Rattle.hx_model.specs.Builtin.{one_leads, on_and_off}
-use Rattle.hx_ideal.specs.declared.Mode.TheVariants as modes
-use Rattle.hx_cluster.specs.declared.description.Resource.{Resource}
-use Rattle.hx_cluster.specs.declared.description.Spec.{Spec}
+use Rattle.hx_print.proofs.Rows.{demo}
 use Rattle.hx_check.specs.Judge.{verdict_of, verdict_text}
 
--- one resource of two parts, of which two replicas of each are wanted at ONLINE
-abbrev lists : Resource
-lists = record {
-  name = 0;
-  model = model 1;
-  ideal = record { replicas = 2; parts = 2; mode = modes.Semi (map (λ l. map instance l) ((0 ∷ 1 ∷ 2 ∷ []) ∷ (1 ∷ 2 ∷ 0 ∷ []) ∷ [])) };
-  dropped = false;
-}
-
-abbrev described : Spec
-described = record {
-  instances = codes "n1" ∷ codes "n2" ∷ codes "n3" ∷ [];
-  states = codes "ERROR" ∷ codes "DROPPED" ∷ codes "MASTER" ∷ codes "SLAVE" ∷ codes "OFFLINE" ∷ codes "ONLINE" ∷ codes "LEADER" ∷ codes "STANDBY" ∷ [];
-  resource_names = codes "db" ∷ [];
-  model_names = codes "MasterSlave" ∷ codes "OnlineOffline" ∷ codes "LeaderStandby" ∷ [];
-  models = one_leads (state 2) (state 3) (state 4) ∷ on_and_off (state 5) (state 4) ∷ one_leads (state 6) (state 7) (state 4) ∷ [];
-  controllers = 2;
-  timeout = 30;
-  rules = [];
-  resources = lists ∷ [];
-  failures = [];
-}
-
 abbrev verdict : List ℕ → List ℕ
-verdict log = verdict_text (verdict_of described (lines_of log))
+verdict log = verdict_text (verdict_of demo (lines_of log))
 
 abbrev begun : List ℕ
 begun = codes "join n1 s1\nlead c1 e1\nbegin c1 e1 p1\nlive c1 p1\nmail c1 p1 s1\nstates c1 p1 s1\nideals c1 p1\n"

@@ -75,16 +75,16 @@ room_led c weight led =
     low : (n w : ℕ) → w ≤ 2 ^ 40 → nat_le n w ≡ true → nat_lt n half ≡ true
     low n w small e = let le : n ≤ w = grind (arith, nat_tests, e) in let less : n < half = omega (arith, le, small) in grind (arith, nat_tests, less)
 
--- what a message's mark leaves, where it may be made
-pub led_where : {T E : Type 0} (c d : Cluster) (weight : ℕ) (e : Event) (refusal : Option E) (r : Result T E) → IsLedTo c weight → RefusedAs refusal r
-    → OnOk r (d ≡ next c e) → OnErr r (d ≡ c) → (refusal ≡ None → IsStep c e) → weight_of e ≡ 0 → IsLedTo d weight
-led_where c d weight e refusal (Ok x) led free ok err step light =
-    subst (λ (x : Cluster). IsLedTo x weight) (sym ok) (led_on c weight weight e led (step free) (omega (arith, light)) led.within)
-led_where c d weight e refusal (Err x) led free ok err step light = subst (λ (x : Cluster). IsLedTo x weight) (sym err) led
-
-pub none-is : {E : Type 0} (o : Option E) → o ≡ None → is_none o ≡ true
+none-is : {E : Type 0} (o : Option E) → o ≡ None → is_none o ≡ true
 none-is None e = refl
 none-is (Some x) e = cc
+
+-- what a message's mark leaves, whether it is made or refused
+pub led_marked : {T E : Type 0} (refusal : Cluster → Option E) (e : Event) (c d : Cluster) (weight : ℕ) (r : Result T E) → (is_none (refusal c) ≡ true → IsStep c e) → weight_of e ≡ 0
+    → IsLedTo c weight → RefusedAs (refusal c) r → OnOk r (d ≡ next c e) → OnErr r (d ≡ c) → IsLedTo d weight
+led_marked refusal e c d weight (Ok x) step light led free ok err =
+    subst (λ (x : Cluster). IsLedTo x weight) (sym ok) (led_on c weight weight e led (step (none-is (refusal c) free)) (omega (arith, light)) led.within)
+led_marked refusal e c d weight (Err x) step light led free ok err = subst (λ (x : Cluster). IsLedTo x weight) (sym err) led
 
 -- the epoch that it has, and the pass of a controller's, are those of now
 pub own_epoch : (c : Cluster) → is_epoch c c.epoch ≡ true

@@ -12,13 +12,14 @@ use Rattle.hx_cluster.specs.declared.happenings.Admin.TheVariants as steps
 use Rattle.hx_cluster.specs.declared.happenings.Event.{Event}
 use Rattle.hx_cluster.specs.declared.happenings.Event.TheVariants as events
 use Rattle.hx_cluster.specs.Ends.{shown_of, session_in}
-use Rattle.hx_cluster.specs.Steps.{refusal_of, did_of, live_of, not_live, reset_fault}
+use Rattle.hx_cluster.specs.Steps.{refusal_of, did_of, live_of}
 use Rattle.hx_cluster.specs.Events.{IsStep}
 use Rattle.hx_print.specs.Texts.{names_of, roll_of}
 use Rattle.hx_script.specs.declared.log.LogEntry.{LogEntry}
 use Rattle.hx_script.specs.declared.log.LogEntry.TheVariants as logs
 use Rattle.hx_script.specs.LogEntries.{part_told, step_told, entry_told_by}
 use Rattle.hx_print.proofs.Followed.{session-shown}
+use Rattle.hx_logs.proofs.OnRoll.{live_where, live_reset}
 
 live_tells : (c : Cluster) (i : InstanceId) (tell : SessionId → LogEntry) → is_some (live_of c.live i) ≡ true → is_some (option_map tell (session_in (shown_of c.live) i)) ≡ true
 live_tells c i tell e = ap (λ o. is_some (option_map tell o)) (session-shown i c.live) ∙ one (live_of c.live i) e
@@ -27,18 +28,10 @@ live_tells c i tell e = ap (λ o. is_some (option_map tell o)) (session-shown i 
     one None e = cc
     one (Some l) e = refl
 
-is_live_where : (o : Option Live) → not_live o ≡ None → is_some o ≡ true
-is_live_where None e = cc
-is_live_where (Some l) e = refl
-
-is_live_reset : (c : Cluster) (p : PartId) (o : Option Live) → reset_fault c p o ≡ None → is_some o ≡ true
-is_live_reset c p None e = cc
-is_live_reset c p (Some l) e = refl
-
 step_tells : (c : Cluster) (step : Admin) → refusal_of c step ≡ None → is_some (step_told (roll_of c) step (did_of c step)) ≡ true
 step_tells c (steps.Join i) may = refl
-step_tells c (steps.End i) may = live_tells c i (logs.End i) (is_live_where (live_of c.live i) may)
-step_tells c (steps.Beat i) may = live_tells c i (logs.Beat i) (is_live_where (live_of c.live i) may)
+step_tells c (steps.End i) may = live_tells c i (logs.End i) (live_where (live_of c.live i) may)
+step_tells c (steps.Beat i) may = live_tells c i (logs.Beat i) (live_where (live_of c.live i) may)
 step_tells c (steps.Tick n) may = refl
 step_tells c (steps.Drain i) may = refl
 step_tells c (steps.Undrain i) may = refl
@@ -46,7 +39,7 @@ step_tells c (steps.Add name model ideal) may = refl
 step_tells c (steps.Drop r) may = refl
 step_tells c (steps.SetList p list) may = refl
 step_tells c (steps.SetMap p entries) may = refl
-step_tells c (steps.Reset i p) may = live_tells c i (λ s. logs.Reset i s (part_told (names_of c.resources) p)) (is_live_reset c p (live_of c.live i) may)
+step_tells c (steps.Reset i p) may = live_tells c i (λ s. logs.Reset i s (part_told (names_of c.resources) p)) (live_reset c p (live_of c.live i) may)
 step_tells c (steps.Lead k) may = refl
 step_tells c (steps.Stop k) may = refl
 step_tells c (steps.Start k) may = refl

@@ -210,26 +210,6 @@ impl Turn {
         Ok(())
     }
 
-    /// Reads a session's mail.
-    fn read_mail(&mut self, session: SessionId, records: &Records) -> Result<(), AllocError>
-        ensures ok { OnOk result (self.new ≡ read_on records.now self.old (Read.Mail session)) }
-        ensures err { OnErr result (self.new ≡ self.old) }
-    {
-        records.read_mail_into(session, &mut self.view.mail)?;
-        self.go_on();
-        Ok(())
-    }
-
-    /// Reads a session's states.
-    fn read_states(&mut self, session: SessionId, records: &Records) -> Result<(), AllocError>
-        ensures ok { OnOk result (self.new ≡ read_on records.now self.old (Read.States session)) }
-        ensures err { OnErr result (self.new ≡ self.old) }
-    {
-        records.read_states_into(session, &mut self.view.rows)?;
-        self.go_on();
-        Ok(())
-    }
-
     /// Reads what is wanted.
     fn read_ideals(&mut self, records: &Records) -> Result<(), AllocError>
         ensures ok { OnOk result (self.new ≡ read_on records.now self.old Read.Ideals) }
@@ -250,8 +230,16 @@ impl Turn {
     {
         match read {
             Read::Live => self.read_live(alloc, records),
-            Read::Mail(session) => self.read_mail(session, records),
-            Read::States(session) => self.read_states(session, records),
+            Read::Mail(session) => {
+                records.read_mail_into(session, &mut self.view.mail)?;
+                self.go_on();
+                Ok(())
+            }
+            Read::States(session) => {
+                records.read_states_into(session, &mut self.view.rows)?;
+                self.go_on();
+                Ok(())
+            }
             Read::Ideals => self.read_ideals(records),
         }
     }

@@ -1,5 +1,5 @@
 -- The models that are read are valid.
-use Rattle.std.proofs.Common.{◌≡◌, ℕ, ◌+◌, ◌*◌, ◌<◌, ◌≤◌, Bool, true, false, List, [], ◌∷◌, ◌++◌, length, map, take, length-append, append_assoc, Option, None, Some, Ok, inl, inr, refl, ap, ◌∙◌, subst, arith}
+use Rattle.std.proofs.Common.{◌≡◌, ℕ, ◌+◌, ◌*◌, ◌<◌, ◌≤◌, Bool, true, false, List, [], ◌∷◌, ◌++◌, length, map, take, length-append, append_assoc, append-nil, Option, None, Some, Ok, inl, inr, refl, sym, ap, ◌∙◌, subst, arith}
 use Rattle.std.specs.Prelude.{if◌then◌else◌, ◌||◌, not, is_some, nat_lt, codes}
 use Rattle.std.specs.List.{list_any, AllByRecursion}
 use Rattle.std.specs.Str.{bytes_eq}
@@ -41,11 +41,9 @@ begins-interned first names name begins = one (list_any (bytes_eq name) names)
     one false = begins-append first names name begins
 
 longer-interned : (names : List (List ℕ)) (name : List ℕ) → length names ≤ length (interned names name)
-longer-interned names name = one (list_any (bytes_eq name) names)
-  where
-    one : (b : Bool) → length names ≤ length (if b then names else names ++ name ∷ [])
-    one true = omega arith
-    one false = omega (arith, length-append names (name ∷ []))
+longer-interned names name =
+    let begins = begins-interned names names name ([], sym (append-nil names)) in
+    omega (arith, ap length begins.1, length-append names begins.0)
 
 -- the states of a model: they have names, of which there may be more before
 record AreStates (before : List (List ℕ)) (table : StateTable) : Type 0 where

@@ -46,17 +46,34 @@ fn instances(alloc: Global) -> Result<Names, AllocError>
     Ok(names)
 }
 
+/// The name of its resource.
+fn resource_names(alloc: Global) -> Result<Names, AllocError>
+    ensures { IfOk result (λ names. names ≡ demo.resource_names) }
+{
+    let mut names = Names::new(alloc);
+    names.intern("db")?;
+    Ok(names)
+}
+
+/// Its resource.
+fn resources(alloc: Global) -> Result<Seq<Resource>, AllocError>
+    ensures { IfOk result (λ resources. resources ≡ demo.resources) }
+{
+    let mut resources = Seq::new(alloc);
+    resources.push(Resource::new(0, ModelId(1), ideal(alloc)?))?;
+    Ok(resources)
+}
+
 /// The description of the demo.
 pub(crate) fn demo(alloc: Global) -> Result<Spec, AllocError>
     ensures { IfOk result (λ spec. spec ≡ demo) }
 {
+    let instances = instances(alloc)?;
+    let resource_names = resource_names(alloc)?;
+    let resources = resources(alloc)?;
     let models = built_in(alloc)?;
-    let mut resource_names = Names::new(alloc);
-    resource_names.intern("db")?;
-    let mut resources = Seq::new(alloc);
-    resources.push(Resource::new(0, ModelId(1), ideal(alloc)?))?;
     Ok(Spec {
-        instances: instances(alloc)?,
+        instances,
         states: models.states,
         resource_names,
         model_names: models.names,

@@ -28,14 +28,11 @@ impl Form for ScopeForm {
 
     fn read(self, alloc: Global, value: &Value) -> Result<Scope, DescRefusal> {
         let text = text(alloc, value)?;
-        if text == "cluster" {
-            Ok(Scope::Cluster)
-        } else if text == "instance" {
-            Ok(Scope::Instance)
-        } else if text == "resource" {
-            Ok(Scope::Resource)
-        } else {
-            Err(fault(alloc, DescKind::BadScope))
+        match text {
+            "cluster" => Ok(Scope::Cluster),
+            "instance" => Ok(Scope::Instance),
+            "resource" => Ok(Scope::Resource),
+            _ => Err(fault(alloc, DescKind::BadScope)),
         }
     }
 }

@@ -1,6 +1,6 @@
 -- What the words of an entry tell, written again, is the words.
 use Rattle.std.proofs.Common.{◌≡◌, ℕ, Bool, true, false, List, [], ◌∷◌, ◌++◌, map, Option, Some, Result, Ok, Err, if◌then◌else◌, codes, refl, sym, ap, ◌∙◌, append-nil}
-use Rattle.std.specs.Prelude.{is_some, find}
+use Rattle.std.specs.Prelude.{is_some}
 use Rattle.std.proofs.lemmas.Bool.{and_parts}
 use Rattle.std.specs.Fmt.{decimal}
 use Rattle.std.proofs.lemmas.List.Splits.{join_with_byte-slice_split}
@@ -31,10 +31,11 @@ use Rattle.hx_script.specs.declared.log.LogVerb.{LogVerb}
 use Rattle.hx_script.specs.declared.log.LogVerb.TheVariants as verbs
 use Rattle.hx_script.specs.Grammar.{map_ok, then_ok, one_word, two_words, three_words, five_words, instance_word, state_word, model_word, controller_word, mode_word, pair_word, all_words, instance_alone, controller_alone}
 use Rattle.hx_script.specs.LineTexts.{mode_text}
-use Rattle.hx_script.specs.Logs.{exact_words, short_number, long_number, session_word, message_id_word, epoch_word, pass_word, unless_dash, is_hash, name_before, resource_number, resource_named, part_named, move_word, outcome_word, one_and_more, instance_and_session, controller_and_epoch, controller_and_pass, pass_and_session, epoch_and_pass, session_and_message, add_entry, drop_entry, reset_entry, fetch_entry, write_entry, ended_words, tick_entry, move_of, then_move, is_of, bare_answer, answer_with, bound_answer, throttle_answer, move_words, dispatch_entry, alone, told_by, log_verb_name, all_log_verbs, is_log_verb, log_verb_of, told_words, second_word}
+use Rattle.hx_script.specs.Logs.{exact_words, short_number, long_number, session_word, message_id_word, epoch_word, pass_word, unless_dash, is_hash, name_before, resource_number, resource_named, part_named, move_word, outcome_word, one_and_more, instance_and_session, controller_and_epoch, controller_and_pass, pass_and_session, epoch_and_pass, session_and_message, add_entry, drop_entry, reset_entry, fetch_entry, write_entry, ended_words, tick_entry, move_of, then_move, is_of, bare_answer, answer_with, bound_answer, throttle_answer, move_words, dispatch_entry, alone, told_by, log_verb_name, all_log_verbs, log_verb_of, told_words, second_word}
 use Rattle.hx_script.proofs.LineParts.{one_from, two_from, three_from, five_from}
 use Rattle.hx_script.proofs.Joined.{joined}
 use Rattle.hx_script.proofs.Later.{with_names}
+use Rattle.hx_script.proofs.FormsAgain.{named_so}
 use Rattle.hx_script.proofs.WordsAgain.{map_ok_from, then_ok_from, or_fault_from, same_bytes, instance_again, state_again, model_again, controller_again, mode_again, pair_again, all_again}
 use Rattle.hx_logs.proofs.OnRoll.{has_names}
 use Rattle.hx_logs.proofs.WordsRead.{name_told, part_text}
@@ -507,19 +508,10 @@ module _ (spec : Spec) (names : List (List ℕ)) (more : printed.HasMore spec na
   verb_printed verbs.Ack first ws ls entry known added e =
       written verbs.Ack ws ls _ entry (form (λ (t : SessionId × MsgId). logs.Ack t.0 t.1) mark_text verbs.Ack (session_and_message ws) ws entry (λ t. refl) (λ t. refl) (mark_words ws)) e
 
-  -- the word that a verb is read from
-  found_verb : (w : List ℕ) (vs : List LogVerb) (v : LogVerb) → find (is_log_verb w) vs ≡ Some v → log_verb_name v ≡ w
-  found_verb w [] v e = cc
-  found_verb w (x ∷ vs) v e = one (is_log_verb w x) refl (found_verb w vs v) e
-    where
-      one : (b : Bool) → is_log_verb w x ≡ b → (find (is_log_verb w) vs ≡ Some v → log_verb_name v ≡ w) → (if b then Some x else find (is_log_verb w) vs) ≡ Some v → log_verb_name v ≡ w
-      one true is rest e = let same : x ≡ v = cc in ap log_verb_name (sym same) ∙ same_bytes (log_verb_name x) w is
-      one false is rest e = rest e
-
   pub entry_printed : (words ls : List (List ℕ)) (entry : LogEntry) → has_names entry ≡ true → HasAdded spec names words entry → told_words spec words ls ≡ Ok entry → IsWritten after entry words ls
   entry_printed [] ls entry known added e = cc
   entry_printed (w ∷ ws) ls entry known added e =
       let verb = then_ok_from (log_verb_of w) _ entry e in
       let is = verb_printed verb.0 w ws ls entry known added verb.2 in
-      let same = found_verb w all_log_verbs verb.0 (or_fault_from _ _ verb.0 verb.1) in
+      let same = named_so log_verb_name w all_log_verbs verb.0 (or_fault_from _ _ verb.0 verb.1) in
       record { words = is.words ∙ ap (λ v. v ∷ ws) same; lines = is.lines }

@@ -9,22 +9,12 @@ use Rattle.hx_cluster.specs.declared.happenings.Event.{Event}
 use Rattle.hx_cluster.specs.declared.happenings.Event.TheVariants as events
 use Rattle.hx_cluster.specs.Steps.{opening}
 use Rattle.hx_print.specs.Texts.{log_text}
+use Rattle.hx_script.proofs.Examples.{demo}
 use Rattle.hx_logs.specs.Kept.{kept_text}
 use Rattle.hx_logs.specs.Printed.{are_told}
 
 abbrev small : Spec
-small = record {
-  instances = codes "n1" ∷ [];
-  states = [];
-  resource_names = [];
-  model_names = [];
-  models = [];
-  controllers = 1;
-  timeout = 30;
-  rules = [];
-  resources = [];
-  failures = [];
-}
+small = record demo { instances = codes "n1" ∷ []; controllers = 1 }
 
 abbrev short_history : List Event
 short_history =

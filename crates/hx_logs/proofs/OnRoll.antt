@@ -66,11 +66,11 @@ live_tells c i tell named e = one (session_in (shown_of c.live) i) (session_ther
     one None e = e
     one (Some s) e = named s
 
-live_where : (o : Option Live) → not_live o ≡ None → is_some o ≡ true
+pub live_where : (o : Option Live) → not_live o ≡ None → is_some o ≡ true
 live_where None e = cc
 live_where (Some l) e = refl
 
-live_reset : (c : Cluster) (p : PartId) (o : Option Live) → reset_fault c p o ≡ None → is_some o ≡ true
+pub live_reset : (c : Cluster) (p : PartId) (o : Option Live) → reset_fault c p o ≡ None → is_some o ≡ true
 live_reset c p None e = cc
 live_reset c p (Some l) e = refl
 

@@ -5,17 +5,13 @@ ghost use Rattle.hx_script.specs.Logs;
 use crate::forms::{epoch_and_pass, tick_number, told_alone};
 use crate::indented::{ended_sessions, moves};
 use crate::verbs::verb_of;
+use crate::words::Reading;
 use hx_cluster::Spec;
 use hx_script::{LogEntry, LogVerb, ScriptKind};
-use std::alloc::{AllocError, Global};
+use std::alloc::Global;
 
 /// A tick, with the sessions that it ended.
-fn tick_entry(
-    alloc: Global,
-    spec: &Spec,
-    words: &[&str],
-    indented: &[&str],
-) -> Result<Result<LogEntry, ScriptKind>, AllocError>
+fn tick_entry(alloc: Global, spec: &Spec, words: &[&str], indented: &[&str]) -> Reading<LogEntry>
     ensures { IfOk result (λ r. r ≡ Logs.tick_entry spec.now
         (map (λ w. w.now) words.now) (map (λ l. l.now) indented.now)) }
 {
@@ -35,7 +31,7 @@ fn dispatch_entry(
     spec: &Spec,
     words: &[&str],
     indented: &[&str],
-) -> Result<Result<LogEntry, ScriptKind>, AllocError>
+) -> Reading<LogEntry>
     requires { length spec.now.states ≤ 256 }
     ensures { IfOk result (λ r. r ≡ Logs.dispatch_entry spec.now
         (map (λ w. w.now) words.now) (map (λ l. l.now) indented.now)) }
@@ -62,7 +58,7 @@ fn told_by(
     verb: LogVerb,
     words: &[&str],
     indented: &[&str],
-) -> Result<Result<LogEntry, ScriptKind>, AllocError>
+) -> Reading<LogEntry>
     requires models { length spec.now.model_names ≤ 256 }
     requires states { length spec.now.states ≤ 256 }
     ensures { IfOk result (λ r. r ≡ Logs.told_by spec.now verb
@@ -84,7 +80,7 @@ pub fn told_words(
     spec: &Spec,
     words: &[&str],
     indented: &[&str],
-) -> Result<Result<LogEntry, ScriptKind>, AllocError>
+) -> Reading<LogEntry>
     requires models { length spec.now.model_names ≤ 256 }
     requires states { length spec.now.states ≤ 256 }
     ensures { IfOk result (λ r. r ≡ Logs.told_words spec.now

@@ -10,7 +10,7 @@ use crate::numbers::{
     epoch_word, long_number, message_word, pass_word, resource_number, session_or_dash,
     session_word, short_number,
 };
-use crate::words::{name_and_rest, outcome_word, part_named, resource_named};
+use crate::words::{Reading, name_and_rest, outcome_word, part_named, resource_named};
 use hx_cluster::Spec;
 use hx_ids::{ControllerId, Epoch, InstanceId, MsgId, PassNo, SessionId};
 use hx_lists::Seq;
@@ -18,7 +18,7 @@ use hx_script::{
     LogEntry, LogVerb, ScriptKind, controller_alone, controller_word, instance_alone,
     instance_word, instance_words, mode_word, model_word, pair_words, place_after,
 };
-use std::alloc::{AllocError, Global};
+use std::alloc::Global;
 
 /// The number of a script line.
 fn line_entry(words: &[&str]) -> Result<LogEntry, ScriptKind>
@@ -153,11 +153,7 @@ fn drop_entry(spec: &Spec, words: &[&str]) -> Result<LogEntry, ScriptKind>
 }
 
 /// A list of a part.
-fn list_entry(
-    alloc: Global,
-    spec: &Spec,
-    words: &[&str],
-) -> Result<Result<LogEntry, ScriptKind>, AllocError>
+fn list_entry(alloc: Global, spec: &Spec, words: &[&str]) -> Reading<LogEntry>
     ensures { IfOk result (λ r. r ≡ Logs.list_entry spec.now (map (λ w. w.now) words.now)) }
 {
     let [named, rest @ ..] = words else {
@@ -174,11 +170,7 @@ fn list_entry(
 }
 
 /// A map of a part.
-fn map_entry(
-    alloc: Global,
-    spec: &Spec,
-    words: &[&str],
-) -> Result<Result<LogEntry, ScriptKind>, AllocError>
+fn map_entry(alloc: Global, spec: &Spec, words: &[&str]) -> Reading<LogEntry>
     requires { length spec.now.states ≤ 256 }
     ensures { IfOk result (λ r. r ≡ Logs.map_entry spec.now (map (λ w. w.now) words.now)) }
 {
@@ -292,12 +284,7 @@ fn quiet_tick(alloc: Global, words: &[&str]) -> Result<LogEntry, ScriptKind>
 }
 
 /// What the words behind a verb tell, where no indented line belongs to them.
-pub fn told_alone(
-    alloc: Global,
-    spec: &Spec,
-    verb: LogVerb,
-    words: &[&str],
-) -> Result<Result<LogEntry, ScriptKind>, AllocError>
+pub fn told_alone(alloc: Global, spec: &Spec, verb: LogVerb, words: &[&str]) -> Reading<LogEntry>
     requires models { length spec.now.model_names ≤ 256 }
     requires states { length spec.now.states ≤ 256 }
     ensures { IfOk result (λ r.

@@ -1,16 +1,17 @@
 //! Indented lines: the sessions that a tick ended, and what became of a dispatch's proposals.
-ghost use Rattle.std.specs.Prelude.{◌≡◌, ℕ, ◌≤◌, [], ◌∷◌, map, length, IfOk};
+ghost use Rattle.std.specs.Prelude.{◌≡◌, ℕ, ◌≤◌, List, Result, [], ◌∷◌, map, length, IfOk};
+ghost use Rattle.hx_script.specs.declared.faults.ScriptKind.{ScriptKind};
 ghost use Rattle.hx_script.specs.Grammar.{all_words};
 ghost use Rattle.hx_script.specs.Logs;
 
 use crate::forms::instance_and_session;
 use crate::numbers::{message_word, session_word, short_number};
-use crate::words::{cut_words, move_word, part_named, state_or_dash};
+use crate::words::{Reading, cut_words, move_word, part_named, state_or_dash};
 use hx_cluster::{Placed, Spec};
 use hx_ids::{InstanceId, SessionId};
 use hx_lists::Seq;
 use hx_script::{LogMove, ScriptKind};
-use std::alloc::{AllocError, Global};
+use std::alloc::Global;
 
 /// A session that a tick ended, with its instance.
 fn ended_words(spec: &Spec, words: &[&str]) -> Result<(InstanceId, SessionId), ScriptKind>
@@ -29,14 +30,11 @@ fn ended_words(spec: &Spec, words: &[&str]) -> Result<(InstanceId, SessionId), S
 fn bare_answer(word: &str) -> Result<Placed, ScriptKind>
     ensures { result ≡ Logs.bare_answer word.now }
 {
-    if word == "ended" {
-        Ok(Placed::Ended)
-    } else if word == "dropped" {
-        Ok(Placed::ResourceDropped)
-    } else if word == "illegal" {
-        Ok(Placed::Illegal)
-    } else {
-        Err(ScriptKind::UnknownWord)
+    match word {
+        "ended" => Ok(Placed::Ended),
+        "dropped" => Ok(Placed::ResourceDropped),
+        "illegal" => Ok(Placed::Illegal),
+        _ => Err(ScriptKind::UnknownWord),
     }
 }
 
@@ -147,47 +145,86 @@ fn move_words(spec: &Spec, words: &[&str]) -> Result<LogMove, ScriptKind>
     }
 }
 
+/// What the words of an indented line tell.
+trait LineForm {
+    type Told: Drop;
+
+    ghost found: { Self → List (List ℕ) → Result Self.Told ScriptKind };
+
+    fn read(&self, words: &[&str]) -> Result<Self::Told, ScriptKind>
+        ensures { result ≡ found self.now (map (λ w. w.now) words.now) };
+}
+
+/// A session that a tick ended.
+#[derive(Clone, Copy)]
+struct EndedForm<'a> {
+    spec: &'a Spec,
+}
+
+impl LineForm for EndedForm<'_> {
+    type Told = (InstanceId, SessionId);
+
+    ghost found = { λ form words. Logs.ended_words form.spec.now words };
+
+    fn read(&self, words: &[&str]) -> Result<(InstanceId, SessionId), ScriptKind> {
+        ended_words(self.spec, words)
+    }
+}
+
+/// What became of a proposal.
+#[derive(Clone, Copy)]
+struct MoveForm<'a> {
+    spec: &'a Spec,
+    ghost few: { length spec.now.states ≤ 256 },
+}
+
+impl LineForm for MoveForm<'_> {
+    type Told = LogMove;
+
+    ghost found = { λ form words. Logs.move_words form.spec.now words };
+
+    fn read(&self, words: &[&str]) -> Result<LogMove, ScriptKind> {
+        move_words(self.spec, words)
+    }
+}
+
+/// What indented lines tell, each cut into its words.
+fn read_lines<F: LineForm>(alloc: Global, form: &F, lines: &[&str]) -> Reading<Seq<F::Told>>
+    ensures { IfOk result (λ r.
+        r ≡ all_words (λ l. F.found form.now (Logs.exact_words l)) (map (λ l. l.now) lines.now)) }
+{
+    let mut all = Seq::new(alloc);
+    let mut words = Vec::new(alloc);
+    for line in lines {
+        cut_words(line, &mut words)?;
+        let told = match form.read(words.as_slice()) {
+            Ok(told) => told,
+            Err(kind) => return Ok(Err(kind)),
+        };
+        all.push(told)?;
+    }
+    Ok(Ok(all))
+}
+
 /// The sessions that a tick ended.
 pub fn ended_sessions(
     alloc: Global,
     spec: &Spec,
     lines: &[&str],
-) -> Result<Result<Seq<(InstanceId, SessionId)>, ScriptKind>, AllocError>
+) -> Reading<Seq<(InstanceId, SessionId)>>
     ensures { IfOk result (λ r.
         r ≡ all_words (λ l. Logs.ended_words spec.now (Logs.exact_words l))
         (map (λ l. l.now) lines.now)) }
 {
-    let mut ended = Seq::new(alloc);
-    let mut words = Vec::new(alloc);
-    for line in lines {
-        cut_words(line, &mut words)?;
-        match ended_words(spec, words.as_slice()) {
-            Ok(session) => ended.push(session)?,
-            Err(kind) => return Ok(Err(kind)),
-        }
-    }
-    Ok(Ok(ended))
+    read_lines(alloc, &EndedForm { spec }, lines)
 }
 
 /// What became of a dispatch's proposals.
-pub fn moves(
-    alloc: Global,
-    spec: &Spec,
-    lines: &[&str],
-) -> Result<Result<Seq<LogMove>, ScriptKind>, AllocError>
+pub fn moves(alloc: Global, spec: &Spec, lines: &[&str]) -> Reading<Seq<LogMove>>
     requires { length spec.now.states ≤ 256 }
     ensures { IfOk result (λ r.
         r ≡ all_words (λ l. Logs.move_words spec.now (Logs.exact_words l))
         (map (λ l. l.now) lines.now)) }
 {
-    let mut moves = Seq::new(alloc);
-    let mut words = Vec::new(alloc);
-    for line in lines {
-        cut_words(line, &mut words)?;
-        match move_words(spec, words.as_slice()) {
-            Ok(told) => moves.push(told)?,
-            Err(kind) => return Ok(Err(kind)),
-        }
-    }
-    Ok(Ok(moves))
+    read_lines(alloc, &MoveForm { spec }, lines)
 }

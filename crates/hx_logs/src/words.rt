@@ -12,6 +12,9 @@ use hx_script::{LogPart, ScriptKind, state_word};
 use hx_text::is_name;
 use std::alloc::AllocError;
 
+/// What words tell, or what is wrong with them; and want of memory.
+pub type Reading<T> = Result<Result<T, ScriptKind>, AllocError>;
+
 /// Puts the words of a line, cut at each space, into a list in place of what it holds.
 pub fn cut_words<'a>(line: &'a str, words: &mut Vec<&'a str>) -> Result<(), AllocError>
     ensures { OnOk result (map (λ w. w.now) words.new.items ≡ Logs.exact_words line.now) }
@@ -101,11 +104,9 @@ pub fn state_or_dash(spec: &Spec, word: &str) -> Result<Option<StateId>, ScriptK
 pub fn outcome_word(word: &str) -> Result<Outcome, ScriptKind>
     ensures { result ≡ Logs.outcome_word word.now }
 {
-    if word == "ok" {
-        Ok(Outcome::Ok)
-    } else if word == "failed" {
-        Ok(Outcome::Failed)
-    } else {
-        Err(ScriptKind::BadKind)
+    match word {
+        "ok" => Ok(Outcome::Ok),
+        "failed" => Ok(Outcome::Failed),
+        _ => Err(ScriptKind::BadKind),
     }
 }

@@ -2,15 +2,9 @@
 use Rattle.std.proofs.Common.{◌≡◌, ℕ, false, List, [], ◌∷◌, ◌++◌, None, Some, codes, refl}
 use Rattle.std.specs.Fmt.{digits}
 use Rattle.hx_ids.specs.declared.InstanceId.{InstanceId}
-use Rattle.hx_ids.specs.declared.StateId.{StateId}
 use Rattle.hx_ids.specs.declared.SessionId.{SessionId}
-use Rattle.hx_ids.specs.declared.MsgId.{MsgId}
-use Rattle.hx_ids.specs.declared.Epoch.{Epoch}
-use Rattle.hx_ids.specs.declared.PassNo.{PassNo}
-use Rattle.hx_ids.specs.declared.ControllerId.{ControllerId}
-use Rattle.hx_ids.specs.declared.PartId.{PartId}
-use Rattle.hx_model.specs.declared.Bound.TheVariants as bounds
-use Rattle.hx_model.specs.declared.ModelParts.{ModelParts}
+use Rattle.hx_ids.specs.Words.{instance, controller, session, message, epoch, pass, state, part}
+use Rattle.hx_model.specs.Builtin.{one_leads, on_and_off}
 use Rattle.hx_ideal.specs.declared.Mode.TheVariants as modes
 use Rattle.hx_ideal.specs.declared.IdealFault.TheVariants as ideal_faults
 use Rattle.hx_ideal.specs.IdealState.{IdealState}
@@ -33,48 +27,17 @@ use Rattle.hx_print.specs.declared.Note.{Note}
 use Rattle.hx_print.specs.declared.Note.TheVariants as notes
 use Rattle.hx_print.specs.Texts.{entry_text, log_text, note_text, sent_text, waiting_text, moved_text, settled_text, settle_text, accept_text, failed_text, full_text, view_text, route_text, summary_text, history_full_text, placed_lines, names_of}
 
-abbrev instance : ℕ → InstanceId
-instance n = record { 0 = n }
-
-abbrev controller : ℕ → ControllerId
-controller n = record { 0 = n }
-
-abbrev session : ℕ → SessionId
-session n = record { 0 = n }
-
-abbrev message : ℕ → MsgId
-message n = record { 0 = n }
-
-abbrev epoch : ℕ → Epoch
-epoch n = record { 0 = n }
-
-abbrev pass : ℕ → PassNo
-pass n = record { 0 = n }
-
-abbrev state : ℕ → StateId
-state n = record { 0 = n }
-
-abbrev part : ℕ → ℕ → PartId
-part r n = record { resource = record { 0 = r }; index = n }
-
--- two controllers, three instances, and a resource of two partitions
-abbrev online_offline : ModelParts
-online_offline = record {
-  states = (state 5, bounds.Replicas) ∷ (state 4, bounds.Free) ∷ [];
-  initial = state 4;
-  transitions = (state 4, state 5) ∷ (state 5, state 4) ∷ (state 4, state 1) ∷ [];
-}
-
 abbrev bare_semi : ℕ → IdealState
 bare_semi parts = record { replicas = 3; parts = parts; mode = modes.Semi ([] ∷ []) }
 
-abbrev demo : Spec
+-- two controllers, three instances, and a resource of two partitions, of which two replicas of each are wanted at ONLINE
+abbrev pub demo : Spec
 demo = record {
   instances = codes "n1" ∷ codes "n2" ∷ codes "n3" ∷ [];
   states = codes "ERROR" ∷ codes "DROPPED" ∷ codes "MASTER" ∷ codes "SLAVE" ∷ codes "OFFLINE" ∷ codes "ONLINE" ∷ codes "LEADER" ∷ codes "STANDBY" ∷ [];
   resource_names = codes "db" ∷ [];
   model_names = codes "MasterSlave" ∷ codes "OnlineOffline" ∷ codes "LeaderStandby" ∷ [];
-  models = online_offline ∷ online_offline ∷ online_offline ∷ [];
+  models = one_leads (state 2) (state 3) (state 4) ∷ on_and_off (state 5) (state 4) ∷ one_leads (state 6) (state 7) (state 4) ∷ [];
   controllers = 2;
   timeout = 30;
   rules = [];

@@ -1,8 +1,6 @@
 -- The grammar computed: a script with lines of many kinds, and each kind of fault.
 use Rattle.std.proofs.Common.{◌≡◌, ℕ, List, [], ◌∷◌, None, Some, Ok, Err, Result, Option, codes, refl}
-use Rattle.hx_ids.specs.declared.InstanceId.{InstanceId}
-use Rattle.hx_ids.specs.declared.StateId.{StateId}
-use Rattle.hx_ids.specs.declared.ControllerId.{ControllerId}
+use Rattle.hx_ids.specs.Words.{instance, state, controller}
 use Rattle.hx_cluster.specs.declared.description.Spec.{Spec}
 use Rattle.hx_script.specs.declared.What.{What}
 use Rattle.hx_script.specs.declared.What.TheVariants as asks
@@ -13,7 +11,7 @@ use Rattle.hx_script.specs.declared.faults.ScriptKind.TheVariants as kinds
 use Rattle.hx_script.specs.declared.faults.ScriptFault.{ScriptFault}
 use Rattle.hx_script.specs.Grammar.{asked_by, script_of, map_ok}
 
-abbrev demo : Spec
+abbrev pub demo : Spec
 demo = record {
   instances = codes "n1" ∷ codes "n2" ∷ [];
   states = codes "ERROR" ∷ codes "DROPPED" ∷ codes "MASTER" ∷ codes "SLAVE" ∷ codes "OFFLINE" ∷ [];
@@ -26,15 +24,6 @@ demo = record {
   resources = [];
   failures = [];
 }
-
-abbrev instance : ℕ → InstanceId
-instance n = record { 0 = n }
-
-abbrev state : ℕ → StateId
-state n = record { 0 = n }
-
-abbrev controller : ℕ → ControllerId
-controller n = record { 0 = n }
 
 abbrev asks_of : List (List ℕ) → Result (List Line) ScriptFault
 asks_of lines = map_ok (λ r. r.0) (script_of lines demo)

@@ -16,7 +16,7 @@ use Rattle.hx_script.specs.declared.verbs.Verb.{Verb}
 use Rattle.hx_script.specs.declared.verbs.Verb.TheVariants as verbs
 use Rattle.hx_script.specs.declared.faults.ScriptKind.{ScriptKind}
 use Rattle.hx_script.specs.declared.faults.ScriptKind.TheVariants as kinds
-use Rattle.hx_script.specs.Grammar.{map_ok, then_ok, one_word, two_words, three_words, two_and_more, instance_word, resource_word, state_word, name_word, number_word, part_words, controller_word, read_kind_word, pair_word, all_words, instance_and_message, tick_line, add_line, drop_line, reset_line, read_line, route_line, bare_line, what_of, verb_name, verb_of, is_verb, all_verbs, spec_with}
+use Rattle.hx_script.specs.Grammar.{map_ok, then_ok, one_word, two_words, three_words, two_and_more, instance_word, resource_word, state_word, name_word, number_word, part_words, controller_word, read_kind_word, pair_word, all_words, instance_and_message, tick_line, add_line, drop_line, reset_line, read_line, route_line, bare_line, what_of, verb_name, verb_of, all_verbs, spec_with}
 use Rattle.hx_script.specs.LineTexts.{mode_text, read_kind_text, what_words}
 use Rattle.hx_script.proofs.WordsAgain.{map_ok_from, then_ok_from, or_fault_from, same_bytes, any_within, first_at, instance_again, state_again, model_again, resource_again, number_again, controller_again, message_again, mode_again, read_kind_again, pair_again, all_again}
 use Rattle.hx_script.proofs.LineParts.{one_from, two_from, three_from}
@@ -158,14 +158,14 @@ pub verb_words_again : (spec : Spec) (verb : Verb) (first : List ℕ) (ws : List
     → what_words spec what ≡ verb_name verb ∷ ws
 verb_words_again spec verb first ws what known e = form_again spec verb first ws what known (line_form spec verb ws what e)
 
--- the word that a verb is read from
-found_verb : (w : List ℕ) (vs : List Verb) (v : Verb) → find (is_verb w) vs ≡ Some v → verb_name v ≡ w
-found_verb w [] v e = cc
-found_verb w (x ∷ vs) v e = one (is_verb w x) refl (found_verb w vs v) e
+-- the word that something is found by is its name
+pub named_so : {V : Type 0} (name : V → List ℕ) (w : List ℕ) (vs : List V) (v : V) → find (λ x. bytes_eq (name x) w) vs ≡ Some v → name v ≡ w
+named_so name w [] v e = cc
+named_so name w (x ∷ vs) v e = one (bytes_eq (name x) w) refl (named_so name w vs v) e
   where
-    one : (b : Bool) → is_verb w x ≡ b → (find (is_verb w) vs ≡ Some v → verb_name v ≡ w) → (if b then Some x else find (is_verb w) vs) ≡ Some v → verb_name v ≡ w
-    one true is rest e = let same : x ≡ v = cc in ap verb_name (sym same) ∙ same_bytes (verb_name x) w is
+    one : (b : Bool) → bytes_eq (name x) w ≡ b → (find (λ y. bytes_eq (name y) w) vs ≡ Some v → name v ≡ w) → (if b then Some x else find (λ y. bytes_eq (name y) w) vs) ≡ Some v → name v ≡ w
+    one true is rest e = let same : x ≡ v = cc in ap name (sym same) ∙ same_bytes (name x) w is
     one false is rest e = rest e
 
 pub verb_again : (w : List ℕ) (v : Verb) → verb_of w ≡ Ok v → verb_name v ≡ w
-verb_again w v e = found_verb w all_verbs v (or_fault_from _ _ v e)
+verb_again w v e = named_so verb_name w all_verbs v (or_fault_from _ _ v e)

@@ -1,6 +1,6 @@
 pub mod AllWords
 pub mod Entries
-mod Examples
+pub mod Examples
 pub mod FormsAgain
 pub mod Fronts
 pub mod Joined

@@ -18,14 +18,11 @@ use std::alloc::Global;
 fn mode_named(text: &str) -> Option<RunMode>
     ensures { result ≡ mode_named text.now }
 {
-    if text == "sim" {
-        Some(RunMode::Sim)
-    } else if text == "gen" {
-        Some(RunMode::Gen)
-    } else if text == "check" {
-        Some(RunMode::Check)
-    } else {
-        None
+    match text {
+        "sim" => Some(RunMode::Sim),
+        "gen" => Some(RunMode::Gen),
+        "check" => Some(RunMode::Check),
+        _ => None,
     }
 }
 

@@ -1,6 +1,5 @@
 use Rattle.hx_cluster.specs.declared.happenings.Event.TheVariants as events
 use Rattle.hx_script.specs.declared.log.LogEntry.TheVariants as logs
-use Rattle.hx_check.specs.Standing.{Standing}
 use Rattle.hx_check.proofs.Judged.{ack_answered, mark_answered}
 use Rattle.hx_check.proofs.Turning.{kept_if}
 use Rattle.hx_check.proofs.judge.Judge.ack.Goals as goal
@@ -10,7 +9,5 @@ invariant_of-self c = kept_if c.self.inside.replayed c.ack.new.self c.ack.result
 
 pub returns : goal.returns
 returns c =
-    let a = c.self.inside in
-    let w : Standing = record { cluster = a.replayed; turns = a.turns.items; marks = a.marks.items } in
-    mark_answered w c.args.self.now c.ack.new.self (logs.Ack c.args.session c.args.id) (events.Ack c.args.session c.args.id) c.ack.result _ _ c.self.view_is c.fault_unless.ensures c.ack.ensures.1
-    (λ v stands. ack_answered w v c.args.session c.args.id c.ack.result c.ack.ensures.0 stands)
+    mark_answered _ c.args.self.now c.ack.new.self (logs.Ack c.args.session c.args.id) (events.Ack c.args.session c.args.id) c.ack.result _ _ c.self.view_is c.fault_unless.ensures c.ack.ensures.1
+    (λ v stands. ack_answered _ v c.args.session c.args.id c.ack.result c.ack.ensures.0 stands)

@@ -1,6 +1,5 @@
 use Rattle.hx_cluster.specs.declared.happenings.Event.TheVariants as events
 use Rattle.hx_script.specs.declared.log.LogEntry.TheVariants as logs
-use Rattle.hx_check.specs.Standing.{Standing}
 use Rattle.hx_check.proofs.Judged.{write_answered, mark_answered}
 use Rattle.hx_check.proofs.Turning.{kept_if}
 use Rattle.hx_check.proofs.judge.Judge.write.Goals as goal
@@ -10,7 +9,5 @@ invariant_of-self c = kept_if c.self.inside.replayed c.write.new.self c.write.re
 
 pub returns : goal.returns
 returns c =
-    let a = c.self.inside in
-    let w : Standing = record { cluster = a.replayed; turns = a.turns.items; marks = a.marks.items } in
-    mark_answered w c.args.self.now c.write.new.self (logs.Write c.args.session c.args.id c.args.outcome) (events.Write c.args.session c.args.id c.args.outcome) c.write.result _ _ c.self.view_is c.fault_unless.ensures c.write.ensures.1
-    (λ v stands. write_answered w v c.args.session c.args.id c.args.outcome c.write.result c.write.ensures.0 stands)
+    mark_answered _ c.args.self.now c.write.new.self (logs.Write c.args.session c.args.id c.args.outcome) (events.Write c.args.session c.args.id c.args.outcome) c.write.result _ _ c.self.view_is c.fault_unless.ensures c.write.ensures.1
+    (λ v stands. write_answered _ v c.args.session c.args.id c.args.outcome c.write.result c.write.ensures.0 stands)
