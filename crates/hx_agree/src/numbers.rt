@@ -4,16 +4,11 @@ ghost use Rattle.std.specs.List.{sum_by};
 ghost use Rattle.hx_lists.specs.Lists.{count};
 ghost use Rattle.hx_control.specs.Steps.{is_sent};
 ghost use Rattle.hx_worlds.specs.Summaries.{joined_in, sent_in};
+ghost use Rattle.hx_agree.specs.Numbers.{given_in};
 
 use hx_board::Board;
 use hx_cluster::{Admin, Dispatched, Event, Placed};
 use hx_history::Entries;
-
-fn is_sent(placed: &Placed) -> bool
-    ensures { result ≡ is_sent placed.now }
-{
-    matches!(placed, Placed::Sent(_))
-}
 
 /// How many messages a dispatch sent.
 fn sent_by(answer: &Dispatched) -> u64
@@ -22,7 +17,7 @@ fn sent_by(answer: &Dispatched) -> u64
     answer
         .placed
         .iter()
-        .filter(|placed| is_sent(placed))
+        .filter(|placed| matches!(placed, Placed::Sent(_)))
         .count() as u64
 }
 
@@ -46,26 +41,31 @@ pub fn joined_in(event: &Event) -> u64
     }
 }
 
-/// How many messages a history's events sent.
-fn sent(entries: &Entries) -> u64
-    requires { sum_by sent_in entries.now.items < 2 ^ 64 }
-    ensures { result ≡ sum_by sent_in entries.now.items }
-{
-    let mut sum = 0;
-    for told in entries {
-        sum += sent_in(told.event());
-    }
-    sum
+/// What a history gives numbers to.
+#[derive(Clone, Copy)]
+enum Numbered {
+    Session,
+    Message,
 }
 
-/// How many sessions they opened.
-fn joined(entries: &Entries) -> u64
-    requires { sum_by joined_in entries.now.items < 2 ^ 64 }
-    ensures { result ≡ sum_by joined_in entries.now.items }
+/// To how many an event gave a number.
+fn given_in(numbered: Numbered, event: &Event) -> u64
+    ensures { result ≡ given_in numbered event.now }
+{
+    match numbered {
+        Numbered::Session => joined_in(event),
+        Numbered::Message => sent_in(event),
+    }
+}
+
+/// To how many a history's events gave one.
+fn given(numbered: Numbered, entries: &Entries) -> u64
+    requires { sum_by (given_in numbered) entries.now.items < 2 ^ 64 }
+    ensures { result ≡ sum_by (given_in numbered) entries.now.items }
 {
     let mut sum = 0;
     for told in entries {
-        sum += joined_in(told.event());
+        sum += given_in(numbered, told.event());
     }
     sum
 }
@@ -75,7 +75,7 @@ pub(crate) fn sent_on(board: &Board) -> u64
     ensures { board.now.cluster.next_msg ≡ 1 + result }
 {
     let _weight = board.weight();
-    sent(&board.history().entries)
+    given(Numbered::Message, &board.history().entries)
 }
 
 /// The number of the last session on a board.
@@ -83,5 +83,5 @@ pub(crate) fn joined_on(board: &Board) -> u64
     ensures { board.now.cluster.next_session ≡ 1 + result }
 {
     let _weight = board.weight();
-    joined(&board.history().entries)
+    given(Numbered::Session, &board.history().entries)
 }

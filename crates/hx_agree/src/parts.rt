@@ -1,5 +1,5 @@
 //! The parts of a board, by its readers.
-ghost use Rattle.std.specs.Prelude.{◌≡◌, ◌≤◌, length};
+ghost use Rattle.std.specs.Prelude.{◌≡◌, length};
 ghost use Rattle.hx_cluster.specs.Ends.{parts_of};
 ghost use Rattle.hx_cluster.specs.Events.{has_part};
 ghost use Rattle.hx_agree.specs.Tests.{initial_at};

@@ -58,115 +58,99 @@ fn is_there(last: u64, board: &Board, part: PartId) -> bool
     has_part(board, part) || last == 0
 }
 
-/// Whether a participant's slot of a part is settled, where so many messages were sent.
-fn is_settled_at<F: Factory>(
+/// What a participant is compared with: what a board of a description has of a session, where so
+/// many messages were sent.
+#[derive(Clone, Copy)]
+struct Known<'a> {
     sent: u64,
-    spec: &Spec,
-    board: &Board,
-    participant: &Participant<F>,
+    spec: &'a Spec,
+    board: &'a Board,
     session: SessionId,
-    part: PartId,
-) -> bool
-    ensures { result
-        ≡ is_settled_at (1 + sent) spec.now.models board.now.cluster participant.now.plain session
-        part }
-{
-    let initial = initial_of(spec, board, part);
-    let (state, last) = participant.slot(part, initial);
-    last <= sent
-        && is_there(last, board, part)
-        && is_like(participant.initial_of(part), initial)
-        && stands_at(state, initial, board, session, part)
-        && is_coming(last, board, session, part)
 }
 
-/// Whether its slots are.
-#[tactic(auto, using(crate::proofs::Lists::all_dropped, crate::proofs::Lists::all_end))]
-fn are_slots_settled<F: Factory>(
-    sent: u64,
-    spec: &Spec,
-    board: &Board,
-    participant: &Participant<F>,
-    session: SessionId,
-) -> bool
-    ensures { result
-        ≡ are_slots_settled (1 + sent) spec.now.models board.now.cluster participant.now.plain
-        session }
-{
-    let slots = participant.slots();
-    for place in 0..slots {
-        let part = participant.part_at(place);
-        if !is_settled_at(sent, spec, board, participant, session, part) {
-            return false;
-        }
+impl Known<'_> {
+    /// Whether a participant's slot of a part is settled.
+    fn is_settled_at<F: Factory>(&self, participant: &Participant<F>, part: PartId) -> bool
+        ensures { result
+            ≡ is_settled_at (1 + self.now.sent) self.now.spec.now.models self.now.board.now.cluster
+            participant.now.plain self.now.session part }
+    {
+        let initial = initial_of(self.spec, self.board, part);
+        let (state, last) = participant.slot(part, initial);
+        last <= self.sent
+            && is_there(last, self.board, part)
+            && is_like(participant.initial_of(part), initial)
+            && stands_at(state, initial, self.board, self.session, part)
+            && is_coming(last, self.board, self.session, part)
     }
-    true
-}
 
-/// Whether those of a resource's parts are.
-#[tactic(auto, using(hx_control::proofs::Numbers::first_number, hx_control::proofs::Numbers::no_number))]
-fn are_parts_settled_of<F: Factory>(
-    sent: u64,
-    spec: &Spec,
-    board: &Board,
-    participant: &Participant<F>,
-    session: SessionId,
-    resource: ResourceId,
-) -> bool
-    ensures { result
-        ≡ at_each_of board.now.cluster
-        (is_settled_at (1 + sent) spec.now.models board.now.cluster participant.now.plain session)
-        resource.0 }
-{
-    let parts = parts_of(board, resource);
-    for index in 0..parts {
-        let part = PartId { resource, index };
-        if !is_settled_at(sent, spec, board, participant, session, part) {
-            return false;
+    /// Whether its slots are.
+    #[tactic(auto, using(crate::proofs::Lists::all_dropped, crate::proofs::Lists::all_end))]
+    fn are_slots_settled<F: Factory>(&self, participant: &Participant<F>) -> bool
+        ensures { result
+            ≡ are_slots_settled (1 + self.now.sent) self.now.spec.now.models
+            self.now.board.now.cluster participant.now.plain self.now.session }
+    {
+        let slots = participant.slots();
+        for place in 0..slots {
+            let part = participant.part_at(place);
+            if !self.is_settled_at(participant, part) {
+                return false;
+            }
         }
+        true
     }
-    true
-}
 
-/// Whether those of the board's parts are.
-#[tactic(auto, using(hx_control::proofs::Numbers::first_number, hx_control::proofs::Numbers::no_number))]
-fn are_parts_settled<F: Factory>(
-    sent: u64,
-    spec: &Spec,
-    board: &Board,
-    participant: &Participant<F>,
-    session: SessionId,
-) -> bool
-    ensures { result
-        ≡ at_each_part board.now.cluster
-        (is_settled_at (1 + sent) spec.now.models board.now.cluster participant.now.plain
-        session) }
-{
-    let resources = resources(board);
-    for place in 0..resources {
-        let resource = ResourceId(place);
-        if !are_parts_settled_of(sent, spec, board, participant, session, resource) {
-            return false;
+    /// Whether those of a resource's parts are.
+    #[tactic(auto, using(hx_control::proofs::Numbers::first_number, hx_control::proofs::Numbers::no_number))]
+    fn are_parts_settled_of<F: Factory>(
+        &self,
+        participant: &Participant<F>,
+        resource: ResourceId,
+    ) -> bool
+        ensures { result
+            ≡ at_each_of self.now.board.now.cluster
+            (is_settled_at (1 + self.now.sent) self.now.spec.now.models self.now.board.now.cluster
+            participant.now.plain self.now.session) resource.0 }
+    {
+        let parts = parts_of(self.board, resource);
+        for index in 0..parts {
+            let part = PartId { resource, index };
+            if !self.is_settled_at(participant, part) {
+                return false;
+            }
         }
+        true
     }
-    true
-}
 
-/// Whether a participant has its instance's session, and its slots are settled.
-fn is_settled_in<F: Factory>(
-    sent: u64,
-    spec: &Spec,
-    board: &Board,
-    participant: &Participant<F>,
-    session: SessionId,
-) -> bool
-    ensures { result
-        ≡ is_settled_in (1 + sent) spec.now.models board.now.cluster (stationed participant.now)
-        session }
-{
-    is_session(board.session_of(participant.instance()), session)
-        && are_slots_settled(sent, spec, board, participant, session)
-        && are_parts_settled(sent, spec, board, participant, session)
+    /// Whether those of the board's parts are.
+    #[tactic(auto, using(hx_control::proofs::Numbers::first_number, hx_control::proofs::Numbers::no_number))]
+    fn are_parts_settled<F: Factory>(&self, participant: &Participant<F>) -> bool
+        ensures { result
+            ≡ at_each_part self.now.board.now.cluster
+            (is_settled_at (1 + self.now.sent) self.now.spec.now.models self.now.board.now.cluster
+            participant.now.plain self.now.session) }
+    {
+        let resources = resources(self.board);
+        for place in 0..resources {
+            let resource = ResourceId(place);
+            if !self.are_parts_settled_of(participant, resource) {
+                return false;
+            }
+        }
+        true
+    }
+
+    /// Whether a participant has its instance's session, and its slots are settled.
+    fn is_settled_in<F: Factory>(&self, participant: &Participant<F>) -> bool
+        ensures { result
+            ≡ is_settled_in (1 + self.now.sent) self.now.spec.now.models self.now.board.now.cluster
+            (stationed participant.now) self.now.session }
+    {
+        is_session(self.board.session_of(participant.instance()), self.session)
+            && self.are_slots_settled(participant)
+            && self.are_parts_settled(participant)
+    }
 }
 
 /// Whether a participant is settled, where its session is live.
@@ -182,8 +166,13 @@ fn is_settled<F: Factory>(
 {
     match participant.session() {
         Some(session) => {
-            !has_session(spec.instances.len(), board, session)
-                || is_settled_in(sent, spec, board, participant, session)
+            let known = Known {
+                sent,
+                spec,
+                board,
+                session,
+            };
+            !has_session(spec.instances.len(), board, session) || known.is_settled_in(participant)
         }
         None => true,
     }

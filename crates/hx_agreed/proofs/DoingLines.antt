@@ -84,6 +84,10 @@ same_session_is : (a b : Option SessionId) (s : SessionId) → a ≡ Some s → 
 same_session_is a b s e f =
     ap (λ (o : Option SessionId). Jobs.same_session o b) e ∙ ap (λ (o : Option SessionId). Jobs.same_session (Some s) o) f ∙ same-self s.0
 
+-- an instance fetches what waits for it
+abbrev pub fetch_of : InstanceId → Cluster → Event
+fetch_of i c = events.Fetch i (session_of c i) (length (messages_for c (session_of c i)))
+
 module _ (spec : Spec) (valid : IsValid spec) (last : Last) where
   pub kept_now : (x : State) → Stands spec last x → IsKept x.world.cluster
   kept_now x s = (whole_there spec last x.world valid s.scripted).kept
@@ -152,27 +156,27 @@ module _ (spec : Spec) (valid : IsValid spec) (last : Last) where
       }
 
   pub fetch_happens : (i : InstanceId) (x : State) → Ranges.has_instance spec i ≡ true → Stands spec last x
-      → x.world.weight + weight_of (events.Fetch i (session_of x.world.cluster i) (length (messages_for x.world.cluster (session_of x.world.cluster i)))) ≤ x.world.limit
-      → Stands spec last (happened (events.Fetch i (session_of x.world.cluster i) (length (messages_for x.world.cluster (session_of x.world.cluster i)))) x)
+      → x.world.weight + weight_of (fetch_of i x.world.cluster) ≤ x.world.limit
+      → Stands spec last (happened (fetch_of i x.world.cluster) x)
   fetch_happens i x there s room =
       let c = x.world.cluster in
-      let e : Event = events.Fetch i (session_of c i) (length (messages_for c (session_of c i))) in
+      let e = fetch_of i c in
       record {
         scripted = Scripted.fetch_happens spec valid last i x there s.scripted;
         in_step = board_happens spec valid last e x s (instance_there spec c i (fixed_there spec last x.world s.scripted) there, refl, refl) refl room;
       }
 
   pub fetched_now : (i : InstanceId) (x : State) → Ranges.has_instance spec i ≡ true → Stands spec last x
-      → x.world.weight + weight_of (events.Fetch i (session_of x.world.cluster i) (length (messages_for x.world.cluster (session_of x.world.cluster i)))) ≤ x.world.limit
-      → IsTaken (Jobs.fetched_as i (fetched x.world.cluster i) (happened (events.Fetch i (session_of x.world.cluster i) (length (messages_for x.world.cluster (session_of x.world.cluster i)))) x)) (messages_for x.world.cluster (session_of x.world.cluster i))
+      → x.world.weight + weight_of (fetch_of i x.world.cluster) ≤ x.world.limit
+      → IsTaken (Jobs.fetched_as i (fetched x.world.cluster i) (happened (fetch_of i x.world.cluster) x)) (messages_for x.world.cluster (session_of x.world.cluster i))
   fetched_now i x there s room =
       let c = x.world.cluster in
-      let y = happened (events.Fetch i (session_of c i) (length (messages_for c (session_of c i)))) x in
+      let y = happened (fetch_of i c) x in
       mail_taken (Jobs.same_session (participant_of y.world i).session (session_of c i)) i (fetched x.world.cluster i) y there refl refl (fetch_happens i x there s room) (mail_fetched spec valid last i x s.scripted) (mail_found c (kept_now x s) (session_of c i))
 
   pub fetched_there : (i : InstanceId) (x : State) → Ranges.has_instance spec i ≡ true → Stands spec last x
-      → x.world.weight + weight_of (events.Fetch i (session_of x.world.cluster i) (length (messages_for x.world.cluster (session_of x.world.cluster i)))) ≤ x.world.limit
-      → Stands spec last (Jobs.fetched_as i (fetched x.world.cluster i) (happened (events.Fetch i (session_of x.world.cluster i) (length (messages_for x.world.cluster (session_of x.world.cluster i)))) x))
+      → x.world.weight + weight_of (fetch_of i x.world.cluster) ≤ x.world.limit
+      → Stands spec last (Jobs.fetched_as i (fetched x.world.cluster i) (happened (fetch_of i x.world.cluster) x))
   fetched_there i x there s room = (fetched_now i x there s room).stands
 
   fetched_then : (i : InstanceId) (x : State) (g : State → Deed) → Ranges.has_instance spec i ≡ true → Stands spec last x
@@ -180,7 +184,7 @@ module _ (spec : Spec) (valid : IsValid spec) (last : Last) where
       → Keeps (Stands spec last) (and_then (Jobs.fetch_mail i (fetched x.world.cluster i) x) g)
   fetched_then i x g there s next =
       let mail = fetched x.world.cluster i in
-      let e : Event = events.Fetch i mail.session (length mail.messages) in
+      let e = fetch_of i x.world.cluster in
       let y = happened e x in
       let b = Jobs.same_session (participant_of y.world i).session mail.session in
       done_then (Stands spec last) e x (λ y. Jobs.fetched_as i mail y) g s
@@ -190,7 +194,7 @@ module _ (spec : Spec) (valid : IsValid spec) (last : Last) where
   pub fetch_done : (i : InstanceId) (x : State) → Ranges.has_instance spec i ≡ true → Stands spec last x → Keeps (Stands spec last) (Jobs.do_fetch i x)
   fetch_done i x there s =
       let mail = fetched x.world.cluster i in
-      let e : Event = events.Fetch i mail.session (length mail.messages) in
+      let e = fetch_of i x.world.cluster in
       happens_then (Stands spec last) e x (λ y. done (Jobs.fetched_as i mail y)) s (λ room. record { left = (fetched_now i x there s room).stands })
 
   -- deliveries

@@ -31,16 +31,7 @@ pub own_of_board : (k : ControllerId) (e : Event) → is_own k e ≡ true → is
 own_of_board k (events.Take s id) is = cc
 own_of_board k (events.Write s id outcome) is = cc
 own_of_board k (events.Ack s id) is = cc
-own_of_board k (events.Admin step did) is = refl
-own_of_board k (events.Line n) is = refl
-own_of_board k (events.Begin j begun) is = refl
-own_of_board k (events.Live j pass) is = refl
-own_of_board k (events.Mail j pass s) is = refl
-own_of_board k (events.States j pass s) is = refl
-own_of_board k (events.Ideals j pass) is = refl
-own_of_board k (events.Dispatch j epoch pass qs answer) is = refl
-own_of_board k (events.Post j epoch rows) is = refl
-own_of_board k (events.Fetch i s n) is = refl
+own_of_board k _ is = refl
 
 -- an event of the board happens
 pub board_happens : (spec : Spec) (valid : IsValid spec) (last : Last) (e : Event) (x : State) → IsGoing spec last x → IsStep x.world.cluster e → is_of_board e ≡ true

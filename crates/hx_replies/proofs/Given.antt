@@ -1,5 +1,5 @@
 -- A script that was read can be given to a world, and so its history is sound.
-use Rattle.std.proofs.Common.{◌≡◌, ℕ, true, List, [], None, Some, Option, Result, Ok, Err, refl, sym, ap, subst, ◌∙◌}
+use Rattle.std.proofs.Common.{◌≡◌, ℕ, List, [], None, Some, Option, Result, Ok, Err, refl}
 use Rattle.std.specs.Prelude.{IfOk, unwrap_or}
 use Rattle.hx_cluster.specs.declared.description.Spec.{Spec}
 use Rattle.hx_cluster.specs.Valid.{IsValid}

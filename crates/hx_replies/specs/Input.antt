@@ -1,5 +1,5 @@
 -- What an input asks for: a cluster and the lines of a script on it, or why it isn't run.
-use Rattle.std.specs.Prelude.{ℕ, ◌+◌, Bool, true, false, not, List, [], length, find, min, Option, None, Some, option_map, option_and_then, unwrap_or, Result, Ok, Err, if◌then◌else◌, nat_lt}
+use Rattle.std.specs.Prelude.{ℕ, List, [], Option, None, Some, option_and_then, unwrap_or, Result, Ok, Err}
 use Rattle.hx_text.specs.Faults.{lines_fault}
 use Rattle.hx_text.specs.Lines.{cut_of, lines_of}
 use Rattle.hx_text.specs.declared.line_table.TextFault.{TextFault}

@@ -1,7 +1,6 @@
 -- The world that a script begins with, and what its run comes to.
 use Rattle.std.specs.Prelude.{◌≡◌, ℕ, ◌+◌, true, List, [], ◌∷◌, map, length, Option, None, Some}
 use Rattle.hx_lists.specs.Lists.{numbers_below}
-use Rattle.hx_ids.specs.declared.InstanceId.{InstanceId}
 use Rattle.hx_cluster.specs.declared.description.Spec.{Spec}
 use Rattle.hx_cluster.specs.declared.description.Failure.{Failure}
 use Rattle.hx_cluster.specs.Steps.{opening}

@@ -1,7 +1,6 @@
 //! A script that is run in a world.
-ghost use Rattle.std.specs.Prelude.{◌≡◌, ◌≤◌, ◌^◌, ◌+◌, [], IfOk, length, map};
+ghost use Rattle.std.specs.Prelude.{◌≡◌, ◌≤◌, ◌^◌, IfOk, length, map};
 ghost use Rattle.hx_board.specs.Board.{new_board};
-ghost use Rattle.hx_cluster.specs.Valid.{IsValid};
 ghost use Rattle.hx_print.specs.Texts.{history_full_text};
 ghost use Rattle.hx_replicas.specs.Participants.{failures_on};
 ghost use Rattle.hx_text.specs.Texts.{Prints};
@@ -27,6 +26,7 @@ use hx_handler::{Factory, ScriptedFactory};
 use hx_ids::{ControllerId, InstanceId};
 use hx_print::print_history_full;
 use hx_replicas::Participant;
+use hx_scene::Deed;
 use hx_script::Line;
 use hx_sim::World;
 use hx_text::Page;
@@ -116,11 +116,7 @@ fn participants_of(
 }
 
 /// Does lines in turn.
-fn do_lines<F: Factory>(
-    world: &mut World<F>,
-    lines: &[Line],
-    page: &mut Page,
-) -> Result<(), RoomFault>
+fn do_lines<F: Factory>(world: &mut World<F>, lines: &[Line], page: &mut Page) -> Deed
     requires { IsFresh lines.now world.old }
     ensures { DoesDeed (λ x. for_each do_line lines.now x) world.old page.old world.new page.new result }
 {
@@ -132,11 +128,7 @@ fn do_lines<F: Factory>(
 }
 
 /// Does a whole script, and prints the view at its end.
-fn do_script<F: Factory>(
-    world: &mut World<F>,
-    lines: &[Line],
-    page: &mut Page,
-) -> Result<(), RoomFault>
+fn do_script<F: Factory>(world: &mut World<F>, lines: &[Line], page: &mut Page) -> Deed
     requires { IsFresh lines.now world.old }
     ensures { DoesDeed (λ x. do_script lines.now x) world.old page.old world.new page.new result }
 {

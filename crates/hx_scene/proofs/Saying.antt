@@ -45,10 +45,8 @@ pub same_text : {R : Type 0} {n : ℕ} {s u w : SceneState} {r : R} (text : Spec
 same_text {R} {n} {s} {u} {w} text charge is a = ap (λ t. say n t (at s a)) (same_after w (λ spec _. text spec) charge is)
 
 -- with the name of a resource
-pub same_line : {R : Type 0} {n : ℕ} {s u w : SceneState} {r : R} (line : Spec → List ℕ → List ℕ) (resource : ResourceId) (resources : List Resource) (name : List ℕ) → IsCharged n s u (Ok r) → w ≡ u
-    → resources ≡ w.board.cluster.resources → name ≡ resource_name w.spec resources resource → (a : Answers)
+pub same_line : {R : Type 0} {n : ℕ} {s u w : SceneState} {r : R} (line : Spec → List ℕ → List ℕ) (resource : ResourceId) (name : List ℕ) → IsCharged n s u (Ok r) → w ≡ u
+    → name ≡ resource_name w.spec w.board.cluster.resources resource → (a : Answers)
     → say n (line s.spec (resource_name s.spec s.board.cluster.resources resource)) (at s a) ≡ say n (line w.spec name) (at s a)
-same_line {R} {n} {s} {u} {w} line resource resources name charge is known named a =
-    ap (λ t. say n t (at s a))
-    (same_after w (λ spec all. line spec (resource_name spec all resource)) charge is
-    ∙ ap (λ m. line w.spec m) (sym (named ∙ ap (λ all. resource_name w.spec all resource) known)))
+same_line {R} {n} {s} {u} {w} line resource name charge is named a =
+    ap (λ t. say n t (at s a)) (same_after w (λ spec all. line spec (resource_name spec all resource)) charge is ∙ ap (λ m. line w.spec m) (sym named))

@@ -187,6 +187,13 @@ pub place_is : (jobs : List OpenState) (i : InstanceId) (id : MsgId) (js : List 
     → position (λ k. is_job i id (plain_job k)) jobs ≡ o
 place_is jobs i id js o r same at_r is = ap (λ ks. position (λ k. is_job i id (plain_job k)) ks) (sym same) ∙ sym at_r ∙ is
 
+pub found_nowhere : (s : SceneState) {js : List OpenState} {r : Option ℕ} (i : InstanceId) (id : MsgId) → js ≡ s.jobs → r ≡ position (λ k. is_job i id (plain_job k)) js → r ≡ None
+    → position (λ k. is_job i id (plain_job k)) s.jobs ≡ None
+found_nowhere s {js} {r} i id same at_r is = place_is s.jobs i id js None r same at_r is
+
+pub found_within : (s : SceneState) {js : List OpenState} {r : Option ℕ} (i : InstanceId) (id : MsgId) (n : ℕ) → js ≡ s.jobs → r ≡ position (λ k. is_job i id (plain_job k)) js → r ≡ Some n → n < length s.jobs
+found_within s {js} {r} i id n same at_r is = place_within s i id n (place_is s.jobs i id js (Some n) r same at_r is)
+
 pub stands_found : {s : SceneState} {js : List OpenState} {r : Option ℕ} {j : OpenState} (i : InstanceId) (id : MsgId) (n : ℕ) → IsScene s → js ≡ s.jobs
     → r ≡ position (λ k. is_job i id (plain_job k)) js → r ≡ Some n → j ≡ slice_index_or s.jobs n j → StandsAt s i id n j
 stands_found {s} {js} {r} i id n scene same at_r is here = record { scene = scene; place = place_is s.jobs i id js (Some n) r same at_r is; here = here }

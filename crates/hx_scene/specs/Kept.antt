@@ -3,7 +3,6 @@ use Rattle.std.specs.Prelude.{◌≡◌, List, Option, None, slice_index_or}
 use Rattle.std.specs.List.{All}
 use Rattle.std.specs.Option.{ForSome}
 use Rattle.hx_cluster.specs.declared.description.Failure.{Failure}
-use Rattle.hx_cluster.specs.Valid.{IsValid}
 use Rattle.hx_board.specs.Board.{HasHistory}
 use Rattle.hx_scripted.specs.OfHistory.{IsOfItsHistory}
 use Rattle.hx_agreed.specs.InStep.{IsInStep}

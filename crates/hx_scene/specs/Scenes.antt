@@ -5,7 +5,7 @@ use Rattle.hx_cluster.specs.declared.description.Spec.{Spec}
 use Rattle.hx_cluster.specs.declared.description.Failure.{Failure}
 use Rattle.hx_cluster.specs.declared.state.Message.{Message}
 use Rattle.hx_board.specs.Board.{Held, weight_at}
-use Rattle.hx_replicas.specs.Participants.{Participant, new_participant}
+use Rattle.hx_replicas.specs.Participants.{new_participant}
 use Rattle.hx_replicas.specs.Jobs.{ParticipantState, Ran, runs_of}
 use Rattle.hx_control.specs.Controllers.{Controller}
 use Rattle.hx_worlds.specs.World.{World, Job, Answers, State}

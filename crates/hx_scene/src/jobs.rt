@@ -1,6 +1,6 @@
 //! Open jobs: messages that were taken and run, and aren't done.
 
-ghost use Rattle.std.specs.Prelude.{◌≡◌, ◌+◌, ◌<◌, ◌++◌, List, [], map, filter, take, drop};
+ghost use Rattle.std.specs.Prelude.{◌≡◌, ◌+◌, ◌<◌, ◌++◌, [], map, filter, take, drop};
 ghost use Rattle.std.specs.Prelude.{length, position, slice_get, Some, IfOk};
 ghost use Rattle.std.specs.List.{All};
 ghost use Rattle.hx_lists.specs.Lists.{sort_by};

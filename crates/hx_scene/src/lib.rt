@@ -12,5 +12,10 @@ mod steps;
 mod telling;
 mod turns;
 
-pub use scene::Scene;
+use hx_board::RoomFault;
+pub use scene::{Parts, Scene};
 pub use telling::{Summary, print_counts};
+
+/// What an operation without an answer comes to: it is done, or the history has no room for it, or
+/// memory is wanted.
+pub type Deed = Result<(), RoomFault>;

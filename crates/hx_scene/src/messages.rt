@@ -8,8 +8,8 @@ ghost use Rattle.hx_worlds.specs.Jobs.{do_fetch, deliver as delivers, note_of};
 ghost use Rattle.hx_scene.specs.Doing.{DoesDeed};
 ghost use Rattle.hx_scene.specs.Scenes.{IsBagged};
 
-use crate::Scene;
 use crate::jobs::follow;
+use crate::{Deed, Scene};
 use hx_board::RoomFault;
 use hx_cluster::Message;
 use hx_handler::Factory;
@@ -35,8 +35,7 @@ impl<F: Factory> Scene<F> {
     /// participant adopts it.
     pub fn fetch(&mut self, instance: InstanceId, out: &mut Page) -> Result<Vec<Message>, RoomFault>
         requires { has_instance self.old.board.cluster instance ≡ true }
-        ensures does { DoesDeed (λ x. do_fetch instance x)
-            self.old out.old self.new out.new result }
+        ensures does { DoesDeed (do_fetch instance) self.old out.old self.new out.new result }
         ensures messages { IfOk result (λ messages.
             messages.items ≡ (fetched self.old.board.cluster instance).messages) }
         ensures bagged { IfOk result (λ messages. All (IsBagged self.new.bag) messages.items) }
@@ -64,10 +63,10 @@ impl<F: Factory> Scene<F> {
         instance: InstanceId,
         message: &Message,
         out: &mut Page,
-    ) -> Result<(), RoomFault>
+    ) -> Deed
         requires instance { has_instance self.old.board.cluster instance ≡ true }
         requires bagged { IsBagged self.old.bag message.now }
-        ensures does { DoesDeed (λ x. delivers voice instance message.now x)
+        ensures does { DoesDeed (delivers voice instance message.now)
             self.old out.old self.new out.new result }
         ensures bag { self.new.bag ≡ self.old.bag }
     {

@@ -6,7 +6,7 @@ ghost use Rattle.hx_text.specs.Texts.{Prints};
 ghost use Rattle.hx_print.specs.Texts.{event_text, names_of, roll_of};
 ghost use Rattle.hx_scene.specs.Advances.{no_roll};
 
-use crate::Scene;
+use crate::{Deed, Scene};
 use hx_board::RoomFault;
 use hx_cluster::Resource;
 use hx_handler::Factory;
@@ -55,7 +55,7 @@ impl<F: Factory> Scene<F> {
     }
 
     /// Prints the last event, whose log line needs nothing of the cluster.
-    pub(crate) fn print_event(&self, out: &mut Page) -> Result<(), RoomFault>
+    pub(crate) fn print_event(&self, out: &mut Page) -> Deed
         ensures prints { (h : List Happening) (e : Happening)
             → self.now.board.history ≡ h ++ e ∷ []
             → Prints (event_text self.now.spec no_roll e) out.old result out.new }

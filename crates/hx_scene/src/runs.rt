@@ -8,8 +8,8 @@ ghost use Rattle.hx_worlds.specs.Jobs.{do_take, do_write, do_ack};
 ghost use Rattle.hx_scene.specs.Doing.{DoesDeed};
 ghost use Rattle.hx_scene.specs.Taking.{HandsOut, IsStill};
 
-use crate::Scene;
 use crate::jobs::{OpenJob, end_at, place_of};
+use crate::{Deed, Scene};
 use hx_board::RoomFault;
 use hx_handler::Factory;
 use hx_ids::{InstanceId, MsgId};
@@ -42,16 +42,9 @@ fn hand_out<F: Factory>(
 impl<F: Factory> Scene<F> {
     /// Hands out an accepted message, takes it on the board and runs its transition. Where its
     /// session has ended it is put back.
-    pub fn take(
-        &mut self,
-        voice: Voice,
-        instance: InstanceId,
-        id: MsgId,
-        out: &mut Page,
-    ) -> Result<(), RoomFault>
+    pub fn take(&mut self, voice: Voice, instance: InstanceId, id: MsgId, out: &mut Page) -> Deed
         requires { has_instance self.old.board.cluster instance ≡ true }
-        ensures { DoesDeed (λ x. do_take voice instance id x)
-            self.old out.old self.new out.new result }
+        ensures { DoesDeed (do_take voice instance id) self.old out.old self.new out.new result }
     {
         if self.handed >= MOST_HANDED {
             return Err(RoomFault::OutOfMemory);
@@ -81,16 +74,9 @@ impl<F: Factory> Scene<F> {
     }
 
     /// Writes the outcome of an open job to the board. Where its session has ended the job ends.
-    pub fn write(
-        &mut self,
-        voice: Voice,
-        instance: InstanceId,
-        id: MsgId,
-        out: &mut Page,
-    ) -> Result<(), RoomFault>
+    pub fn write(&mut self, voice: Voice, instance: InstanceId, id: MsgId, out: &mut Page) -> Deed
         requires { has_instance self.old.board.cluster instance ≡ true }
-        ensures { DoesDeed (λ x. do_write voice instance id x)
-            self.old out.old self.new out.new result }
+        ensures { DoesDeed (do_write voice instance id) self.old out.old self.new out.new result }
     {
         let Some(place) = place_of(&self.jobs, instance, id) else {
             return self.note(voice, &Note::NoJob, out);
@@ -114,16 +100,9 @@ impl<F: Factory> Scene<F> {
     }
 
     /// Acknowledges an open job whose outcome is written. The job ends, also where its session has.
-    pub fn ack(
-        &mut self,
-        voice: Voice,
-        instance: InstanceId,
-        id: MsgId,
-        out: &mut Page,
-    ) -> Result<(), RoomFault>
+    pub fn ack(&mut self, voice: Voice, instance: InstanceId, id: MsgId, out: &mut Page) -> Deed
         requires { has_instance self.old.board.cluster instance ≡ true }
-        ensures { DoesDeed (λ x. do_ack voice instance id x)
-            self.old out.old self.new out.new result }
+        ensures { DoesDeed (do_ack voice instance id) self.old out.old self.new out.new result }
     {
         let Some(place) = place_of(&self.jobs, instance, id) else {
             return self.note(voice, &Note::NoJob, out);

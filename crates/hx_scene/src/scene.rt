@@ -25,6 +25,16 @@ use hx_replicas::Participant;
 use std::alloc::{AllocError, Global};
 use std::marker::Model;
 
+/// What a scene is made of: a board of a description, and the controllers and participants that act
+/// on it.
+pub struct Parts<F: Factory> {
+    pub spec: Spec,
+    pub board: Board,
+    pub controllers: Vec<Controller>,
+    /// By instance.
+    pub participants: Vec<Participant<F>>,
+}
+
 /// A board with the controllers and participants that act on it. It can't be dropped: it has to be
 /// closed.
 pub struct Scene<F: Factory> {
@@ -78,27 +88,28 @@ fn close_all<F: Factory>(mut participants: Vec<Participant<F>>)
 impl<F: Factory> Scene<F> {
     /// A scene of its parts, in which nothing is open. For want of memory its participants are
     /// closed.
-    pub fn from_parts(
-        alloc: Global,
-        spec: Spec,
-        board: Board,
-        controllers: Vec<Controller>,
-        participants: Vec<Participant<F>>,
-    ) -> Result<Scene<F>, AllocError>
-        requires history { HasHistory board }
-        requires orderly { All IsOrderly (plain_staff participants.items) }
-        requires agree { Agree spec (record { spec = board.spec; history = board.history })
-            controllers.items (stationed_from 0 (plain_staff participants.items)) }
+    pub fn from_parts(alloc: Global, parts: Parts<F>) -> Result<Scene<F>, AllocError>
+        requires history { HasHistory parts.board }
+        requires orderly { All IsOrderly (plain_staff parts.participants.items) }
+        requires agree { Agree parts.spec
+            (record { spec = parts.board.spec; history = parts.board.history })
+            parts.controllers.items (stationed_from 0 (plain_staff parts.participants.items)) }
         ensures { IfOk result (λ scene. scene ≡ record {
-          spec = spec;
-          board = board;
-          controllers = controllers.items;
-          staff = participants.items;
+          spec = parts.spec;
+          board = parts.board;
+          controllers = parts.controllers.items;
+          staff = parts.participants.items;
           jobs = [];
           bag = [];
           handed = 0;
         }) }
     {
+        let Parts {
+            spec,
+            board,
+            controllers,
+            participants,
+        } = parts;
         match hops_of(alloc, spec.models.as_slice()) {
             Ok(hops) => Ok(Scene {
                 spec,

@@ -8,8 +8,8 @@ ghost use Rattle.hx_worlds.specs.Runs.{happen};
 ghost use Rattle.hx_worlds.specs.Scripts.{do_step, do_die};
 ghost use Rattle.hx_scene.specs.Doing.{DoesDeed};
 
-use crate::Scene;
 use crate::jobs::adopt;
+use crate::{Deed, Scene};
 use hx_board::{BoardFault, RoomFault};
 use hx_cluster::{Admin, Event};
 use hx_handler::Factory;
@@ -20,11 +20,10 @@ use hx_worlds::Voice;
 
 impl<F: Factory> Scene<F> {
     /// Takes the script's next line, which has this number.
-    pub fn take_line(&mut self, number: u32, out: &mut Page) -> Result<(), RoomFault>
+    pub fn take_line(&mut self, number: u32, out: &mut Page) -> Deed
         requires next { next_line_of self.old.board ≡ Some number }
         requires later { is_later self.old.board.cluster.line number ≡ true }
-        ensures { DoesDeed (λ x. happen (Event.Line number) x)
-            self.old out.old self.new out.new result }
+        ensures { DoesDeed (happen (Event.Line number)) self.old out.old self.new out.new result }
     {
         self.board.next_line()?;
         self.board.history();
@@ -32,9 +31,9 @@ impl<F: Factory> Scene<F> {
     }
 
     /// Makes a step, or notes why not.
-    pub fn step(&mut self, voice: Voice, step: &Admin, out: &mut Page) -> Result<(), RoomFault>
+    pub fn step(&mut self, voice: Voice, step: &Admin, out: &mut Page) -> Deed
         requires { is_in_range self.old.board.cluster step.now ≡ true }
-        ensures { DoesDeed (λ x. do_step voice step.now x) self.old out.old self.new out.new result }
+        ensures { DoesDeed (do_step voice step.now) self.old out.old self.new out.new result }
     {
         let roll = self.roll()?;
         match self.board.admin(step) {
@@ -50,14 +49,9 @@ impl<F: Factory> Scene<F> {
     }
 
     /// Ends an instance's session, and its participant with it, or notes why not.
-    pub fn die(
-        &mut self,
-        voice: Voice,
-        instance: InstanceId,
-        out: &mut Page,
-    ) -> Result<(), RoomFault>
+    pub fn die(&mut self, voice: Voice, instance: InstanceId, out: &mut Page) -> Deed
         requires { has_instance self.old.board.cluster instance ≡ true }
-        ensures { DoesDeed (λ x. do_die voice instance x) self.old out.old self.new out.new result }
+        ensures { DoesDeed (do_die voice instance) self.old out.old self.new out.new result }
     {
         let roll = self.roll()?;
         let open = self.open_jobs(instance)?;

@@ -1,16 +1,17 @@
 //! What is said beside the log: notes, outcomes and views, each charged before it is printed.
-ghost use Rattle.std.specs.Prelude.{◌≡◌, ◌+◌, List, ℕ, length};
+ghost use Rattle.std.specs.Prelude.{◌≡◌, ◌+◌, length};
 ghost use Rattle.hx_cluster.specs.Reads.{live_shown};
 ghost use Rattle.hx_print.specs.Texts.{accept_text, sent_text, waiting_text, moved_text, settled_text};
-ghost use Rattle.hx_print.specs.Texts.{settle_text, failed_text, full_text, view_line, route_text};
+ghost use Rattle.hx_print.specs.Texts.{settle_text, failed_text, full_text, resource_name as name_at};
 ghost use Rattle.hx_text.specs.Texts.{Prints};
 ghost use Rattle.hx_worlds.specs.Runs.{say, say_if_loud, note as noted};
+ghost use Rattle.hx_worlds.specs.Scripts.{say_view_of, say_route};
 ghost use Rattle.hx_scene.specs.Doing.{DoesDeed};
 ghost use Rattle.hx_scene.specs.Telling.{IsCharged, text_of, line_text};
 
-use crate::Scene;
-use hx_board::RoomFault;
-use hx_cluster::Full;
+use crate::{Deed, Scene};
+use hx_board::{Board, RoomFault};
+use hx_cluster::{Full, Spec};
 use hx_handler::Factory;
 use hx_ids::{ControllerId, InstanceId, MsgId, PartId, SessionId, StateId};
 use hx_print::{
@@ -72,9 +73,16 @@ fn print_line(line: Line, out: &mut Page) -> Result<(), AllocError>
     }
 }
 
+/// The name of a part's resource.
+fn name_in<'a>(spec: &'a Spec, board: &Board, part: PartId) -> &'a str
+    ensures { result.now ≡ name_at spec.now board.now.cluster.resources part.resource }
+{
+    resource_name(spec, board.resources(), part.resource)
+}
+
 impl<F: Factory> Scene<F> {
     /// Charges the board, where the history has room.
-    fn charge(&mut self, n: u64) -> Result<(), RoomFault>
+    fn charge(&mut self, n: u64) -> Deed
         ensures { IsCharged n self.old self.new result }
     {
         match self.board.charge(n) {
@@ -86,9 +94,8 @@ impl<F: Factory> Scene<F> {
     }
 
     /// Charges the board for a line, and prints it.
-    fn say_line(&mut self, line: Line, out: &mut Page) -> Result<(), RoomFault>
-        ensures { DoesDeed (λ x. say 1 (line_text line) x)
-            self.old out.old self.new out.new result }
+    fn say_line(&mut self, line: Line, out: &mut Page) -> Deed
+        ensures { DoesDeed (say 1 (line_text line)) self.old out.old self.new out.new result }
     {
         self.charge(1)?;
         print_line(line, out)?;
@@ -96,9 +103,8 @@ impl<F: Factory> Scene<F> {
     }
 
     /// Notes why a line, or a part of one, was not done.
-    pub fn note(&mut self, voice: Voice, note: &Note, out: &mut Page) -> Result<(), RoomFault>
-        ensures does { DoesDeed (λ x. noted voice note.now x)
-            self.old out.old self.new out.new result }
+    pub fn note(&mut self, voice: Voice, note: &Note, out: &mut Page) -> Deed
+        ensures does { DoesDeed (noted voice note.now) self.old out.old self.new out.new result }
         ensures bag { self.new.bag ≡ self.old.bag }
     {
         let Voice::Loud(line) = voice else {
@@ -116,40 +122,32 @@ impl<F: Factory> Scene<F> {
         instance: InstanceId,
         id: MsgId,
         out: &mut Page,
-    ) -> Result<(), RoomFault>
+    ) -> Deed
         ensures does { DoesDeed (λ x. say_if_loud voice 1 (accept_text x.world.spec instance id) x)
             self.old out.old self.new out.new result }
         ensures bag { self.new.bag ≡ self.old.bag }
     {
-        let Voice::Loud(_) = voice else {
-            return Ok(());
-        };
-        self.charge(1)?;
-        print_accept(instance, id, &self.spec, out)?;
-        Ok(())
+        match voice {
+            Voice::Quiet => Ok(()),
+            Voice::Loud(_) => {
+                self.charge(1)?;
+                print_accept(instance, id, &self.spec, out)?;
+                Ok(())
+            }
+        }
     }
 
     /// Says that proposals were sent.
-    pub fn say_sent(
-        &mut self,
-        controller: ControllerId,
-        n: u32,
-        out: &mut Page,
-    ) -> Result<(), RoomFault>
-        ensures { DoesDeed (λ x. say 1 (sent_text controller n) x)
+    pub fn say_sent(&mut self, controller: ControllerId, n: u32, out: &mut Page) -> Deed
+        ensures { DoesDeed (say 1 (sent_text controller n))
             self.old out.old self.new out.new result }
     {
         self.say_line(Line::Sent(controller, n), out)
     }
 
     /// Says that a pass waits for pending messages.
-    pub fn say_waiting(
-        &mut self,
-        controller: ControllerId,
-        n: u32,
-        out: &mut Page,
-    ) -> Result<(), RoomFault>
-        ensures { DoesDeed (λ x. say 1 (waiting_text controller n) x)
+    pub fn say_waiting(&mut self, controller: ControllerId, n: u32, out: &mut Page) -> Deed
+        ensures { DoesDeed (say 1 (waiting_text controller n))
             self.old out.old self.new out.new result }
     {
         self.say_line(Line::Waiting(controller, n), out)
@@ -162,48 +160,43 @@ impl<F: Factory> Scene<F> {
         from: u64,
         to: u64,
         out: &mut Page,
-    ) -> Result<(), RoomFault>
-        ensures { DoesDeed (λ x. say 1 (moved_text controller from to) x)
+    ) -> Deed
+        ensures { DoesDeed (say 1 (moved_text controller from to))
             self.old out.old self.new out.new result }
     {
         self.say_line(Line::Moved(controller, from, to), out)
     }
 
     /// Says that a pass settled.
-    pub fn say_settled(&mut self, controller: ControllerId, out: &mut Page) -> Result<(), RoomFault>
-        ensures { DoesDeed (λ x. say 1 (settled_text controller) x)
+    pub fn say_settled(&mut self, controller: ControllerId, out: &mut Page) -> Deed
+        ensures { DoesDeed (say 1 (settled_text controller))
             self.old out.old self.new out.new result }
     {
         self.say_line(Line::Settled(controller), out)
     }
 
     /// Says that a settle took so many rounds.
-    pub fn say_settle(
-        &mut self,
-        controller: ControllerId,
-        n: u64,
-        out: &mut Page,
-    ) -> Result<(), RoomFault>
-        ensures { DoesDeed (λ x. say 1 (settle_text controller n) x)
+    pub fn say_settle(&mut self, controller: ControllerId, n: u64, out: &mut Page) -> Deed
+        ensures { DoesDeed (say 1 (settle_text controller n))
             self.old out.old self.new out.new result }
     {
         self.say_line(Line::Settle(controller, n), out)
     }
 
     /// Says that a replica is in ERROR, and nobody asked it to leave.
-    pub fn say_failed(
-        &mut self,
-        instance: InstanceId,
-        part: PartId,
-        out: &mut Page,
-    ) -> Result<(), RoomFault>
+    pub fn say_failed(&mut self, instance: InstanceId, part: PartId, out: &mut Page) -> Deed
         ensures { DoesDeed (λ x.
             say 1 (failed_text x.world.spec x.world.cluster.resources instance part) x)
             self.old out.old self.new out.new result }
     {
         self.charge(1)?;
-        let name = resource_name(&self.spec, self.board.resources(), part.resource);
-        print_failed(instance, name, part, &self.spec, out)?;
+        print_failed(
+            instance,
+            name_in(&self.spec, &self.board, part),
+            part,
+            &self.spec,
+            out,
+        )?;
         Ok(())
     }
 
@@ -213,7 +206,7 @@ impl<F: Factory> Scene<F> {
         full: &Full,
         shown: &[(SessionId, InstanceId)],
         out: &mut Page,
-    ) -> Result<(), RoomFault>
+    ) -> Deed
         requires { shown.now ≡ live_shown self.old.board.cluster }
         ensures { DoesDeed (λ x. say (1 + length full.now.holders)
             (full_text x.world.spec x.world.cluster.resources (live_shown x.world.cluster) full.now) x)
@@ -222,8 +215,13 @@ impl<F: Factory> Scene<F> {
         let holders = full.holders.as_slice();
         self.charge(1 + holders.len() as u64)?;
         let part = full.candidate.part;
-        let name = resource_name(&self.spec, self.board.resources(), part.resource);
-        print_full(full, name, shown, &self.spec, out)?;
+        print_full(
+            full,
+            name_in(&self.spec, &self.board, part),
+            shown,
+            &self.spec,
+            out,
+        )?;
         Ok(())
     }
 
@@ -233,14 +231,17 @@ impl<F: Factory> Scene<F> {
         part: PartId,
         holders: &[(InstanceId, StateId)],
         out: &mut Page,
-    ) -> Result<(), RoomFault>
-        ensures { DoesDeed (λ x. say (1 + length holders.now)
-            (view_line x.world.spec x.world.cluster.resources part holders.now) x)
-            self.old out.old self.new out.new result }
+    ) -> Deed
+        ensures { DoesDeed (say_view_of part holders.now) self.old out.old self.new out.new result }
     {
         self.charge(1 + holders.len() as u64)?;
-        let name = resource_name(&self.spec, self.board.resources(), part.resource);
-        print_seen(name, part, holders, &self.spec, out)?;
+        print_seen(
+            name_in(&self.spec, &self.board, part),
+            part,
+            holders,
+            &self.spec,
+            out,
+        )?;
         Ok(())
     }
 
@@ -251,21 +252,25 @@ impl<F: Factory> Scene<F> {
         state: StateId,
         instances: &[InstanceId],
         out: &mut Page,
-    ) -> Result<(), RoomFault>
-        ensures { DoesDeed (λ x. say (1 + length instances.now)
-            (route_text x.world.spec x.world.cluster.resources part state instances.now) x)
+    ) -> Deed
+        ensures { DoesDeed (say_route part state instances.now)
             self.old out.old self.new out.new result }
     {
         self.charge(1 + instances.len() as u64)?;
-        let name = resource_name(&self.spec, self.board.resources(), part.resource);
-        print_route(name, part, state, instances, &self.spec, out)?;
+        print_route(
+            name_in(&self.spec, &self.board, part),
+            part,
+            state,
+            instances,
+            &self.spec,
+            out,
+        )?;
         Ok(())
     }
 
     /// Says what happened so far, in numbers.
-    pub fn say_summary(&mut self, summary: &Summary, out: &mut Page) -> Result<(), RoomFault>
-        ensures { DoesDeed (λ x. say 1 (text_of summary.now) x)
-            self.old out.old self.new out.new result }
+    pub fn say_summary(&mut self, summary: &Summary, out: &mut Page) -> Deed
+        ensures { DoesDeed (say 1 (text_of summary.now)) self.old out.old self.new out.new result }
     {
         self.say_line(Line::Summary(*summary), out)
     }

@@ -1,19 +1,19 @@
 -- Calls one after another, with the later of their outcomes.
-use Rattle.std.proofs.Common.{◌≡◌, ℕ, zero, suc, ◌-◌, ◌<◌, ◌≤◌, List, [], ◌∷◌, ◌++◌, Option, Some, None, ◌+◌, refl, sym, ap, subst, ◌∙◌, arith}
+use Rattle.std.proofs.Common.{◌≡◌, ℕ, suc, ◌-◌, ◌<◌, ◌≤◌, List, [], ◌++◌, Option, Some, None, ◌+◌, refl, sym, ap, subst, ◌∙◌, arith}
 use Rattle.std.specs.Option.{option_or}
 use Rattle.std.proofs.lemmas.List.{append-nil}
 use Rattle.hx_ids.specs.declared.ControllerId.{ControllerId}
 use Rattle.hx_control.specs.declared.PassOutcome.{PassOutcome}
 use Rattle.hx_worlds.specs.declared.Voice.{Voice}
 use Rattle.hx_worlds.specs.World.{Answers, State, controller_of}
-use Rattle.hx_worlds.specs.Runs.{Run, GoesOn, Stops, gives, go_on, after_items}
+use Rattle.hx_worlds.specs.Runs.{Run, GoesOn, Stops, gives, go_on}
 use Rattle.hx_worlds.specs.Turns.{left_of, if_under_way, begin_if_idle, do_call, do_calls, do_rest, do_pass, or_earlier}
 use Rattle.hx_control.specs.declared.Stage.TheVariants as stages
 use Rattle.hx_control.specs.Controllers.{stage}
 use Rattle.hx_scene.specs.Scenes.{SceneState, at, world_of}
 use Rattle.hx_scene.specs.Doing.{Reaches, Ends, Fails}
 use Rattle.hx_board.specs.declared.faults.RoomFault.{RoomFault}
-use Rattle.hx_scene.proofs.Reaching.{here, there, inside, then_on, reaches_as, reaches_to, fails_inside, fails_as, fails_after, on_after}
+use Rattle.hx_scene.proofs.Reaching.{here, there, inside, then_on, reaches_as, reaches_to, fails_inside, fails_as, fails_after}
 use Rattle.hx_sim.proofs.Stages.{idle_at, under_way}
 
 -- the later of outcomes

@@ -1,5 +1,5 @@
 -- A settle has an answer exactly where somebody leads, and then it has settled.
-use Rattle.std.proofs.Common.{◌≡◌, ◌≤◌, ℕ, true, List, [], ◌++◌, map, Option, None, Some, refl, sym, ap, subst, ◌∙◌}
+use Rattle.std.proofs.Common.{◌≡◌, ℕ, true, List, [], ◌++◌, map, Option, None, Some, refl, sym, ap, subst, ◌∙◌}
 use Rattle.std.specs.Prelude.{is_some, Ok}
 use Rattle.hx_ids.specs.declared.ControllerId.{ControllerId}
 use Rattle.hx_cluster.specs.declared.state.Cluster.{Cluster}
@@ -9,11 +9,11 @@ use Rattle.hx_cluster.specs.Valid.{IsValid}
 use Rattle.hx_pass.specs.Explained.{IsExplained}
 use Rattle.hx_worlds.specs.declared.Settled.{Settled}
 use Rattle.hx_worlds.specs.World.{State, Answers, Answered}
-use Rattle.hx_worlds.specs.Runs.{Run, GoesOn}
+use Rattle.hx_worlds.specs.Runs.{Run}
 use Rattle.hx_worlds.specs.Settles.{settle, enough_rounds}
 use Rattle.hx_bounded.specs.Ending.{OfGoing, HasSettled, IsEnd}
 use Rattle.hx_bounded.proofs.Laws.{settles}
-use Rattle.hx_scene.specs.Scenes.{SceneState, at, world_of}
+use Rattle.hx_scene.specs.Scenes.{SceneState, at}
 use Rattle.hx_scene.specs.Kept.{IsScene}
 use Rattle.hx_scene.specs.Doing.{Ends, left}
 use Rattle.hx_scene.proofs.Reaching.{answered_gives}

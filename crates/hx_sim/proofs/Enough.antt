@@ -1,8 +1,6 @@
 -- The number of rounds that are enough, from what a board tells.
-use Rattle.std.proofs.Common.{◌≡◌, ℕ, ◌+◌, ◌*◌, List, length, refl, sym, ap, ◌∙◌, subst}
+use Rattle.std.proofs.Common.{◌≡◌, ℕ, ◌+◌, ◌*◌, length, sym, ap, ◌∙◌}
 use Rattle.std.proofs.lemmas.List.{length-map}
-use Rattle.hx_ids.specs.declared.Live.{Live}
-use Rattle.hx_model.specs.declared.ModelParts.{ModelParts}
 use Rattle.hx_cluster.specs.Ends.{shown_of}
 use Rattle.hx_worlds.specs.Settles.{all_parts, most_states, enough_rounds}
 use Rattle.hx_scene.specs.Scenes.{SceneState}

@@ -6,14 +6,15 @@ use Rattle.hx_control.specs.declared.Stage.{Stage}
 use Rattle.hx_control.specs.declared.Stage.TheVariants as stages
 use Rattle.hx_control.specs.Controllers.{Controller, stage, stage_at, stage_before_dispatch}
 use Rattle.hx_control.specs.declared.PassOutcome.{PassOutcome}
-use Rattle.hx_control.specs.Controllers.{is_mail_call, is_states_call}
 use Rattle.hx_ids.specs.declared.ControllerId.{ControllerId}
 use Rattle.hx_worlds.specs.declared.Voice.{Voice}
 use Rattle.hx_worlds.specs.World.{State, controller_of}
 use Rattle.hx_worlds.specs.Runs.{Run, Deed, gives, go_on}
-use Rattle.hx_worlds.specs.Turns.{word_of, left_of, if_under_way, begin_if_idle, step, make_plan, do_call_of, do_call, in_turn, chosen, is_nothing_shown, is_live_call, is_ideals_call, is_send_call, is_post_call}
+use Rattle.hx_worlds.specs.Turns.{word_of, left_of, if_under_way, begin_if_idle, step, make_plan, do_call_of, do_call, in_turn, chosen, is_nothing_shown}
 use Rattle.hx_scene.proofs.Reaching.{after_none}
-use Rattle.hx_sim.specs.Words.{word_for, is_first_of, step_on, plan_and_send, is_live_stage, is_mail_stage, is_states_stage, is_ideals_stage, is_send_stage, is_post_stage}
+use Rattle.hx_print.specs.declared.Word.{Word}
+use Rattle.hx_print.specs.declared.Word.TheVariants as words
+use Rattle.hx_sim.specs.Words.{word_for, is_first_of, is_at, is_call_of, step_on, plan_and_send}
 
 no_idle_dispatch : (plan : Option Plan) → stage_before_dispatch plan ≡ stages.Idle → ⊥
 no_idle_dispatch None e = cc
@@ -58,21 +59,32 @@ not_over _ shown other = refl
 -- what a stage tells of the next call
 pub record TellsNext (stage : Stage) (calls : List Call) : Type 0 where
   pub word : word_for stage ≡ word_of calls
-  pub live : is_first_of is_live_call calls ≡ is_live_stage stage
-  pub mail : is_first_of is_mail_call calls ≡ is_mail_stage stage
-  pub states : is_first_of is_states_call calls ≡ is_states_stage stage
-  pub ideals : is_first_of is_ideals_call calls ≡ is_ideals_stage stage
-  pub send : is_first_of is_send_call calls ≡ is_send_stage stage
-  pub post : is_first_of is_post_call calls ≡ is_post_stage stage
+  pub begin : is_first_of (is_call_of words.Begin) calls ≡ is_at words.Begin stage
+  pub live : is_first_of (is_call_of words.Live) calls ≡ is_at words.Live stage
+  pub mail : is_first_of (is_call_of words.Mail) calls ≡ is_at words.Mail stage
+  pub states : is_first_of (is_call_of words.States) calls ≡ is_at words.States stage
+  pub ideals : is_first_of (is_call_of words.Ideals) calls ≡ is_at words.Ideals stage
+  pub send : is_first_of (is_call_of words.Send) calls ≡ is_at words.Send stage
+  pub post : is_first_of (is_call_of words.Post) calls ≡ is_at words.Post stage
   pub over : (shown : ℕ) → is_nothing_shown calls shown ≡ passes_over stage shown
 
 tells_dispatch : (plan : Option Plan) (rest : List Call) → TellsNext (stage_before_dispatch plan) (Send ∷ rest)
-tells_dispatch None rest = record { word = refl; live = refl; mail = refl; states = refl; ideals = refl; send = refl; post = refl; over = λ shown. refl }
-tells_dispatch (Some plan) rest = record { word = refl; live = refl; mail = refl; states = refl; ideals = refl; send = refl; post = refl; over = λ shown. refl }
+tells_dispatch None rest = record { word = refl; begin = refl; live = refl; mail = refl; states = refl; ideals = refl; send = refl; post = refl; over = λ shown. refl }
+tells_dispatch (Some plan) rest = record { word = refl; begin = refl; live = refl; mail = refl; states = refl; ideals = refl; send = refl; post = refl; over = λ shown. refl }
 
 pub tells_next : (x : Controller) (calls : List Call) → TellsNext (stage_at x calls) calls
 tells_next x (Send ∷ rest) = tells_dispatch x.plan rest
-tells_next x _ = record { word = refl; live = refl; mail = refl; states = refl; ideals = refl; send = refl; post = refl; over = λ shown. refl }
+tells_next x _ = record { word = refl; begin = refl; live = refl; mail = refl; states = refl; ideals = refl; send = refl; post = refl; over = λ shown. refl }
+
+-- of each word
+pub next_at : {stage : Stage} {calls : List Call} → TellsNext stage calls → (word : Word) → is_first_of (is_call_of word) calls ≡ is_at word stage
+next_at t words.Begin = t.begin
+next_at t words.Live = t.live
+next_at t words.Mail = t.mail
+next_at t words.States = t.states
+next_at t words.Ideals = t.ideals
+next_at t words.Send = t.send
+next_at t words.Post = t.post
 
 -- by the kind of the next call, what is done
 pub first_is : (is_of : Call → Bool) (calls : List Call) (f otherwise : State → Deed) (x : State) → is_first_of is_of calls ≡ true → in_turn is_of calls f otherwise x ≡ f x

@@ -14,7 +14,7 @@ use Rattle.hx_scene.specs.Scenes.{SceneState, at, world_of}
 use Rattle.hx_scene.specs.Doing.{Ends, Fails, Does}
 use Rattle.hx_scene.proofs.Reaching.{does_as, fails_as, fails_inside, reaches_as, then_on}
 use Rattle.hx_control.specs.Controllers.{Controller}
-use Rattle.hx_sim.specs.Words.{is_first_of, IsNextOf}
+use Rattle.hx_sim.specs.Words.{is_first_of}
 use Rattle.hx_sim.proofs.Stages.{first_is, first_is_not}
 
 abbrev pub IsFirst : (Call → Bool) → SceneState → ControllerId → Bool → Type 0
@@ -64,9 +64,6 @@ words_else v k is_of otherwise s p first u q result e =
 -- by the turn that a call showed
 pub turn_is : {s u : SceneState} {x : Controller} (k : ControllerId) → x ≡ controller_of (world_of s) k → s ≡ u → x ≡ controller_of (world_of u) k
 turn_is k is same = is ∙ ap (λ (s : SceneState). controller_of (world_of s) k) same
-
-pub next_is : {x y : Controller} {is_next : Bool} (is_of : Call → Bool) → is_next ≡ is_first_of is_of x.turn.left → x ≡ y → IsNextOf is_of y is_next
-next_is is_of is same = is ∙ ap (λ (x : Controller). is_first_of is_of x.turn.left) same
 
 -- an operation of a word, by another word that it is
 pub does_same : {X A R : Type 0} {x y : X} (f : X → State → Run A) → x ≡ y → (answer : R → A) (s : SceneState) (p : List ℕ) (u : SceneState) (q : List ℕ) (result : Result R RoomFault)

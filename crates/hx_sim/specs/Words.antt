@@ -1,8 +1,8 @@
 -- The words for the steps of a turn.
-use Rattle.std.specs.Prelude.{◌≡◌, Bool, true, false, List, [], ◌∷◌, Option}
+use Rattle.std.specs.Prelude.{Bool, true, false, List, [], ◌∷◌, Option}
 use Rattle.hx_ids.specs.declared.ControllerId.{ControllerId}
 use Rattle.hx_pass.specs.Turns.{Call}
-use Rattle.hx_control.specs.Controllers.{Controller}
+use Rattle.hx_control.specs.Controllers.{is_mail_call, is_states_call}
 use Rattle.hx_control.specs.declared.Stage.{Stage}
 use Rattle.hx_control.specs.declared.Stage.TheVariants as stages
 use Rattle.hx_control.specs.declared.PassOutcome.{PassOutcome}
@@ -11,7 +11,7 @@ use Rattle.hx_print.specs.declared.Word.TheVariants as words
 use Rattle.hx_worlds.specs.declared.Voice.{Voice}
 use Rattle.hx_worlds.specs.World.{State}
 use Rattle.hx_worlds.specs.Runs.{Run, go_on}
-use Rattle.hx_worlds.specs.Turns.{left_of, if_under_way, step}
+use Rattle.hx_worlds.specs.Turns.{left_of, if_under_way, step, is_live_call, is_ideals_call, is_send_call, is_post_call}
 
 abbrev pub word_for : Stage → Word
 word_for stages.Idle = words.Begin
@@ -28,34 +28,26 @@ abbrev pub is_first_of : (Call → Bool) → List Call → Bool
 is_first_of is_of [] = false
 is_first_of is_of (call ∷ calls) = is_of call
 
-abbrev pub IsNextOf : (Call → Bool) → Controller → Bool → Type 0
-IsNextOf is_of k is_next = is_next ≡ is_first_of is_of k.turn.left
+-- the calls of a word. No call begins a turn
+abbrev pub is_call_of : Word → Call → Bool
+is_call_of words.Begin = λ call. false
+is_call_of words.Live = is_live_call
+is_call_of words.Mail = is_mail_call
+is_call_of words.States = is_states_call
+is_call_of words.Ideals = is_ideals_call
+is_call_of words.Send = is_send_call
+is_call_of words.Post = is_post_call
 
--- and the stages of each kind
-abbrev pub is_live_stage : Stage → Bool
-is_live_stage stages.Live = true
-is_live_stage _ = false
-
-abbrev pub is_mail_stage : Stage → Bool
-is_mail_stage (stages.Mail n) = true
-is_mail_stage _ = false
-
-abbrev pub is_states_stage : Stage → Bool
-is_states_stage (stages.States n) = true
-is_states_stage _ = false
-
-abbrev pub is_ideals_stage : Stage → Bool
-is_ideals_stage stages.Ideals = true
-is_ideals_stage _ = false
-
-abbrev pub is_send_stage : Stage → Bool
-is_send_stage stages.Plan = true
-is_send_stage stages.Send = true
-is_send_stage _ = false
-
-abbrev pub is_post_stage : Stage → Bool
-is_post_stage stages.Post = true
-is_post_stage _ = false
+-- and the stages of a word
+abbrev pub is_at : Word → Stage → Bool
+is_at words.Live stages.Live = true
+is_at words.Mail (stages.Mail n) = true
+is_at words.States (stages.States n) = true
+is_at words.Ideals stages.Ideals = true
+is_at words.Send stages.Plan = true
+is_at words.Send stages.Send = true
+is_at words.Post stages.Post = true
+is_at _ _ = false
 
 -- a step of a turn that is under way, and two steps of one
 abbrev pub step_on : Voice → ControllerId → State → Run (Option PassOutcome)

@@ -80,22 +80,12 @@ impl<F: Factory> World<F> {
         let alloc = self.scene.alloc();
         let board = self.scene.board();
         Ok(match what {
-            What::Join(instance) => Some(Admin::Join {
-                instance: *instance,
-            }),
-            What::Beat(instance) => Some(Admin::Beat {
-                instance: *instance,
-            }),
-            What::Drain(instance) => Some(Admin::Drain {
-                instance: *instance,
-            }),
-            What::Undrain(instance) => Some(Admin::Undrain {
-                instance: *instance,
-            }),
-            What::Tick(n) => Some(Admin::Tick { n: *n }),
-            What::Expire(instance) | What::Die(instance) => Some(Admin::End {
-                instance: *instance,
-            }),
+            &What::Join(instance) => Some(Admin::Join { instance }),
+            &What::Beat(instance) => Some(Admin::Beat { instance }),
+            &What::Drain(instance) => Some(Admin::Drain { instance }),
+            &What::Undrain(instance) => Some(Admin::Undrain { instance }),
+            &What::Tick(n) => Some(Admin::Tick { n }),
+            &What::Expire(instance) | &What::Die(instance) => Some(Admin::End { instance }),
             What::Add {
                 name,
                 model,
@@ -136,15 +126,9 @@ impl<F: Factory> World<F> {
                 }),
                 None => None,
             },
-            What::Lead(controller) => Some(Admin::Lead {
-                controller: *controller,
-            }),
-            What::Stop(controller) => Some(Admin::Stop {
-                controller: *controller,
-            }),
-            What::Start(controller) => Some(Admin::Start {
-                controller: *controller,
-            }),
+            &What::Lead(controller) => Some(Admin::Lead { controller }),
+            &What::Stop(controller) => Some(Admin::Stop { controller }),
+            &What::Start(controller) => Some(Admin::Start { controller }),
             _ => None,
         })
     }

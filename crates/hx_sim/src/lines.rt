@@ -7,39 +7,33 @@ ghost use Rattle.hx_cluster.specs.Steps.{is_in_range as is_step_in_range};
 ghost use Rattle.hx_script.specs.Asked.{step_asked};
 ghost use Rattle.hx_script.specs.Ranges.{is_in_range};
 ghost use Rattle.hx_worlds.specs.Jobs.{do_deliver};
-ghost use Rattle.hx_worlds.specs.Turns.{do_begin, do_read, without_outcome};
+ghost use Rattle.hx_worlds.specs.Turns.{do_begin, without_outcome};
 ghost use Rattle.hx_worlds.specs.Scripts.{do_what, do_asked};
 ghost use Rattle.hx_scene.specs.Doing.{DoesDeed};
 
 use crate::World;
-use hx_board::RoomFault;
 use hx_cluster::Admin;
 use hx_handler::Factory;
 use hx_ids::{ControllerId, InstanceId, MsgId};
-use hx_print::Note;
-use hx_script::{ReadKind, What};
+use hx_print::{Note, Word};
+use hx_scene::Deed;
+use hx_script::What;
 use hx_text::Page;
 use hx_worlds::Voice;
 
 impl<F: Factory> World<F> {
     /// Does what a line asks for.
-    pub(crate) fn what(
-        &mut self,
-        voice: Voice,
-        what: &What,
-        out: &mut Page,
-    ) -> Result<(), RoomFault>
+    pub(crate) fn what(&mut self, voice: Voice, what: &What, out: &mut Page) -> Deed
         requires { is_in_range self.old.spec what.now ≡ true }
-        ensures { DoesDeed (λ x. do_what voice what.now x)
-            self.old out.old self.new out.new result }
+        ensures { DoesDeed (do_what voice what.now) self.old out.old self.new out.new result }
     {
         self.scene.board();
         match what {
             What::Die(i) => self.scene.die(voice, *i, out),
             What::Begin(k) => self.begin(voice, *k, out),
             What::Read(k, kind) => self.read(voice, *k, *kind, out),
-            What::Send(k) => self.send(voice, *k, out),
-            What::Post(k) => self.post(voice, *k, out),
+            What::Send(k) => self.call_if(Word::Send, voice, *k, out),
+            What::Post(k) => self.call_if(Word::Post, voice, *k, out),
             What::Pass(k) => {
                 self.pass(voice, *k, out)?;
                 Ok(())
@@ -62,7 +56,7 @@ impl<F: Factory> World<F> {
     }
 
     /// Makes the step that a line asks for, or notes that it names no resource.
-    fn asked_step(&mut self, voice: Voice, what: &What, out: &mut Page) -> Result<(), RoomFault>
+    fn asked_step(&mut self, voice: Voice, what: &What, out: &mut Page) -> Deed
         requires { is_in_range self.old.spec what.now ≡ true }
         ensures { DoesDeed (λ x. do_asked voice (step_asked x.world.cluster what.now) x)
             self.old out.old self.new out.new result }
@@ -73,15 +67,9 @@ impl<F: Factory> World<F> {
     }
 
     /// Makes a step, or notes that a line names no resource.
-    fn step_if_asked(
-        &mut self,
-        voice: Voice,
-        asked: &Option<Admin>,
-        out: &mut Page,
-    ) -> Result<(), RoomFault>
+    fn step_if_asked(&mut self, voice: Voice, asked: &Option<Admin>, out: &mut Page) -> Deed
         requires { ForSome asked.now (λ step. is_step_in_range self.old.board.cluster step ≡ true) }
-        ensures { DoesDeed (λ x. do_asked voice asked.now x)
-            self.old out.old self.new out.new result }
+        ensures { DoesDeed (do_asked voice asked.now) self.old out.old self.new out.new result }
     {
         match asked {
             Some(step) => self.scene.step(voice, step, out),
@@ -90,15 +78,9 @@ impl<F: Factory> World<F> {
     }
 
     /// Delivers a message of the bag.
-    fn deliver(
-        &mut self,
-        voice: Voice,
-        instance: InstanceId,
-        id: MsgId,
-        out: &mut Page,
-    ) -> Result<(), RoomFault>
+    fn deliver(&mut self, voice: Voice, instance: InstanceId, id: MsgId, out: &mut Page) -> Deed
         requires { has_instance self.old.board.cluster instance ≡ true }
-        ensures { DoesDeed (λ x. do_deliver voice instance id x)
+        ensures { DoesDeed (do_deliver voice instance id)
             self.old out.old self.new out.new result }
     {
         match self.scene.fetched(id) {
@@ -108,12 +90,7 @@ impl<F: Factory> World<F> {
     }
 
     /// Begins a controller's turn anew.
-    fn begin(
-        &mut self,
-        voice: Voice,
-        controller: ControllerId,
-        out: &mut Page,
-    ) -> Result<(), RoomFault>
+    fn begin(&mut self, voice: Voice, controller: ControllerId, out: &mut Page) -> Deed
         requires { has_controller self.old.board.cluster controller ≡ true }
         ensures { DoesDeed (λ x. without_outcome (do_begin voice controller x))
             self.old out.old self.new out.new result }
@@ -121,25 +98,5 @@ impl<F: Factory> World<F> {
         self.scene.restart(controller);
         self.step(voice, controller, out)?;
         Ok(())
-    }
-
-    /// Makes all reads of a kind.
-    fn read(
-        &mut self,
-        voice: Voice,
-        controller: ControllerId,
-        kind: ReadKind,
-        out: &mut Page,
-    ) -> Result<(), RoomFault>
-        requires { has_controller self.old.board.cluster controller ≡ true }
-        ensures { DoesDeed (λ x. do_read voice controller kind x)
-            self.old out.old self.new out.new result }
-    {
-        match kind {
-            ReadKind::Live => self.read_live(voice, controller, out),
-            ReadKind::Mail => self.read_mail(voice, controller, out),
-            ReadKind::States => self.read_states(voice, controller, out),
-            ReadKind::Ideals => self.read_ideals(voice, controller, out),
-        }
     }
 }

@@ -1,18 +1,16 @@
 //! What controllers do: the steps of their turns, one by one, several of a kind, or all that are
 //! left.
 
-ghost use Rattle.std.specs.Prelude.{◌≡◌, true, Bool, List};
+ghost use Rattle.std.specs.Prelude.{◌≡◌, true};
 ghost use Rattle.hx_lists.specs.Lists.{count};
 ghost use Rattle.hx_cluster.specs.Steps.{has_controller};
 ghost use Rattle.hx_control.specs.Controllers.{stage as stage_of};
-ghost use Rattle.hx_pass.specs.Turns.{Call};
 ghost use Rattle.hx_worlds.specs.World.{controller_of};
-ghost use Rattle.hx_worlds.specs.Turns.{do_call, do_calls, do_rest, do_pass, do_word, do_words, do_read, do_send};
-ghost use Rattle.hx_worlds.specs.Turns.{do_post, out_of_turn, is_passed_over, pass_over, left_of, begin_if_idle};
+ghost use Rattle.hx_worlds.specs.Turns.{do_call, do_calls, do_rest, do_pass, do_word, do_words, do_read};
+ghost use Rattle.hx_worlds.specs.Turns.{out_of_turn, is_passed_over, pass_over, left_of, begin_if_idle};
 ghost use Rattle.hx_scene.specs.Scenes.{world_of};
 ghost use Rattle.hx_scene.specs.Doing.{Does, DoesDeed};
-ghost use Rattle.hx_sim.specs.Words.{word_for, IsNextOf, step_on, plan_and_send};
-ghost use Rattle.hx_sim.specs.Words.{is_live_stage, is_mail_stage, is_states_stage, is_ideals_stage, is_send_stage, is_post_stage};
+ghost use Rattle.hx_sim.specs.Words.{word_for, is_at, is_call_of, is_first_of, step_on, plan_and_send};
 
 use crate::World;
 use hx_board::RoomFault;
@@ -20,9 +18,13 @@ use hx_control::{PassOutcome, Stage};
 use hx_handler::Factory;
 use hx_ids::ControllerId;
 use hx_print::{Note, Word};
+use hx_scene::Deed;
 use hx_script::ReadKind;
 use hx_text::Page;
 use hx_worlds::Voice;
+
+/// What steps of a turn come to: the outcome of the last dispatch among them, if there is one.
+pub(crate) type Passed = Result<Option<PassOutcome>, RoomFault>;
 
 /// The word for a step of a turn.
 fn word_of(stage: Stage) -> Word
@@ -39,40 +41,19 @@ fn word_of(stage: Stage) -> Word
     }
 }
 
-fn is_live(stage: Stage) -> bool
-    ensures { result ≡ is_live_stage stage }
+/// Whether a step of a turn is a call of a word.
+fn is_at(word: Word, stage: Stage) -> bool
+    ensures { result ≡ is_at word stage }
 {
-    matches!(stage, Stage::Live)
-}
-
-fn is_mail(stage: Stage) -> bool
-    ensures { result ≡ is_mail_stage stage }
-{
-    matches!(stage, Stage::Mail(_))
-}
-
-fn is_states(stage: Stage) -> bool
-    ensures { result ≡ is_states_stage stage }
-{
-    matches!(stage, Stage::States(_))
-}
-
-fn is_ideals(stage: Stage) -> bool
-    ensures { result ≡ is_ideals_stage stage }
-{
-    matches!(stage, Stage::Ideals)
-}
-
-fn is_send(stage: Stage) -> bool
-    ensures { result ≡ is_send_stage stage }
-{
-    matches!(stage, Stage::Plan | Stage::Send)
-}
-
-fn is_post(stage: Stage) -> bool
-    ensures { result ≡ is_post_stage stage }
-{
-    matches!(stage, Stage::Post)
+    match word {
+        Word::Begin => false,
+        Word::Live => matches!(stage, Stage::Live),
+        Word::Mail => matches!(stage, Stage::Mail(_)),
+        Word::States => matches!(stage, Stage::States(_)),
+        Word::Ideals => matches!(stage, Stage::Ideals),
+        Word::Send => matches!(stage, Stage::Plan | Stage::Send),
+        Word::Post => matches!(stage, Stage::Post),
+    }
 }
 
 impl<F: Factory> World<F> {
@@ -83,15 +64,19 @@ impl<F: Factory> World<F> {
         self.scene.controller(controller).stage()
     }
 
+    /// Whether the next call of a turn is one of a word.
+    fn is_next(&self, word: Word, controller: ControllerId) -> bool
+        requires { has_controller self.now.board.cluster controller ≡ true }
+        ensures { result
+            ≡ is_first_of (is_call_of word) (controller_of (world_of self.now) controller).turn.left }
+    {
+        is_at(word, self.stage(controller))
+    }
+
     /// Makes a step of a turn that is under way.
-    fn step_on(
-        &mut self,
-        voice: Voice,
-        controller: ControllerId,
-        out: &mut Page,
-    ) -> Result<Option<PassOutcome>, RoomFault>
+    fn step_on(&mut self, voice: Voice, controller: ControllerId, out: &mut Page) -> Passed
         requires { has_controller self.old.board.cluster controller ≡ true }
-        ensures { Does (λ x. step_on voice controller x) (λ o. o)
+        ensures { Does (step_on voice controller) (λ o. o)
             self.old out.old self.new out.new result }
     {
         match self.stage(controller) {
@@ -101,14 +86,9 @@ impl<F: Factory> World<F> {
     }
 
     /// Makes the plan of a turn, and its dispatch.
-    fn plan_and_send(
-        &mut self,
-        voice: Voice,
-        controller: ControllerId,
-        out: &mut Page,
-    ) -> Result<Option<PassOutcome>, RoomFault>
+    fn plan_and_send(&mut self, voice: Voice, controller: ControllerId, out: &mut Page) -> Passed
         requires { has_controller self.old.board.cluster controller ≡ true }
-        ensures { Does (λ x. plan_and_send voice controller x) (λ o. o)
+        ensures { Does (plan_and_send voice controller) (λ o. o)
             self.old out.old self.new out.new result }
     {
         self.step(voice, controller, out)?;
@@ -116,14 +96,9 @@ impl<F: Factory> World<F> {
     }
 
     /// Makes a call of a turn. Before a dispatch the plan is made, where it wasn't made before.
-    fn call(
-        &mut self,
-        voice: Voice,
-        controller: ControllerId,
-        out: &mut Page,
-    ) -> Result<Option<PassOutcome>, RoomFault>
+    fn call(&mut self, voice: Voice, controller: ControllerId, out: &mut Page) -> Passed
         requires { has_controller self.old.board.cluster controller ≡ true }
-        ensures { Does (λ x. do_call voice controller x) (λ o. o)
+        ensures { Does (do_call voice controller) (λ o. o)
             self.old out.old self.new out.new result }
     {
         match self.stage(controller) {
@@ -139,9 +114,9 @@ impl<F: Factory> World<F> {
         controller: ControllerId,
         count: usize,
         out: &mut Page,
-    ) -> Result<Option<PassOutcome>, RoomFault>
+    ) -> Passed
         requires { has_controller self.old.board.cluster controller ≡ true }
-        ensures { Does (λ x. do_calls voice controller count x) (λ o. o)
+        ensures { Does (do_calls voice controller count) (λ o. o)
             self.old out.old self.new out.new result }
     {
         let mut outcome = None;
@@ -156,14 +131,9 @@ impl<F: Factory> World<F> {
     }
 
     /// Makes the calls that are left.
-    fn rest(
-        &mut self,
-        voice: Voice,
-        controller: ControllerId,
-        out: &mut Page,
-    ) -> Result<Option<PassOutcome>, RoomFault>
+    fn rest(&mut self, voice: Voice, controller: ControllerId, out: &mut Page) -> Passed
         requires { has_controller self.old.board.cluster controller ≡ true }
-        ensures { Does (λ x. do_rest voice controller x) (λ o. o)
+        ensures { Does (do_rest voice controller) (λ o. o)
             self.old out.old self.new out.new result }
     {
         let count = self.scene.controller(controller).calls_left();
@@ -171,12 +141,7 @@ impl<F: Factory> World<F> {
     }
 
     /// Begins a turn, unless one is under way.
-    fn begin_if_idle(
-        &mut self,
-        voice: Voice,
-        controller: ControllerId,
-        out: &mut Page,
-    ) -> Result<Option<PassOutcome>, RoomFault>
+    fn begin_if_idle(&mut self, voice: Voice, controller: ControllerId, out: &mut Page) -> Passed
         requires { has_controller self.old.board.cluster controller ≡ true }
         ensures { Does (λ x. begin_if_idle voice controller (left_of x controller) x) (λ o. o)
             self.old out.old self.new out.new result }
@@ -189,14 +154,9 @@ impl<F: Factory> World<F> {
 
     /// Makes the rest of a turn, a whole one where it is idle. Which calls come after the live
     /// sessions are read is known only then.
-    pub(crate) fn pass(
-        &mut self,
-        voice: Voice,
-        controller: ControllerId,
-        out: &mut Page,
-    ) -> Result<Option<PassOutcome>, RoomFault>
+    pub(crate) fn pass(&mut self, voice: Voice, controller: ControllerId, out: &mut Page) -> Passed
         requires { has_controller self.old.board.cluster controller ≡ true }
-        ensures { Does (λ x. do_pass voice controller x) (λ o. o)
+        ensures { Does (do_pass voice controller) (λ o. o)
             self.old out.old self.new out.new result }
     {
         self.begin_if_idle(voice, controller, out)?;
@@ -206,95 +166,33 @@ impl<F: Factory> World<F> {
     }
 
     /// Notes which step the turn is at.
-    fn out_of_turn(
-        &mut self,
-        voice: Voice,
-        controller: ControllerId,
-        out: &mut Page,
-    ) -> Result<(), RoomFault>
+    fn out_of_turn(&mut self, voice: Voice, controller: ControllerId, out: &mut Page) -> Deed
         requires { has_controller self.old.board.cluster controller ≡ true }
-        ensures { DoesDeed (λ x. out_of_turn voice controller x)
+        ensures { DoesDeed (out_of_turn voice controller)
             self.old out.old self.new out.new result }
     {
         let word = word_of(self.stage(controller));
         self.scene.note(voice, &Note::OutOfTurn(word), out)
     }
 
-    /// Makes the next call, where it is the one that is asked for.
-    fn call_if(
+    /// Makes the next call, where it is one of this word.
+    pub(crate) fn call_if(
         &mut self,
-        is_next: bool,
+        word: Word,
         voice: Voice,
         controller: ControllerId,
         out: &mut Page,
-    ) -> Result<(), RoomFault>
+    ) -> Deed
         requires { has_controller self.old.board.cluster controller ≡ true }
-        ensures { (is_of : Call → Bool) → IsNextOf is_of (controller_of (world_of self.old) controller) is_next
-            → DoesDeed (λ x. do_word voice controller is_of x)
+        ensures { DoesDeed (do_word voice controller (is_call_of word))
             self.old out.old self.new out.new result }
     {
-        if is_next {
+        if self.is_next(word, controller) {
             self.call(voice, controller, out)?;
             Ok(())
         } else {
             self.out_of_turn(voice, controller, out)
         }
-    }
-
-    pub(crate) fn read_live(
-        &mut self,
-        voice: Voice,
-        controller: ControllerId,
-        out: &mut Page,
-    ) -> Result<(), RoomFault>
-        requires { has_controller self.old.board.cluster controller ≡ true }
-        ensures { DoesDeed (λ x. do_read voice controller ReadKind.Live x)
-            self.old out.old self.new out.new result }
-    {
-        let is_next = is_live(self.stage(controller));
-        self.call_if(is_next, voice, controller, out)
-    }
-
-    pub(crate) fn read_ideals(
-        &mut self,
-        voice: Voice,
-        controller: ControllerId,
-        out: &mut Page,
-    ) -> Result<(), RoomFault>
-        requires { has_controller self.old.board.cluster controller ≡ true }
-        ensures { DoesDeed (λ x. do_read voice controller ReadKind.Ideals x)
-            self.old out.old self.new out.new result }
-    {
-        let is_next = is_ideals(self.stage(controller));
-        self.call_if(is_next, voice, controller, out)
-    }
-
-    pub(crate) fn send(
-        &mut self,
-        voice: Voice,
-        controller: ControllerId,
-        out: &mut Page,
-    ) -> Result<(), RoomFault>
-        requires { has_controller self.old.board.cluster controller ≡ true }
-        ensures { DoesDeed (λ x. do_send voice controller x)
-            self.old out.old self.new out.new result }
-    {
-        let is_next = is_send(self.stage(controller));
-        self.call_if(is_next, voice, controller, out)
-    }
-
-    pub(crate) fn post(
-        &mut self,
-        voice: Voice,
-        controller: ControllerId,
-        out: &mut Page,
-    ) -> Result<(), RoomFault>
-        requires { has_controller self.old.board.cluster controller ≡ true }
-        ensures { DoesDeed (λ x. do_post voice controller x)
-            self.old out.old self.new out.new result }
-    {
-        let is_next = is_post(self.stage(controller));
-        self.call_if(is_next, voice, controller, out)
     }
 
     /// Whether no session was shown and the ideals come next.
@@ -311,15 +209,9 @@ impl<F: Factory> World<F> {
 
     /// Does nothing where no session was shown and the ideals come next, and notes else which step
     /// the turn is at.
-    fn pass_over(
-        &mut self,
-        voice: Voice,
-        controller: ControllerId,
-        out: &mut Page,
-    ) -> Result<(), RoomFault>
+    fn pass_over(&mut self, voice: Voice, controller: ControllerId, out: &mut Page) -> Deed
         requires { has_controller self.old.board.cluster controller ≡ true }
-        ensures { DoesDeed (λ x. pass_over voice controller x)
-            self.old out.old self.new out.new result }
+        ensures { DoesDeed (pass_over voice controller) self.old out.old self.new out.new result }
     {
         if self.is_passed_over(controller) {
             Ok(())
@@ -328,22 +220,21 @@ impl<F: Factory> World<F> {
         }
     }
 
-    /// Makes the calls of a kind that are left, where the next one is of that kind.
+    /// Makes the calls of a word that are left, where the next one is of that word.
     fn calls_if(
         &mut self,
-        is_next: bool,
+        word: Word,
         voice: Voice,
         controller: ControllerId,
         left: usize,
         out: &mut Page,
-    ) -> Result<(), RoomFault>
+    ) -> Deed
         requires { has_controller self.old.board.cluster controller ≡ true }
-        ensures { (is_of : Call → Bool) → IsNextOf is_of (controller_of (world_of self.old) controller) is_next
-            → left ≡ count is_of (controller_of (world_of self.old) controller).turn.left
-            → DoesDeed (λ x. do_words voice controller is_of (λ y. pass_over voice controller y) x)
+        ensures { left ≡ count (is_call_of word) (controller_of (world_of self.old) controller).turn.left
+            → DoesDeed (do_words voice controller (is_call_of word) (pass_over voice controller))
             self.old out.old self.new out.new result }
     {
-        if is_next {
+        if self.is_next(word, controller) {
             self.calls(voice, controller, left, out)?;
             Ok(())
         } else {
@@ -351,35 +242,28 @@ impl<F: Factory> World<F> {
         }
     }
 
-    pub(crate) fn read_mail(
+    /// Makes all reads of a kind.
+    pub(crate) fn read(
         &mut self,
         voice: Voice,
         controller: ControllerId,
+        kind: ReadKind,
         out: &mut Page,
-    ) -> Result<(), RoomFault>
+    ) -> Deed
         requires { has_controller self.old.board.cluster controller ≡ true }
-        ensures { DoesDeed (λ x. do_read voice controller ReadKind.Mail x)
-            self.old out.old self.new out.new result }
+        ensures { DoesDeed (do_read voice controller kind) self.old out.old self.new out.new result }
     {
-        let turn = self.scene.controller(controller);
-        let is_next = is_mail(turn.stage());
-        let left = turn.mail_left();
-        self.calls_if(is_next, voice, controller, left, out)
-    }
-
-    pub(crate) fn read_states(
-        &mut self,
-        voice: Voice,
-        controller: ControllerId,
-        out: &mut Page,
-    ) -> Result<(), RoomFault>
-        requires { has_controller self.old.board.cluster controller ≡ true }
-        ensures { DoesDeed (λ x. do_read voice controller ReadKind.States x)
-            self.old out.old self.new out.new result }
-    {
-        let turn = self.scene.controller(controller);
-        let is_next = is_states(turn.stage());
-        let left = turn.states_left();
-        self.calls_if(is_next, voice, controller, left, out)
+        match kind {
+            ReadKind::Live => self.call_if(Word::Live, voice, controller, out),
+            ReadKind::Mail => {
+                let left = self.scene.controller(controller).mail_left();
+                self.calls_if(Word::Mail, voice, controller, left, out)
+            }
+            ReadKind::States => {
+                let left = self.scene.controller(controller).states_left();
+                self.calls_if(Word::States, voice, controller, left, out)
+            }
+            ReadKind::Ideals => self.call_if(Word::Ideals, voice, controller, out),
+        }
     }
 }

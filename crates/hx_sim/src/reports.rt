@@ -6,18 +6,19 @@ ghost use Rattle.hx_worlds.specs.Turns.{say_finding, say_entries, say_outcome, t
 ghost use Rattle.hx_scene.specs.Doing.{Does, DoesDeed};
 
 use crate::World;
-use hx_board::RoomFault;
+use crate::passes::Passed;
 use hx_cluster::{Entry, Finding};
 use hx_control::{ControlFault, PassOutcome};
 use hx_handler::Factory;
 use hx_ids::ControllerId;
 use hx_print::Note;
+use hx_scene::Deed;
 use hx_text::Page;
 use hx_worlds::Voice;
 
 impl<F: Factory> World<F> {
-    fn say_entry(&mut self, entry: &Entry, out: &mut Page) -> Result<(), RoomFault>
-        ensures { DoesDeed (λ x. say_finding entry.now.target entry.now.finding x)
+    fn say_entry(&mut self, entry: &Entry, out: &mut Page) -> Deed
+        ensures { DoesDeed (say_finding entry.now.target entry.now.finding)
             self.old out.old self.new out.new result }
     {
         match &entry.finding {
@@ -34,9 +35,8 @@ impl<F: Factory> World<F> {
     }
 
     /// Says which replicas failed, and which a bound holds back.
-    pub(crate) fn say_entries(&mut self, entries: &[Entry], out: &mut Page) -> Result<(), RoomFault>
-        ensures { DoesDeed (λ x. say_entries entries.now x)
-            self.old out.old self.new out.new result }
+    pub(crate) fn say_entries(&mut self, entries: &[Entry], out: &mut Page) -> Deed
+        ensures { DoesDeed (say_entries entries.now) self.old out.old self.new out.new result }
     {
         for entry in entries {
             self.say_entry(entry, out)?;
@@ -49,8 +49,8 @@ impl<F: Factory> World<F> {
         controller: ControllerId,
         outcome: &PassOutcome,
         out: &mut Page,
-    ) -> Result<(), RoomFault>
-        ensures { DoesDeed (λ x. say_outcome controller outcome.now x)
+    ) -> Deed
+        ensures { DoesDeed (say_outcome controller outcome.now)
             self.old out.old self.new out.new result }
     {
         match outcome {
@@ -70,8 +70,8 @@ impl<F: Factory> World<F> {
         controller: ControllerId,
         outcome: &Option<PassOutcome>,
         out: &mut Page,
-    ) -> Result<(), RoomFault>
-        ensures { DoesDeed (λ x. tell_outcome voice controller outcome.now x)
+    ) -> Deed
+        ensures { DoesDeed (tell_outcome voice controller outcome.now)
             self.old out.old self.new out.new result }
     {
         match (voice, outcome) {
@@ -80,14 +80,8 @@ impl<F: Factory> World<F> {
         }
     }
 
-    fn note_fault(
-        &mut self,
-        voice: Voice,
-        fault: ControlFault,
-        out: &mut Page,
-    ) -> Result<(), RoomFault>
-        ensures { DoesDeed (λ x. note_fault voice fault x)
-            self.old out.old self.new out.new result }
+    fn note_fault(&mut self, voice: Voice, fault: ControlFault, out: &mut Page) -> Deed
+        ensures { DoesDeed (note_fault voice fault) self.old out.old self.new out.new result }
     {
         match fault {
             ControlFault::NotLeader { led_by } => {
@@ -99,15 +93,9 @@ impl<F: Factory> World<F> {
     }
 
     /// Makes a step of a turn, and says how it ended.
-    pub(crate) fn step(
-        &mut self,
-        voice: Voice,
-        controller: ControllerId,
-        out: &mut Page,
-    ) -> Result<Option<PassOutcome>, RoomFault>
+    pub(crate) fn step(&mut self, voice: Voice, controller: ControllerId, out: &mut Page) -> Passed
         requires { has_controller self.old.board.cluster controller ≡ true }
-        ensures { Does (λ x. step voice controller x) (λ o. o)
-            self.old out.old self.new out.new result }
+        ensures { Does (step voice controller) (λ o. o) self.old out.old self.new out.new result }
     {
         self.scene.board();
         match self.scene.advance(controller, out)? {

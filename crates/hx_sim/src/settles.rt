@@ -1,6 +1,6 @@
 //! A settle: rounds of the leader's turn and of work, up to the one whose turn settled.
 
-ghost use Rattle.std.specs.Prelude.{◌≡◌, true, ℕ, ◌+◌, ◌*◌, Option, IfOk, IfSome};
+ghost use Rattle.std.specs.Prelude.{◌≡◌, true, ◌+◌, ◌*◌, Option, IfOk, IfSome};
 ghost use Rattle.hx_cluster.specs.Steps.{has_controller};
 ghost use Rattle.hx_worlds.specs.Settles.{all_parts, most_states, enough_rounds, rounds, settle, say_settled, tell_settle, do_settle};
 ghost use Rattle.hx_scene.specs.Doing.{Does, DoesDeed};
@@ -14,6 +14,7 @@ use hx_handler::Factory;
 use hx_ids::ControllerId;
 use hx_model::Model;
 use hx_print::Note;
+use hx_scene::Deed;
 use hx_text::Page;
 use hx_worlds::{Settled, Voice};
 use std::alloc::AllocError;
@@ -147,13 +148,8 @@ impl<F: Factory> World<F> {
         Ok(Some(settled))
     }
 
-    fn say_settled(
-        &mut self,
-        controller: ControllerId,
-        settled: &Settled,
-        out: &mut Page,
-    ) -> Result<(), RoomFault>
-        ensures { DoesDeed (λ x. say_settled controller settled.now x)
+    fn say_settled(&mut self, controller: ControllerId, settled: &Settled, out: &mut Page) -> Deed
+        ensures { DoesDeed (say_settled controller settled.now)
             self.old out.old self.new out.new result }
     {
         self.scene.say_settle(controller, settled.passes, out)?;
@@ -170,8 +166,8 @@ impl<F: Factory> World<F> {
         leader: Option<ControllerId>,
         settled: &Option<Settled>,
         out: &mut Page,
-    ) -> Result<(), RoomFault>
-        ensures { DoesDeed (λ x. tell_settle voice leader settled.now x)
+    ) -> Deed
+        ensures { DoesDeed (tell_settle voice leader settled.now)
             self.old out.old self.new out.new result }
     {
         let Some(controller) = leader else {
@@ -184,9 +180,8 @@ impl<F: Factory> World<F> {
     }
 
     /// Settles the cluster, and says what came of it.
-    pub(crate) fn settle_aloud(&mut self, voice: Voice, out: &mut Page) -> Result<(), RoomFault>
-        ensures { DoesDeed (λ x. do_settle voice x)
-            self.old out.old self.new out.new result }
+    pub(crate) fn settle_aloud(&mut self, voice: Voice, out: &mut Page) -> Deed
+        ensures { DoesDeed (do_settle voice) self.old out.old self.new out.new result }
     {
         let leader = self.scene.board().leader();
         let settled = self.settle_led(out)?;

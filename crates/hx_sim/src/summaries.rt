@@ -10,11 +10,10 @@ ghost use Rattle.hx_sim.specs.Counting.{has_outcome, IsCounted};
 
 use crate::World;
 use hx_agree::{joined_in, sent_in};
-use hx_board::RoomFault;
 use hx_cluster::{Admin, Did, Event, Outcome};
 use hx_handler::Factory;
 use hx_history::Entries;
-use hx_scene::Summary;
+use hx_scene::{Deed, Summary};
 use hx_text::Page;
 use std::alloc::AllocError;
 
@@ -89,9 +88,8 @@ pub fn summary_of(entries: &Entries) -> Result<Summary, AllocError>
 
 impl<F: Factory> World<F> {
     /// Prints what happened so far, in numbers.
-    pub(crate) fn summary(&mut self, out: &mut Page) -> Result<(), RoomFault>
-        ensures { DoesDeed (λ x. do_summary x)
-            self.old out.old self.new out.new result }
+    pub(crate) fn summary(&mut self, out: &mut Page) -> Deed
+        ensures { DoesDeed do_summary self.old out.old self.new out.new result }
     {
         let summary = summary_of(&self.scene.board().history().entries)?;
         self.scene.say_summary(&summary, out)

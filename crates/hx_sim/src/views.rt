@@ -13,6 +13,7 @@ use hx_cluster::{Resource, Seen};
 use hx_handler::Factory;
 use hx_ids::{InstanceId, PartId, ResourceId, SessionId, StateId};
 use hx_print::Note;
+use hx_scene::Deed;
 use hx_text::Page;
 use hx_worlds::Voice;
 use std::alloc::{AllocError, Global};
@@ -127,7 +128,7 @@ impl<F: Factory> World<F> {
         shown: &[(SessionId, InstanceId)],
         parts: &[PartId],
         out: &mut Page,
-    ) -> Result<(), RoomFault>
+    ) -> Deed
         requires { shown.now ≡ live_shown self.old.board.cluster }
         ensures { DoesDeed (λ x. for_each (λ p y. say_view_of p (view_of_part y.world.cluster p) y) parts.now x)
             self.old out.old self.new out.new result }
@@ -158,8 +159,8 @@ impl<F: Factory> World<F> {
         index: u32,
         state: StateId,
         out: &mut Page,
-    ) -> Result<(), RoomFault>
-        ensures { DoesDeed (λ x. do_route voice name index state x)
+    ) -> Deed
+        ensures { DoesDeed (do_route voice name index state)
             self.old out.old self.new out.new result }
     {
         match self.scene.board().newest(name) {
@@ -169,7 +170,7 @@ impl<F: Factory> World<F> {
     }
 
     /// Prints the instances in a state of a part, as they were posted last.
-    fn route_of(&mut self, part: PartId, state: StateId, out: &mut Page) -> Result<(), RoomFault>
+    fn route_of(&mut self, part: PartId, state: StateId, out: &mut Page) -> Deed
         ensures { DoesDeed (λ x. say_route part state (routed x.world.cluster.posted part state) x)
             self.old out.old self.new out.new result }
     {

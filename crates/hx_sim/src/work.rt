@@ -11,29 +11,27 @@ ghost use Rattle.hx_scene.specs.Scenes.{IsBagged};
 ghost use Rattle.hx_scene.specs.Doing.{DoesDeed};
 
 use crate::World;
-use hx_board::RoomFault;
 use hx_cluster::Message;
 use hx_handler::Factory;
 use hx_ids::{InstanceId, MsgId, SessionId};
+use hx_scene::Deed;
 use hx_text::Page;
 use hx_worlds::Voice;
 
 impl<F: Factory> World<F> {
     /// Carries an open job to its end.
-    fn carry(&mut self, instance: InstanceId, id: MsgId, out: &mut Page) -> Result<(), RoomFault>
+    fn carry(&mut self, instance: InstanceId, id: MsgId, out: &mut Page) -> Deed
         requires { has_instance self.old.board.cluster instance ≡ true }
-        ensures { DoesDeed (λ x. carry instance id x)
-            self.old out.old self.new out.new result }
+        ensures { DoesDeed (carry instance id) self.old out.old self.new out.new result }
     {
         self.scene.write(Voice::Quiet, instance, id, out)?;
         self.scene.ack(Voice::Quiet, instance, id, out)
     }
 
     /// Carries all open jobs to their ends, in order.
-    fn carry_all(&mut self, instance: InstanceId, out: &mut Page) -> Result<(), RoomFault>
+    fn carry_all(&mut self, instance: InstanceId, out: &mut Page) -> Deed
         requires { has_instance self.old.board.cluster instance ≡ true }
-        ensures { DoesDeed (λ x. carry_jobs instance x)
-            self.old out.old self.new out.new result }
+        ensures { DoesDeed (carry_jobs instance) self.old out.old self.new out.new result }
     {
         let open = self.scene.open_jobs(instance)?;
         for id in &open {
@@ -43,12 +41,7 @@ impl<F: Factory> World<F> {
     }
 
     /// Delivers messages.
-    fn deliver_all(
-        &mut self,
-        instance: InstanceId,
-        messages: &[Message],
-        out: &mut Page,
-    ) -> Result<(), RoomFault>
+    fn deliver_all(&mut self, instance: InstanceId, messages: &[Message], out: &mut Page) -> Deed
         requires instance { has_instance self.old.board.cluster instance ≡ true }
         requires bagged { All (IsBagged self.old.bag) messages.now }
         ensures { DoesDeed (λ x. for_each (λ m y. deliver Voice.Quiet instance m y) messages.now x)
@@ -61,7 +54,7 @@ impl<F: Factory> World<F> {
     }
 
     /// Fetches, and delivers what was fetched.
-    fn fetch_and_deliver(&mut self, instance: InstanceId, out: &mut Page) -> Result<(), RoomFault>
+    fn fetch_and_deliver(&mut self, instance: InstanceId, out: &mut Page) -> Deed
         requires { has_instance self.old.board.cluster instance ≡ true }
         ensures { DoesDeed (λ x. fetch_and_deliver instance (fetched x.world.cluster instance) x)
             self.old out.old self.new out.new result }
@@ -71,14 +64,9 @@ impl<F: Factory> World<F> {
     }
 
     /// Takes an accepted message and carries it to its end.
-    fn run(
-        &mut self,
-        instance: InstanceId,
-        message: &Message,
-        out: &mut Page,
-    ) -> Result<(), RoomFault>
+    fn run(&mut self, instance: InstanceId, message: &Message, out: &mut Page) -> Deed
         requires { has_instance self.old.board.cluster instance ≡ true }
-        ensures { DoesDeed (λ x. run_message instance message.now x)
+        ensures { DoesDeed (run_message instance message.now)
             self.old out.old self.new out.new result }
     {
         self.scene.take(Voice::Quiet, instance, message.id, out)?;
@@ -86,10 +74,9 @@ impl<F: Factory> World<F> {
     }
 
     /// Runs all accepted messages, in order.
-    fn run_accepted(&mut self, instance: InstanceId, out: &mut Page) -> Result<(), RoomFault>
+    fn run_accepted(&mut self, instance: InstanceId, out: &mut Page) -> Deed
         requires { has_instance self.old.board.cluster instance ≡ true }
-        ensures { DoesDeed (λ x. run_accepted instance x)
-            self.old out.old self.new out.new result }
+        ensures { DoesDeed (run_accepted instance) self.old out.old self.new out.new result }
     {
         let accepted = self.scene.accepted(instance)?;
         for message in &accepted {
@@ -100,21 +87,16 @@ impl<F: Factory> World<F> {
 
     /// Carries the open jobs of an instance to their ends, fetches, delivers what was fetched, and
     /// carries each accepted message to its end.
-    pub(crate) fn work(&mut self, instance: InstanceId, out: &mut Page) -> Result<(), RoomFault>
+    pub(crate) fn work(&mut self, instance: InstanceId, out: &mut Page) -> Deed
         requires { has_instance self.old.board.cluster instance ≡ true }
-        ensures { DoesDeed (λ x. do_work instance x)
-            self.old out.old self.new out.new result }
+        ensures { DoesDeed (do_work instance) self.old out.old self.new out.new result }
     {
         self.carry_all(instance, out)?;
         self.fetch_and_deliver(instance, out)?;
         self.run_accepted(instance, out)
     }
 
-    fn work_each(
-        &mut self,
-        shown: &[(SessionId, InstanceId)],
-        out: &mut Page,
-    ) -> Result<(), RoomFault>
+    fn work_each(&mut self, shown: &[(SessionId, InstanceId)], out: &mut Page) -> Deed
         requires { All (λ e. has_instance self.old.board.cluster e.1 ≡ true) shown.now }
         ensures { DoesDeed (λ x. for_each (λ i y. do_work i y) (map (λ e. e.1) shown.now) x)
             self.old out.old self.new out.new result }
@@ -126,9 +108,8 @@ impl<F: Factory> World<F> {
     }
 
     /// Has each live instance work, in order.
-    pub(crate) fn work_all(&mut self, out: &mut Page) -> Result<(), RoomFault>
-        ensures { DoesDeed (λ x. work_all x)
-            self.old out.old self.new out.new result }
+    pub(crate) fn work_all(&mut self, out: &mut Page) -> Deed
+        ensures { DoesDeed work_all self.old out.old self.new out.new result }
     {
         let shown = self.scene.board().shown()?;
         self.work_each(&shown, out)

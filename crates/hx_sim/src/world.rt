@@ -17,7 +17,7 @@ use hx_cluster::Spec;
 use hx_control::Controller;
 use hx_handler::Factory;
 use hx_replicas::Participant;
-use hx_scene::Scene;
+use hx_scene::{Parts, Scene};
 use hx_script::Line;
 use hx_text::Page;
 use hx_worlds::{Settled, Voice};
@@ -62,7 +62,13 @@ impl<F: Factory> World<F> {
           handed = 0;
         }) }
     {
-        let scene = Scene::from_parts(alloc, spec, board, controllers, participants)?;
+        let parts = Parts {
+            spec,
+            board,
+            controllers,
+            participants,
+        };
+        let scene = Scene::from_parts(alloc, parts)?;
         Ok(World { scene })
     }
 

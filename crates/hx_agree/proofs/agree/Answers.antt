@@ -59,23 +59,20 @@ returns-then-not-are_cared_for g c =
 
 pub returns : goal.returns
 returns g c =
-    let spec = c.args.spec.now in
     let b = c.args.board.now in
     let told = c.history.ensures.history in
-    let ks = c.args.controllers.now in
     let ps = c.args.participants.now in
-    let n = c.len-instances.result in
-    let many : n ≡ length spec.instances = c.len-instances.ensures.len in (
-      λ e. tested_agree spec b told c.joined_on.result c.sent_on.result c.joined_on.ensures c.sent_on.ensures ks ps (record {
+    let many : c.len-instances.result ≡ length c.args.spec.now.instances = c.len-instances.ensures.len in (
+      λ e. tested_agree c.args.spec.now b told c.joined_on.result c.sent_on.result c.joined_on.ensures c.sent_on.ensures c.args.controllers.now ps (record {
         spec_is = c.of_spec.ensures.0 c.if-not-of_spec.false;
-        controllers = in_order_numbers (λ (k : Controller). k.id.0) ks spec.controllers (sym c.are_controllers.ensures ∙ c.if-not-are_controllers.false);
-        participants = in_order_numbers (λ (p : ParticipantState). p.instance.0) ps n (sym c.are_participants.ensures ∙ c.if-not-are_participants.false) ∙ ap numbers_below many;
+        controllers = in_order_numbers (λ (k : Controller). k.id.0) c.args.controllers.now c.args.spec.now.controllers (sym c.are_controllers.ensures ∙ c.if-not-are_controllers.false);
+        participants = in_order_numbers (λ (p : ParticipantState). p.instance.0) ps c.len-instances.result (sym c.are_participants.ensures ∙ c.if-not-are_participants.false) ∙ ap numbers_below many;
         idle = c.are_idle.ensures.0 c.if-not-are_idle.false;
         quiet = sym c.are_quiet.ensures ∙ c.if-not-are_quiet.false;
         begun = sym c.have_begun.ensures ∙ c.if-not-have_begun.false;
         cared = ap (λ (m : ℕ). are_cared_for m b.cluster (map stationed ps)) (sym many) ∙ sym c.are_cared_for.ensures ∙ c.if-not-are_cared_for.false;
         settled = sym c.are_settled.ensures ∙ e;
       }),
-      λ a. let t = agree_tested spec b told c.joined_on.result c.sent_on.result c.joined_on.ensures c.sent_on.ensures ks ps a in
+      λ a. let t = agree_tested c.args.spec.now b told c.joined_on.result c.sent_on.result c.joined_on.ensures c.sent_on.ensures c.args.controllers.now ps a in
           c.are_settled.ensures ∙ t.settled,
     )

@@ -1,4 +1,4 @@
-use Rattle.std.proofs.Common.{rules, arith, ◌≡◌, ◌+◌, ℕ, sym, ap, drop}
+use Rattle.std.proofs.Common.{arith, ap}
 use Rattle.std.proofs.lemmas.List.{drop_all}
 use Rattle.hx_cluster.specs.declared.description.Resource.{Resource}
 use Rattle.hx_worlds.specs.Settles.{all_parts}

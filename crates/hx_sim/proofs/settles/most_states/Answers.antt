@@ -1,4 +1,4 @@
-use Rattle.std.proofs.Common.{rules, arith, ◌≡◌, ◌+◌, ℕ, nat_cmp, List, [], ◌∷◌, map, suc, length, refl, sym, ap, ◌∙◌, drop}
+use Rattle.std.proofs.Common.{arith, ◌≡◌, ℕ, nat_cmp, List, [], ◌∷◌, map, suc, length, refl, ap, ◌∙◌}
 use Rattle.std.specs.Prelude.{max}
 use Rattle.std.specs.Ordering.{ord_max}
 use Rattle.std.proofs.lemmas.Grind.{common_steps}

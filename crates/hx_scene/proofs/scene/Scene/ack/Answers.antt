@@ -1,4 +1,4 @@
-use Rattle.std.proofs.Common.{Some, None, arith}
+use Rattle.std.proofs.Common.{arith}
 use Rattle.hx_cluster.specs.declared.happenings.Event.TheVariants as events
 use Rattle.hx_worlds.specs.Jobs.{do_ack}
 use Rattle.hx_worlds.specs.Runs.{note}
@@ -6,7 +6,7 @@ use Rattle.hx_print.specs.declared.Note.TheVariants as notes
 use Rattle.hx_scene.proofs.Reaching.{does_after}
 use Rattle.hx_scene.specs.Fields.{scene_of}
 use Rattle.hx_scene.proofs.Making.{Makes, ComesTo, makes_printed, comes_to}
-use Rattle.hx_scene.proofs.Written.{StandsAt, stands_found, mark_is, place_is, place_within}
+use Rattle.hx_scene.proofs.Written.{StandsAt, stands_found, mark_is, found_nowhere, found_within}
 use Rattle.hx_scene.proofs.Written.{within as within_jobs}
 use Rattle.hx_scene.proofs.Acked.{ended_scene, job_can, ack_none, ack_before, ack_makes, ack_comes}
 use Rattle.hx_scene.proofs.scene.Scene.ack.Goals as goal
@@ -33,13 +33,10 @@ over g c =
 
 pub returns-in_default : goal.returns-in_default
 returns-in_default g c =
-    let none = place_is (scene_of c.self.inside).jobs c.args.instance c.args.id c.deref.result.now None c.place_of.result c.deref.ensures.value c.place_of.ensures c.in_default.is in
-    comes_to c.self.view_is (ack_none _ c.args.instance c.args.id none c.args.voice) c.args.out.now c.note.new.self c.note.new.out c.note.result c.note.ensures.does
+    comes_to c.self.view_is (ack_none _ c.args.instance c.args.id (found_nowhere (scene_of c.self.inside) c.args.instance c.args.id c.deref.ensures.value c.place_of.ensures c.in_default.is) c.args.voice) c.args.out.now c.note.new.self c.note.new.out c.note.result c.note.ensures.does
 
 pub index-job-requires : goal.index-job-requires
-index-job-requires g c =
-    let lt = place_within (scene_of c.self.inside) c.args.instance c.args.id c.in-Some.place (place_is (scene_of c.self.inside).jobs c.args.instance c.args.id c.deref.result.now (Some c.in-Some.place) c.place_of.result c.deref.ensures.value c.place_of.ensures c.in-Some.is) in
-    omega (arith, lt, c.self.inside.jobs.ok.0)
+index-job-requires g c = omega (arith, found_within (scene_of c.self.inside) c.args.instance c.args.id c.in-Some.place c.deref.ensures.value c.place_of.ensures c.in-Some.is, c.self.inside.jobs.ok.0)
 
 pub returns-then-not-job : goal.returns-then-not-job
 returns-then-not-job g c =

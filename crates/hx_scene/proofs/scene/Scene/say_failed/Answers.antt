@@ -9,9 +9,9 @@ returns-in_err-charge g c = say_full _ _ c.args.out.now c.from_residual.result c
 pub returns-in_err-print_failed : goal.returns-in_err-print_failed
 returns-in_err-print_failed g c =
     say_cut _ c.from_residual-in_err-print_failed.result c.in_ok-charge.ensures c.in_err-print_failed.ensures
-    (λ a. same_line (λ spec name. failed_line spec name c.args.instance c.args.part) c.args.part.resource c.resources.result.now c.resource_name-name.result.now c.in_ok-charge.ensures c.self.view_is c.resources.ensures c.resource_name-name.ensures a) c.from_residual-in_err-print_failed.ensures.1
+    (λ a. same_line (λ spec name. failed_line spec name c.args.instance c.args.part) c.args.part.resource c.name_in.result.now c.in_ok-charge.ensures c.self.view_is c.name_in.ensures a) c.from_residual-in_err-print_failed.ensures.1
 
 pub returns : goal.returns
 returns g c =
     say_whole _ c.in_ok-charge.ensures c.in_ok-print_failed.ensures
-    (λ a. same_line (λ spec name. failed_line spec name c.args.instance c.args.part) c.args.part.resource c.resources.result.now c.resource_name-name.result.now c.in_ok-charge.ensures c.self.view_is c.resources.ensures c.resource_name-name.ensures a)
+    (λ a. same_line (λ spec name. failed_line spec name c.args.instance c.args.part) c.args.part.resource c.name_in.result.now c.in_ok-charge.ensures c.self.view_is c.name_in.ensures a)

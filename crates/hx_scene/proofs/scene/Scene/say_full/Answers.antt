@@ -16,11 +16,11 @@ returns-in_err-print_full g c =
     say_cut _ c.from_residual-in_err-print_full.result c.in_ok-charge.ensures c.in_err-print_full.ensures
     (λ a. ap (λ (holders : List SessionId). say (1 + length holders) (full_text c.args.self.now.spec c.args.self.now.board.cluster.resources (live_shown c.args.self.now.board.cluster) c.args.full.now) (at c.args.self.now a)) (sym c.as_slice-holders.ensures)
     ∙ ap (λ (shown : List (SessionId × InstanceId)). say (1 + length c.as_slice-holders.result.now) (full_text c.args.self.now.spec c.args.self.now.board.cluster.resources shown c.args.full.now) (at c.args.self.now a)) (sym c.requires)
-    ∙ same_line (λ spec name. full_line spec name c.args.shown.now c.args.full.now) c.args.full.now.candidate.part.resource c.resources.result.now c.resource_name-name.result.now c.in_ok-charge.ensures c.self.view_is c.resources.ensures c.resource_name-name.ensures a) c.from_residual-in_err-print_full.ensures.1
+    ∙ same_line (λ spec name. full_line spec name c.args.shown.now c.args.full.now) c.args.full.now.candidate.part.resource c.name_in.result.now c.in_ok-charge.ensures c.self.view_is c.name_in.ensures a) c.from_residual-in_err-print_full.ensures.1
 
 pub returns : goal.returns
 returns g c =
     say_whole _ c.in_ok-charge.ensures c.in_ok-print_full.ensures
     (λ a. ap (λ (holders : List SessionId). say (1 + length holders) (full_text c.args.self.now.spec c.args.self.now.board.cluster.resources (live_shown c.args.self.now.board.cluster) c.args.full.now) (at c.args.self.now a)) (sym c.as_slice-holders.ensures)
     ∙ ap (λ (shown : List (SessionId × InstanceId)). say (1 + length c.as_slice-holders.result.now) (full_text c.args.self.now.spec c.args.self.now.board.cluster.resources shown c.args.full.now) (at c.args.self.now a)) (sym c.requires)
-    ∙ same_line (λ spec name. full_line spec name c.args.shown.now c.args.full.now) c.args.full.now.candidate.part.resource c.resources.result.now c.resource_name-name.result.now c.in_ok-charge.ensures c.self.view_is c.resources.ensures c.resource_name-name.ensures a)
+    ∙ same_line (λ spec name. full_line spec name c.args.shown.now c.args.full.now) c.args.full.now.candidate.part.resource c.name_in.result.now c.in_ok-charge.ensures c.self.view_is c.name_in.ensures a)

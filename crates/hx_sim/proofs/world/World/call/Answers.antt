@@ -1,4 +1,4 @@
-use Rattle.std.proofs.Common.{rules, ◌≡◌, true, false, refl, sym, ap, ◌∙◌}
+use Rattle.std.proofs.Common.{sym, ◌∙◌}
 use Rattle.hx_worlds.specs.Turns.{do_call, step}
 use Rattle.hx_sim.specs.Words.{plan_and_send}
 use Rattle.hx_scene.specs.Scenes.{at}

@@ -1,4 +1,4 @@
-use Rattle.std.proofs.Common.{rules, arith, ◌≡◌, ◌-◌, true, false, refl, sym, ap, ◌∙◌}
+use Rattle.std.proofs.Common.{arith, ◌-◌, true, false, sym, ◌∙◌}
 use Rattle.hx_scene.proofs.Reaching.{does_err}
 use Rattle.hx_sim.proofs.Staying.{still_controller, reached_controller}
 use Rattle.hx_sim.proofs.Calling.{loop_begins, loop_on, loop_ends, loop_fails, loop_over}

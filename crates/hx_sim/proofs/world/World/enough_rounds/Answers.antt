@@ -1,8 +1,6 @@
-use Rattle.std.proofs.Common.{◌≡◌, refl, sym, ap, ◌∙◌, length, List}
+use Rattle.std.proofs.Common.{◌≡◌, ap, ◌∙◌, length, List}
 use Rattle.hx_ids.specs.declared.InstanceId.{InstanceId}
 use Rattle.hx_ids.specs.declared.SessionId.{SessionId}
-use Rattle.hx_cluster.specs.declared.description.Resource.{Resource}
-use Rattle.hx_model.specs.declared.ModelParts.{ModelParts}
 use Rattle.hx_cluster.specs.declared.description.Spec.{Spec}
 use Rattle.hx_board.specs.Board.{Held}
 use Rattle.hx_cluster.specs.Ends.{shown_of}

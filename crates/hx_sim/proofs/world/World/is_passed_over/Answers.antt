@@ -1,4 +1,4 @@
-use Rattle.std.proofs.Common.{rules, ◌≡◌, ◌==◌, true, false, length, refl, sym, ap, ◌∙◌}
+use Rattle.std.proofs.Common.{◌==◌, length, sym, ap, ◌∙◌}
 use Rattle.hx_worlds.specs.World.{controller_of}
 use Rattle.hx_worlds.specs.Turns.{is_passed_over}
 use Rattle.hx_scene.specs.Scenes.{world_of}

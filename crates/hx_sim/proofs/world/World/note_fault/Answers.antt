@@ -1,4 +1,3 @@
-use Rattle.std.proofs.Common.{rules, ◌≡◌}
 use Rattle.hx_scene.proofs.Reaching.{nothing_done}
 use Rattle.hx_sim.proofs.Said.{nothing_noted}
 use Rattle.hx_sim.proofs.world.World.note_fault.Goals as goal

@@ -1,4 +1,3 @@
-use Rattle.std.proofs.Common.{rules, ◌≡◌, true, false, refl, sym, ap, ◌∙◌}
 use Rattle.hx_scene.proofs.Reaching.{does_err}
 use Rattle.hx_sim.proofs.Staying.{still_controller}
 use Rattle.hx_sim.proofs.Calling.{pass_fails, earlier_fails, later_fails, pass_ends}

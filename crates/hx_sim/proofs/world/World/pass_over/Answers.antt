@@ -1,4 +1,4 @@
-use Rattle.std.proofs.Common.{rules, ◌≡◌, true, false, refl, sym, ap, ◌∙◌}
+use Rattle.std.proofs.Common.{true, false, sym, ap, ◌∙◌}
 use Rattle.hx_worlds.specs.Runs.{done}
 use Rattle.hx_worlds.specs.Turns.{chosen, out_of_turn, pass_over}
 use Rattle.hx_scene.specs.Scenes.{at}

@@ -1,4 +1,3 @@
-use Rattle.std.proofs.Common.{rules, ◌≡◌, true, false, refl, sym, ap, ◌∙◌}
 use Rattle.hx_scene.proofs.Reaching.{does_err, does_then, fails_inside}
 use Rattle.hx_sim.proofs.Staying.{still_controller}
 use Rattle.hx_sim.proofs.world.World.plan_and_send.Goals as goal

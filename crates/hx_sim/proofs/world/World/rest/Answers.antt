@@ -1,4 +1,4 @@
-use Rattle.std.proofs.Common.{rules, ◌≡◌, true, false, length, refl, sym, ap, ◌∙◌}
+use Rattle.std.proofs.Common.{length, sym, ap, ◌∙◌}
 use Rattle.hx_control.specs.Controllers.{Controller}
 use Rattle.hx_worlds.specs.World.{controller_of}
 use Rattle.hx_worlds.specs.Turns.{do_calls, do_rest}

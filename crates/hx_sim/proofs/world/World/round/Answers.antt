@@ -1,4 +1,4 @@
-use Rattle.std.proofs.Common.{rules, ◌≡◌, sym, ◌∙◌}
+use Rattle.std.proofs.Common.{sym, ◌∙◌}
 use Rattle.hx_scene.proofs.Reaching.{does_err}
 use Rattle.hx_sim.proofs.Settling.{pass_stops, pass_settles, pass_works, pass_work_fails}
 use Rattle.hx_sim.proofs.world.World.round.Goals as goal

@@ -1,4 +1,4 @@
-use Rattle.std.proofs.Common.{rules, arith, ◌≡◌, ◌-◌, refl, sym, ap, ◌∙◌}
+use Rattle.std.proofs.Common.{arith, ◌-◌}
 use Rattle.hx_scene.proofs.Reaching.{here, does_err}
 use Rattle.hx_sim.proofs.Staying.{reached_controller}
 use Rattle.hx_sim.proofs.Settling.{rounds_begin, round_on, round_settles, round_fails, rounds_over}

@@ -1,4 +1,3 @@
-use Rattle.std.proofs.Common.{rules, ◌≡◌}
 use Rattle.hx_worlds.specs.Turns.{say_finding}
 use Rattle.hx_scene.proofs.Reaching.{here, each_more, each_fails, each_end, does_err}
 use Rattle.hx_sim.proofs.world.World.say_entries.Goals as goal

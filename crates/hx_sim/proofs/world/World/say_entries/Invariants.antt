@@ -1,6 +1,5 @@
 use Rattle.std.proofs.Common.{drop}
-use Rattle.hx_worlds.specs.Runs.{for_each}
-use Rattle.hx_worlds.specs.Turns.{say_finding, say_entries}
+use Rattle.hx_worlds.specs.Turns.{say_entries}
 use Rattle.hx_scene.specs.Doing.{Reaches}
 use Rattle.hx_sim.proofs.world.World.say_entries.Given as goal
 

@@ -1,4 +1,3 @@
-use Rattle.std.proofs.Common.{rules, ◌≡◌}
 use Rattle.hx_board.specs.declared.faults.RoomFault.TheVariants as rooms
 use Rattle.hx_scene.proofs.Reaching.{does_err, cut_here, nothing_done}
 use Rattle.hx_sim.proofs.Said.{nothing_found}

@@ -1,4 +1,3 @@
-use Rattle.std.proofs.Common.{rules, ◌≡◌}
 use Rattle.hx_scene.proofs.Reaching.{does_err, fails_inside_deed, does_then_deed}
 use Rattle.hx_sim.proofs.world.World.say_outcome.Goals as goal
 

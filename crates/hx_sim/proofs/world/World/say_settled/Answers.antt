@@ -1,4 +1,4 @@
-use Rattle.std.proofs.Common.{rules, ◌≡◌, refl, sym, ap, ◌∙◌}
+use Rattle.std.proofs.Common.{refl}
 use Rattle.hx_worlds.specs.Settles.{say_report}
 use Rattle.hx_scene.proofs.Reaching.{does_err, does_then_deed, ends_then, nothing_done, fails_inside_deed}
 use Rattle.hx_sim.proofs.world.World.say_settled.Goals as goal

@@ -1,4 +1,3 @@
-use Rattle.std.proofs.Common.{rules, ◌≡◌}
 use Rattle.hx_scene.proofs.Reaching.{does_err}
 use Rattle.hx_sim.proofs.Said.{step_fails, step_told, step_tell_fails, step_noted, step_note_fails}
 use Rattle.hx_sim.proofs.world.World.step.Goals as goal

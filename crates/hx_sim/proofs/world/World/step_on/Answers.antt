@@ -1,4 +1,4 @@
-use Rattle.std.proofs.Common.{rules, ◌≡◌, true, false, refl, sym, ap, ◌∙◌}
+use Rattle.std.proofs.Common.{sym, ◌∙◌}
 use Rattle.hx_worlds.specs.Turns.{step}
 use Rattle.hx_scene.specs.Scenes.{at}
 use Rattle.hx_scene.proofs.Reaching.{does_as, nothing_done}

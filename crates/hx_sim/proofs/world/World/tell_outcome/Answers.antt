@@ -1,4 +1,4 @@
-use Rattle.std.proofs.Common.{rules, ◌≡◌, refl}
+use Rattle.std.proofs.Common.{refl}
 use Rattle.hx_scene.proofs.Reaching.{nothing_done}
 use Rattle.hx_sim.proofs.world.World.tell_outcome.Goals as goal
 

@@ -1,4 +1,4 @@
-use Rattle.std.proofs.Common.{rules, Some, ap, ◌∙◌}
+use Rattle.std.proofs.Common.{Some, ap, ◌∙◌}
 use Rattle.hx_worlds.specs.Settles.{tell_settle}
 use Rattle.hx_scene.specs.Scenes.{at}
 use Rattle.hx_scene.proofs.Reaching.{does_as}

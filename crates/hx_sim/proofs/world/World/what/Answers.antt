@@ -35,11 +35,11 @@ begin-requires-after_bounds g c κs within = rw (← c.self.view_is) (controller
 pub read-requires-after_bounds : goal.read-requires-after_bounds
 read-requires-after_bounds g c κs within = rw (← c.self.view_is) (controller_in c.self.inside.scene c.board.ensures.scene _ (same_in c.self.inside.scene (rw (← c.self.view_is) at c.requires) c.in-Read.is))
 
-pub send-requires-after_bounds : goal.send-requires-after_bounds
-send-requires-after_bounds g c κs within = rw (← c.self.view_is) (controller_in c.self.inside.scene c.board.ensures.scene _ (same_in c.self.inside.scene (rw (← c.self.view_is) at c.requires) c.in-Send.is))
+pub call_if-requires-after_bounds : goal.call_if-requires-after_bounds
+call_if-requires-after_bounds g c κs within = rw (← c.self.view_is) (controller_in c.self.inside.scene c.board.ensures.scene _ (same_in c.self.inside.scene (rw (← c.self.view_is) at c.requires) c.in-Send.is))
 
-pub post-requires-after_bounds : goal.post-requires-after_bounds
-post-requires-after_bounds g c κs within = rw (← c.self.view_is) (controller_in c.self.inside.scene c.board.ensures.scene _ (same_in c.self.inside.scene (rw (← c.self.view_is) at c.requires) c.in-Post.is))
+pub call_if-requires-in-Post-after_bounds : goal.call_if-requires-in-Post-after_bounds
+call_if-requires-in-Post-after_bounds g c κs within = rw (← c.self.view_is) (controller_in c.self.inside.scene c.board.ensures.scene _ (same_in c.self.inside.scene (rw (← c.self.view_is) at c.requires) c.in-Post.is))
 
 pub pass-requires-after_bounds : goal.pass-requires-after_bounds
 pass-requires-after_bounds g c κs within = rw (← c.self.view_is) (controller_in c.self.inside.scene c.board.ensures.scene _ (same_in c.self.inside.scene (rw (← c.self.view_is) at c.requires) c.in-Pass.is))
@@ -63,10 +63,10 @@ pub returns-in-Read : goal.returns-in-Read
 returns-in-Read g c = does_same (do_what c.args.voice) c.in-Read.is _ _ _ _ _ _ c.read.ensures
 
 pub returns-in-Send : goal.returns-in-Send
-returns-in-Send g c = does_same (do_what c.args.voice) c.in-Send.is _ _ _ _ _ _ c.send.ensures
+returns-in-Send g c = does_same (do_what c.args.voice) c.in-Send.is _ _ _ _ _ _ c.call_if.ensures
 
 pub returns-in-Post : goal.returns-in-Post
-returns-in-Post g c = does_same (do_what c.args.voice) c.in-Post.is _ _ _ _ _ _ c.post.ensures
+returns-in-Post g c = does_same (do_what c.args.voice) c.in-Post.is _ _ _ _ _ _ c.call_if-in-Post.ensures
 
 pub returns-in-Deliver : goal.returns-in-Deliver
 returns-in-Deliver g c = does_same (do_what c.args.voice) c.in-Deliver.is _ _ _ _ _ _ c.deliver.ensures
