@@ -1,6 +1,6 @@
 #!/usr/bin/env python3
 """described.py FOLDER=NAME.. or described.py TABLE: writes theorems, to standard output, of what the definitions make of
-descriptions.
+descriptions: one of each folder's description, or one of a whole table.
 
 A folder has input and output. Its description is read here with Python's json, so the theorem speaks of the JSON value. Where
 the output is a fault of the description, the theorem names that fault; else it names the description as row.py reads it. A
@@ -58,11 +58,11 @@ def of_folder(argument):
 
 
 def of_table(path):
-    count = {}
+    rows = []
     for line in read('.', path).splitlines():
         word, where, description = line.split(' ', 2)
-        count[word] = count.get(word, 0) + 1
-        yield theorem(description, f'description {word} {where}', f'{word.replace("-", "_")}_{count[word]}')
+        rows.append(f'({value(json.loads(description))}, ({kind(word)}, codes "{where}"))')
+    return TABLE % '\n    ∷ '.join(rows + ['[]'])
 
 
 def theorem(description, output, name):
@@ -70,12 +70,23 @@ def theorem(description, output, name):
             f'    ≡ {wanted(output, description)}\nunfolding digits\n{name} = refl\n')
 
 
+TABLE = '''-- each description, the kind of its first fault, and the fault's path
+abbrev faulty : List (Data × (DescKind × List ℕ))
+faulty =
+    %s
+
+pub each_fault : map (λ c. within (codes "$") (described c.0)) faulty ≡ map (λ c. Err (record { kind = c.1.0; path = c.1.1 })) faulty
+unfolding digits
+each_fault = refl
+'''
+
 HEAD = '''-- What the definitions make of the descriptions of worked cases. Written by tools/described.py.
-use Rattle.std.specs.Prelude.{◌≡◌, ℕ, true, false, List, [], ◌∷◌, ◌++◌, None, Some, Ok, Err, negsuc, codes}
+use Rattle.std.specs.Prelude.{◌≡◌, ℕ, true, false, List, [], ◌∷◌, ◌++◌, None, Some, map, Ok, Err, negsuc, codes}
 use Rattle.std.specs.Fmt.{digits}
 use Rattle.std.proofs.Common.{refl}
 use Rattle.serde_json.specs.Data.{Data, null, boolean, number, string, array, object, unsigned, negative, Members, no_members, member}
 use Rattle.serde_json.specs.View.{items_of}
+use Rattle.hx_forms.specs.declared.faults.DescKind.{DescKind}
 use Rattle.hx_forms.specs.declared.faults.DescKind.TheVariants as faults
 use Rattle.hx_forms.specs.Found.{Found, within}
 use Rattle.hx_desc.specs.Description.{described}
@@ -87,7 +98,7 @@ members_from (m ∷ ms) = member m.0 m.1 (members_from ms)
 
 
 def main():
-    text = '\n'.join(map(of_folder, sys.argv[1:]) if '=' in sys.argv[1] else of_table(sys.argv[1]))
+    text = '\n'.join(map(of_folder, sys.argv[1:])) if '=' in sys.argv[1] else of_table(sys.argv[1])
     print(HEAD % uses_of_terms(text))
     print(text, end='')
 

@@ -3,6 +3,7 @@ ghost use Rattle.std.specs.Prelude.{◌≡◌};
 use super::*;
 use hx_cluster::Failure;
 use hx_ids::{InstanceId, ResourceId};
+use std::alloc::{AllocError, Global};
 use std::process::Abort;
 use std::test::Fail;
 
@@ -10,20 +11,27 @@ const ONLINE: StateId = StateId(2);
 
 const OFFLINE: StateId = StateId(3);
 
+const FIRST: PartId = PartId {
+    resource: ResourceId(0),
+    index: 0,
+};
+
 fn part(index: u32) -> PartId {
-    PartId {
-        resource: ResourceId(0),
-        index,
-    }
+    PartId { index, ..FIRST }
 }
 
-fn failure(index: u32, make: bool, number: u32) -> Failure {
-    Failure {
-        instance: InstanceId(0),
-        part: part(index),
-        make,
-        number,
+/// Failures, each by its part's index, whether it is of a making, and its number.
+fn failures(alloc: Global, listed: &[(u32, bool, u32)]) -> Result<Vec<Failure>, AllocError> {
+    let mut failures = Vec::new(alloc);
+    for (index, make, number) in listed {
+        failures.push(Failure {
+            instance: InstanceId(0),
+            part: part(*index),
+            make: *make,
+            number: *number,
+        })?;
     }
+    Ok(failures)
 }
 
 /// Whether a making fails. The handler is retired at once.
@@ -40,11 +48,7 @@ fn making_fails(rt: &impl Abort, factory: &mut ScriptedFactory, part: PartId) ->
 
 #[test]
 fn the_makings_that_are_listed_fail(rt: HostRuntime) -> Result<(), Fail> {
-    let failures = vec![in rt.alloc();
-        failure(0, true, 1),
-        failure(1, true, 2),
-        failure(1, false, 1),
-    ]?;
+    let failures = failures(rt.alloc(), &[(0, true, 1), (1, true, 2), (1, false, 1)])?;
     let mut factory = ScriptedFactory::new(failures);
     let makings = [(0, true), (0, false), (1, false), (1, true), (2, false)];
     for (place, (index, fails)) in makings.iter().enumerate() {
@@ -68,13 +72,9 @@ fn run_fails(handler: &mut ScriptedHandler) -> bool
 
 #[test]
 fn the_run_that_is_listed_fails(rt: HostRuntime) -> Result<(), Fail> {
-    let failures = vec![in rt.alloc();
-        failure(0, false, 2),
-        failure(0, true, 2),
-        failure(1, false, 1),
-    ]?;
+    let failures = failures(rt.alloc(), &[(0, false, 2), (0, true, 2), (1, false, 1)])?;
     let mut factory = ScriptedFactory::new(failures);
-    let Ok(handler) = factory.make(part(0), OFFLINE) else {
+    let Ok(handler) = factory.make(FIRST, OFFLINE) else {
         panic!(&rt; "no handler");
     };
     let mut handler = Kept::new(handler).into_handler();
@@ -84,6 +84,6 @@ fn the_run_that_is_listed_fails(rt: HostRuntime) -> Result<(), Fail> {
     let retired = handler.retire();
     factory.take_back(retired);
     assert_eq!(rt; (first, second, third), (false, true, false));
-    assert_eq!(rt; retired.part, part(0));
+    assert_eq!(rt; retired.part, FIRST);
     Ok(())
 }

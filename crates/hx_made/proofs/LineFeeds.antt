@@ -26,34 +26,26 @@ token_lexemes (boolean b) = token (boolean b) ∷ []
 token_lexemes null = token null ∷ []
 token_lexemes bad = []
 
--- after a value stands a comma, a closing bracket or the end of the line
-ends_after : (ts : List Token) → ends_word (print_from true ts ++ 10 ∷ []) ≡ true
+-- after a value stands a comma, a closing bracket or what comes behind the tokens
+ends_before : (r : List ℕ) (ts : List Token) → ends_word r ≡ true → ends_word (print_from true ts ++ r) ≡ true
 unfolding print_from
-ends_after [] = refl
-ends_after (begin_object ∷ ts) = refl
-ends_after (end_object ∷ ts) = refl
-ends_after (begin_array ∷ ts) = refl
-ends_after (end_array ∷ ts) = refl
-ends_after (key s ∷ ts) = refl
-ends_after (string s ∷ ts) = refl
-ends_after (number s ∷ ts) = refl
-ends_after (boolean b ∷ ts) = refl
-ends_after (null ∷ ts) = refl
-ends_after (bad ∷ ts) = refl
+ends_before r [] h = h
+ends_before r (begin_object ∷ ts) h = refl
+ends_before r (end_object ∷ ts) h = refl
+ends_before r (begin_array ∷ ts) h = refl
+ends_before r (end_array ∷ ts) h = refl
+ends_before r (key s ∷ ts) h = refl
+ends_before r (string s ∷ ts) h = refl
+ends_before r (number s ∷ ts) h = refl
+ends_before r (boolean b ∷ ts) h = refl
+ends_before r (null ∷ ts) h = refl
+ends_before r (bad ∷ ts) h = refl
+
+ends_after : (ts : List Token) → ends_word (print_from true ts ++ 10 ∷ []) ≡ true
+ends_after ts = ends_before (10 ∷ []) ts refl
 
 ends_alone : (ts : List Token) → ends_word (print_from true ts) ≡ true
-unfolding print_from
-ends_alone [] = refl
-ends_alone (begin_object ∷ ts) = refl
-ends_alone (end_object ∷ ts) = refl
-ends_alone (begin_array ∷ ts) = refl
-ends_alone (end_array ∷ ts) = refl
-ends_alone (key s ∷ ts) = refl
-ends_alone (string s ∷ ts) = refl
-ends_alone (number s ∷ ts) = refl
-ends_alone (boolean b ∷ ts) = refl
-ends_alone (null ∷ ts) = refl
-ends_alone (bad ∷ ts) = refl
+ends_alone ts = ap ends_word (sym (append-nil (print_from true ts))) ∙ ends_before [] ts refl
 
 lex-quoted : (s r : List ℕ) → lex between (quoted s ++ r) ≡ token (string s) ∷ lex between r
 unfolding lex

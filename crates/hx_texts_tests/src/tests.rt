@@ -1,4 +1,8 @@
+ghost use Rattle.std.specs.Prelude.{IfSome};
+ghost use Rattle.hx_script.specs.Parsing.{IsReadable};
+
 use hx_cluster::Spec;
+use hx_text::{Lines, split_lines};
 use std::alloc::Global;
 use std::test::Fail;
 
@@ -19,5 +23,23 @@ fn small_spec(alloc: Global) -> Result<Spec, Fail> {
     match hx_desc::read(alloc, DESCRIPTION.as_bytes()) {
         Ok(spec) => Ok(spec),
         Err(_) => Err("no description".into()),
+    }
+}
+
+/// The lines of a short text, which may be read with the names of a description.
+fn short_lines(alloc: Global, spec: &Spec, text: &str) -> Option<Lines>
+    ensures { IfSome result (λ lines. IsReadable spec.now lines) }
+{
+    let bytes = text.as_bytes();
+    let is_small = bytes.len() < 10_000
+        && spec.model_names.len() <= 256
+        && spec.states.len() <= 256
+        && spec.resource_names.len() < 10_000;
+    if !is_small {
+        return None;
+    }
+    match split_lines(alloc, bytes, 16_384) {
+        Ok(lines) if lines.len() < 10_000 => Some(lines),
+        _ => None,
     }
 }

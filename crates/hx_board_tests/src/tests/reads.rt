@@ -15,7 +15,9 @@ pub enum Read {
     Newest(u32),
     Leader,
     Weight,
-    Charged,
+    Room,
+    Posted,
+    Entries,
 }
 
 #[derive(Clone, Copy, Debug, PartialEq)]
@@ -31,6 +33,10 @@ pub enum Stands {
     Resource(Option<ResourceId>),
     Leader(Option<ControllerId>),
     Weight(u64),
+    /// The weight of the history, and what is charged.
+    Room(u64, u64),
+    /// So many items.
+    Items(usize),
     NoMemory,
 }
 
@@ -85,7 +91,9 @@ fn look(board: &Board, read: Read) -> Stands {
         Read::Newest(name) => Stands::Resource(board.newest(name)),
         Read::Leader => Stands::Leader(board.leader()),
         Read::Weight => Stands::Weight(board.weight()),
-        Read::Charged => Stands::Weight(board.charged()),
+        Read::Room => Stands::Room(board.weight(), board.charged()),
+        Read::Posted => Stands::Items(board.posted().len()),
+        Read::Entries => Stands::Items(board.history().entries.len()),
     }
 }
 

@@ -1,45 +1,49 @@
-//! Scripts of calls, each for a board of its own.
+//! Scripts of calls and reads, each for a board of its own.
+use crate::tests::calls::{expect_made_small, expect_not_demo};
 use crate::tests::fixtures::small;
-use crate::tests::{calls, steps};
+use crate::tests::reads::{Read, Stands, expect_reads};
+use crate::tests::steps::fill;
+use crate::tests::tables::{Call, Step, Told, expect, expect_steps};
 use hx_board::Board;
 use std::alloc::Global;
 use std::process::Abort;
 
-#[derive(Clone, Copy, Debug)]
-pub enum Script {
-    Fenced,
-    ToldInHistory,
-    WithoutRoom,
-    LinesTaken,
-    MadeWith,
-    OfAnother,
-    SentAndRun,
-    Expiry,
-    NodesRefused,
-    ResourcesRefused,
-    Filled,
-    Live,
+/// What a script does next.
+#[derive(Clone, Copy)]
+pub enum Act {
+    /// Each call answers so, in order.
+    Calls(&'static [(Call, Told)]),
+    /// Each step answers so, in order.
+    Steps(&'static [(Step, Told)]),
+    /// Each read shows this.
+    Reads(&'static [(Read, Stands)]),
+    /// Each resource that may yet be added is added, and dropped.
+    Fill,
+    /// The board tells that it was made of the small description for the line 2, with the limit 2.
+    MadeSmall,
+    /// The board tells that it isn't the demo's.
+    NotDemo,
 }
 
-fn run(rt: &impl Abort, board: &mut Board, alloc: Global, script: Script) {
-    match script {
-        Script::Fenced => calls::fenced(rt, board, alloc),
-        Script::ToldInHistory => calls::told_in_history(rt, board, alloc),
-        Script::WithoutRoom => calls::without_room(rt, board, alloc),
-        Script::LinesTaken => calls::lines_taken(rt, board, alloc),
-        Script::MadeWith => calls::made_with(rt, board, alloc),
-        Script::OfAnother => calls::of_another(rt, board, alloc),
-        Script::SentAndRun => calls::sent_and_run(rt, board, alloc),
-        Script::Expiry => steps::expiry(rt, board, alloc),
-        Script::NodesRefused => steps::nodes_refused(rt, board, alloc),
-        Script::ResourcesRefused => steps::resources_refused(rt, board, alloc),
-        Script::Filled => steps::filled(rt, board, alloc),
-        Script::Live => steps::live(rt, board, alloc),
+fn make(rt: &impl Abort, board: &mut Board, alloc: Global, act: &Act) {
+    match act {
+        Act::Calls(rows) => expect(rt, board, alloc, *rows),
+        Act::Steps(rows) => expect_steps(rt, board, alloc, *rows),
+        Act::Reads(rows) => expect_reads(rt, board, *rows),
+        Act::Fill => fill(rt, board, alloc),
+        Act::MadeSmall => expect_made_small(rt, board, alloc),
+        Act::NotDemo => expect_not_demo(rt, board, alloc),
+    }
+}
+
+fn make_all(rt: &impl Abort, board: &mut Board, alloc: Global, script: &[Act]) {
+    for act in script {
+        make(rt, board, alloc, act);
     }
 }
 
 /// Plays a script on a board for so many lines, with this limit.
-pub fn play(rt: &impl Abort, alloc: Global, made: (u32, u32), script: Script) {
+pub fn play(rt: &impl Abort, alloc: Global, made: (u32, u32), script: &[Act]) {
     let mut board = small(rt, alloc, made.0, made.1);
-    run(rt, &mut board, alloc, script);
+    make_all(rt, &mut board, alloc, script);
 }

@@ -1,8 +1,8 @@
 //! Steps on a board, and why they are refused.
 use crate::tests::fixtures::{C1, C2, DB, E1, N1, N2, N3, OLD, ONLINE, S1, S2, S3, SLAVE, WEB};
-use crate::tests::reads::{Read, Stands, expect_reads};
-use crate::tests::scripts::{Script, play};
-use crate::tests::tables::{Step, Told, expect_step, expect_steps};
+use crate::tests::reads::{Read, Stands};
+use crate::tests::scripts::{Act, play};
+use crate::tests::tables::{Step, Told, expect_step};
 use hx_board::Board;
 use hx_cluster::StepFault;
 use hx_ideal::IdealFault;
@@ -18,41 +18,21 @@ static EXPIRY: &[(Step, Told)] = &[
     (Step::Tick(19), Told::Ended(None, None)),
     (Step::Tick(1), Told::Ended(Some(S1), None)),
     (Step::Tick(10), Told::Ended(Some(S2), None)),
-];
-
-fn expire(rt: &impl Abort, board: &mut Board, alloc: Global) {
-    expect_steps(rt, board, alloc, EXPIRY);
-}
-
-static JOINED_AGAIN: &[(Step, Told)] = &[
     (Step::Join(N2), Told::Joined(S3)),
     (Step::Join(N1), Told::Joined(SessionId(4))),
     (Step::Beat(N2), Told::Done),
     (Step::Tick(30), Told::Ended(Some(SessionId(4)), Some(S3))),
 ];
 
-fn expire_again(rt: &impl Abort, board: &mut Board, alloc: Global) {
-    expect_steps(rt, board, alloc, JOINED_AGAIN);
-}
-
 static EXPIRED: &[(Read, Stands)] = &[
     (Read::Session(N1), Stands::Session(None)),
     (Read::Weight, Stands::Weight(15)),
 ];
 
-fn are_expired(rt: &impl Abort, board: &Board) {
-    expect_reads(rt, board, EXPIRED);
-}
-
-pub fn expiry(rt: &impl Abort, board: &mut Board, alloc: Global) {
-    expire(rt, board, alloc);
-    expire_again(rt, board, alloc);
-    are_expired(rt, board);
-}
-
 #[test]
 fn sessions_end_in_order_of_their_last_beat(rt: HostRuntime) {
-    play(&rt, rt.alloc(), (0, 1000), Script::Expiry);
+    let acts = [Act::Steps(EXPIRY), Act::Reads(EXPIRED)];
+    play(&rt, rt.alloc(), (0, 1000), &acts);
 }
 
 const LED: StepFault = StepFault::LedBy {
@@ -70,24 +50,10 @@ static NODES: &[(Step, Told)] = &[
         Told::Fault(StepFault::AlreadyLive { session: S1 }),
     ),
     (Step::End(N1), Told::Done),
-];
-
-fn instances(rt: &impl Abort, board: &mut Board, alloc: Global) {
-    expect_steps(rt, board, alloc, NODES);
-}
-
-static DRAINS: &[(Step, Told)] = &[
     (Step::Undrain(N3), Told::Fault(StepFault::AlreadySo)),
     (Step::Drain(N3), Told::Done),
     (Step::Drain(N3), Told::Fault(StepFault::AlreadySo)),
     (Step::Undrain(N3), Told::Done),
-];
-
-fn drains(rt: &impl Abort, board: &mut Board, alloc: Global) {
-    expect_steps(rt, board, alloc, DRAINS);
-}
-
-static LEADS: &[(Step, Told)] = &[
     (Step::Start(C2), Told::Fault(StepFault::AlreadySo)),
     (Step::Stop(C2), Told::Done),
     (Step::Stop(C2), Told::Fault(StepFault::AlreadySo)),
@@ -95,45 +61,19 @@ static LEADS: &[(Step, Told)] = &[
     (Step::Start(C2), Told::Done),
     (Step::Lead(C1), Told::Leads(E1)),
     (Step::Lead(C2), Told::Fault(LED)),
-];
-
-fn leads(rt: &impl Abort, board: &mut Board, alloc: Global) {
-    expect_steps(rt, board, alloc, LEADS);
-}
-
-static TICKS: &[(Step, Told)] = &[
     (Step::Tick(1), Told::Ended(None, None)),
     (Step::Tick(u64::MAX), Told::Fault(StepFault::ClockEnd)),
 ];
-
-fn ticks(rt: &impl Abort, board: &mut Board, alloc: Global) {
-    expect_steps(rt, board, alloc, TICKS);
-}
 
 static LED_BY: &[(Read, Stands)] = &[
     (Read::Leader, Stands::Leader(Some(C1))),
     (Read::Drained(N3), Stands::Drained(false)),
 ];
 
-fn is_led(rt: &impl Abort, board: &Board) {
-    expect_reads(rt, board, LED_BY);
-}
-
-fn nodes(rt: &impl Abort, board: &mut Board, alloc: Global) {
-    instances(rt, board, alloc);
-    drains(rt, board, alloc);
-    leads(rt, board, alloc);
-    ticks(rt, board, alloc);
-}
-
-pub fn nodes_refused(rt: &impl Abort, board: &mut Board, alloc: Global) {
-    nodes(rt, board, alloc);
-    is_led(rt, board);
-}
-
 #[test]
 fn steps_of_instances_and_controllers_are_refused(rt: HostRuntime) {
-    play(&rt, rt.alloc(), (0, 1000), Script::NodesRefused);
+    let acts = [Act::Steps(NODES), Act::Reads(LED_BY)];
+    play(&rt, rt.alloc(), (0, 1000), &acts);
 }
 
 static RESOURCES: &[(Step, Told)] = &[
@@ -151,13 +91,6 @@ static RESOURCES: &[(Step, Told)] = &[
         Told::Fault(StepFault::Ideal(IdealFault::UnknownState { part: 0, place: 0 })),
     ),
     (Step::Map(OLD, ONLINE), Told::Done),
-];
-
-fn ideals(rt: &impl Abort, board: &mut Board, alloc: Global) {
-    expect_steps(rt, board, alloc, RESOURCES);
-}
-
-static ADDED: &[(Step, Told)] = &[
     (
         Step::Add,
         Told::Fault(StepFault::NameInUse { resource: OLD }),
@@ -172,28 +105,15 @@ static ADDED: &[(Step, Told)] = &[
     (Step::Drop(ResourceId(3)), Told::Done),
 ];
 
-fn adds(rt: &impl Abort, board: &mut Board, alloc: Global) {
-    expect_steps(rt, board, alloc, ADDED);
-}
-
 static NEWEST: &[(Read, Stands)] = &[
     (Read::Newest(2), Stands::Resource(Some(ResourceId(3)))),
     (Read::Newest(1), Stands::Resource(Some(WEB))),
 ];
 
-fn newest(rt: &impl Abort, board: &Board) {
-    expect_reads(rt, board, NEWEST);
-}
-
-pub fn resources_refused(rt: &impl Abort, board: &mut Board, alloc: Global) {
-    ideals(rt, board, alloc);
-    adds(rt, board, alloc);
-    newest(rt, board);
-}
-
 #[test]
 fn steps_of_resources_are_refused(rt: HostRuntime) {
-    play(&rt, rt.alloc(), (0, 2000), Script::ResourcesRefused);
+    let acts = [Act::Steps(RESOURCES), Act::Reads(NEWEST)];
+    play(&rt, rt.alloc(), (0, 2000), &acts);
 }
 
 /// Adds a resource, and drops it.
@@ -204,30 +124,20 @@ fn add(rt: &impl Abort, board: &mut Board, alloc: Global, n: u32) {
 }
 
 /// Adds each resource that may yet be added, and drops it.
-fn fill(rt: &impl Abort, board: &mut Board, alloc: Global) {
+pub fn fill(rt: &impl Abort, board: &mut Board, alloc: Global) {
     for n in 3u32..256 {
         add(rt, board, alloc, n);
     }
 }
 
-fn drop_old(rt: &impl Abort, board: &mut Board, alloc: Global) {
-    expect_step(rt, board, alloc, Step::Drop(OLD), Told::Done);
-}
+static DROPPED: &[(Step, Told)] = &[(Step::Drop(OLD), Told::Done)];
 
-fn add_no_more(rt: &impl Abort, board: &mut Board, alloc: Global) {
-    let full = Told::Fault(StepFault::TooMany);
-    expect_step(rt, board, alloc, Step::Add, full);
-}
-
-pub fn filled(rt: &impl Abort, board: &mut Board, alloc: Global) {
-    drop_old(rt, board, alloc);
-    fill(rt, board, alloc);
-    add_no_more(rt, board, alloc);
-}
+static FULL: &[(Step, Told)] = &[(Step::Add, Told::Fault(StepFault::TooMany))];
 
 #[test]
 fn resources_come_to_an_end(rt: HostRuntime) {
-    play(&rt, rt.alloc(), (0, 2000), Script::Filled);
+    let acts = [Act::Steps(DROPPED), Act::Fill, Act::Steps(FULL)];
+    play(&rt, rt.alloc(), (0, 2000), &acts);
 }
 
 static BEATS: &[(Step, Told)] = &[
@@ -236,25 +146,13 @@ static BEATS: &[(Step, Told)] = &[
     (Step::Beat(N1), Told::Done),
 ];
 
-fn beats(rt: &impl Abort, board: &mut Board, alloc: Global) {
-    expect_steps(rt, board, alloc, BEATS);
-}
-
 static LIVE: &[(Read, Stands)] = &[
     (Read::Roster, Stands::Live(Some(S2), Some(S1))),
     (Read::Shown, Stands::Live(Some(S1), Some(S2))),
 ];
 
-fn are_live(rt: &impl Abort, board: &Board) {
-    expect_reads(rt, board, LIVE);
-}
-
-pub fn live(rt: &impl Abort, board: &mut Board, alloc: Global) {
-    beats(rt, board, alloc);
-    are_live(rt, board);
-}
-
 #[test]
 fn live_sessions_are_told_by_beat_and_by_instance(rt: HostRuntime) {
-    play(&rt, rt.alloc(), (0, 1000), Script::Live);
+    let acts = [Act::Steps(BEATS), Act::Reads(LIVE)];
+    play(&rt, rt.alloc(), (0, 1000), &acts);
 }

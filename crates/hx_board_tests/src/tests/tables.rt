@@ -35,6 +35,9 @@ pub enum Step {
     Start(ControllerId),
 }
 
+/// A proposal to a session about a partition of a resource, and its transition.
+pub type Move = (SessionId, ResourceId, u32, StateId, StateId);
+
 #[derive(Clone, Copy, Debug)]
 pub enum Call {
     Step(Step),
@@ -45,7 +48,7 @@ pub enum Call {
     Mail(PassNo, SessionId),
     States(PassNo, SessionId),
     Ideals(PassNo),
-    Send(Epoch, PassNo, Proposal),
+    Send(Epoch, PassNo, Move),
     Post(Epoch, Seen),
     Fetch(InstanceId),
     Take(SessionId, MsgId),
@@ -196,34 +199,33 @@ fn refused(refusal: ReadRefusal) -> Told {
     }
 }
 
+/// What a read of a list tells.
+fn items<T: Drop>(read: Result<Vec<T>, ReadRefusal>) -> Told {
+    match read {
+        Ok(shown) => Told::Items(shown.len()),
+        Err(refusal) => refused(refusal),
+    }
+}
+
 fn live(rt: &impl Abort, board: &mut Board, pass: PassNo) -> Told {
     if !board.has_controller(C1) {
         panic!(rt; "no such controller");
     }
-    match board.read_live(C1, pass) {
-        Ok(shown) => Told::Items(shown.len()),
-        Err(refusal) => refused(refusal),
-    }
+    items(board.read_live(C1, pass))
 }
 
 fn mail(rt: &impl Abort, board: &mut Board, pass: PassNo, session: SessionId) -> Told {
     if !board.has_controller(C1) {
         panic!(rt; "no such controller");
     }
-    match board.read_mail(C1, pass, session) {
-        Ok(mail) => Told::Items(mail.len()),
-        Err(refusal) => refused(refusal),
-    }
+    items(board.read_mail(C1, pass, session))
 }
 
 fn states(rt: &impl Abort, board: &mut Board, pass: PassNo, session: SessionId) -> Told {
     if !board.has_controller(C1) {
         panic!(rt; "no such controller");
     }
-    match board.read_states(C1, pass, session) {
-        Ok(rows) => Told::Items(rows.len()),
-        Err(refusal) => refused(refusal),
-    }
+    items(board.read_states(C1, pass, session))
 }
 
 fn ideals(rt: &impl Abort, board: &mut Board, pass: PassNo) -> Told {
@@ -233,6 +235,15 @@ fn ideals(rt: &impl Abort, board: &mut Board, pass: PassNo) -> Told {
     match board.read_ideals(C1, pass) {
         Ok(ideals) => Told::Items(ideals.resources.len()),
         Err(refusal) => refused(refusal),
+    }
+}
+
+fn proposal(moved: Move) -> Proposal {
+    Proposal {
+        session: moved.0,
+        part: part(moved.1, moved.2),
+        from: moved.3,
+        to: moved.4,
     }
 }
 
@@ -315,7 +326,7 @@ pub fn ask(rt: &impl Abort, board: &mut Board, alloc: Global, call: Call) -> Tol
         Call::Mail(pass, session) => mail(rt, board, pass, session),
         Call::States(pass, session) => states(rt, board, pass, session),
         Call::Ideals(pass) => ideals(rt, board, pass),
-        Call::Send(epoch, pass, proposal) => send(rt, board, epoch, pass, &[proposal]),
+        Call::Send(epoch, pass, moved) => send(rt, board, epoch, pass, &[proposal(moved)]),
         Call::Post(epoch, seen) => post(rt, board, epoch, &[seen]),
         Call::Fetch(instance) => fetch(rt, board, instance),
         Call::Take(session, id) => take(board, session, id),

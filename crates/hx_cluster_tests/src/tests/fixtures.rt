@@ -1,9 +1,9 @@
 //! A small cluster, and what stands in it.
-use hx_cluster::{Cluster, Message, Resource, Row, Rule, Scope};
+use hx_cluster::{Cluster, Message, Resource, Row, Rule, Scope, Spec};
 use hx_ideal::{Ideal, Mode};
 use hx_ids::{
-    ControllerId, Epoch, InstanceId, Live, ModelId, MsgId, PartId, PassNo, ResourceId, SessionId,
-    StateId,
+    ControllerId, Epoch, InstanceId, Live, ModelId, MsgId, Names, PartId, PassNo, ResourceId,
+    SessionId, StateId,
 };
 use hx_lists::Seq;
 use hx_model::{Bound, DROPPED, Model, ModelParts};
@@ -71,28 +71,18 @@ pub fn custom(alloc: Global) -> Result<Mode, AllocError> {
 }
 
 /// No instance, no controller, no resource. Sessions end after 30 ticks.
-fn empty(alloc: Global) -> Cluster {
-    Cluster {
-        instances: Seq::new(alloc),
-        resources: Seq::new(alloc),
-        live: Seq::new(alloc),
-        rows: Seq::new(alloc),
-        mail: Seq::new(alloc),
-        resets: Seq::new(alloc),
-        leader: None,
-        epoch: Epoch(1),
-        controllers: Seq::new(alloc),
-        clock: 0,
-        line: None,
-        change: 0,
-        posted: Seq::new(alloc),
-        next_session: 1,
-        next_msg: 1,
-        timeout: 30,
+fn nothing(alloc: Global) -> Spec {
+    Spec {
+        instances: Names::new(alloc),
+        states: Names::new(alloc),
+        resource_names: Names::new(alloc),
+        model_names: Names::new(alloc),
         models: Seq::new(alloc),
+        controllers: 0,
+        timeout: 30,
         rules: Seq::new(alloc),
-        states: 4,
-        resource_names: 3,
+        resources: Seq::new(alloc),
+        failures: Seq::new(alloc),
     }
 }
 
@@ -138,46 +128,34 @@ fn fill(cluster: &mut Cluster, alloc: Global) -> Result<(), Fail> {
 
 /// Three instances, two controllers and two resources.
 pub fn opening(alloc: Global) -> Result<Cluster, Fail> {
-    let mut cluster = empty(alloc);
+    let mut cluster = Cluster::at_opening(alloc, &nothing(alloc))?;
+    cluster.states = 4;
+    cluster.resource_names = 3;
     fill(&mut cluster, alloc)?;
     Ok(cluster)
 }
 
-/// A session is live.
-pub fn add_live(
-    cluster: &mut Cluster,
-    session: SessionId,
-    instance: InstanceId,
-) -> Result<(), AllocError> {
-    cluster.live.push(Live {
+/// A live session.
+pub fn live(session: SessionId, instance: InstanceId) -> Live {
+    Live {
         session,
         instance,
         beat: 0,
-    })
+    }
 }
 
-/// A session has a replica.
-pub fn add_row(
-    cluster: &mut Cluster,
-    session: SessionId,
-    part: PartId,
-    state: StateId,
-) -> Result<(), AllocError> {
-    cluster.rows.push(Row {
+/// A session's replica.
+pub fn row(session: SessionId, part: PartId, state: StateId) -> Row {
+    Row {
         session,
         part,
         state,
-    })
+    }
 }
 
 /// A session is asked to bring a replica from OFFLINE to ONLINE.
-pub fn add_message(
-    cluster: &mut Cluster,
-    id: u64,
-    session: SessionId,
-    part: PartId,
-) -> Result<(), AllocError> {
-    cluster.mail.push(Message {
+pub fn message(id: u64, session: SessionId, part: PartId) -> Message {
+    Message {
         id: MsgId(id),
         session,
         part,
@@ -187,7 +165,7 @@ pub fn add_message(
         epoch: Epoch(1),
         taken: false,
         written: false,
-    })
+    }
 }
 
 /// The second instance is drained.
@@ -208,13 +186,4 @@ pub fn drop_resource(cluster: &mut Cluster, resource: ResourceId) {
     if let Some(resource) = cluster.resources.get_mut(resource.0 as usize) {
         resource.dropped = true;
     }
-}
-
-/// A replica is asked to leave ERROR.
-pub fn add_reset(
-    cluster: &mut Cluster,
-    session: SessionId,
-    part: PartId,
-) -> Result<(), AllocError> {
-    cluster.resets.push((session, part))
 }

@@ -1,7 +1,7 @@
 //! What becomes of a proposal.
 use crate::tests::fixtures::{
-    FIRST, N1, N2, OFFLINE, ONLINE, S1, S2, S3, SECOND, add_live, add_message, add_row,
-    drop_resource, opening, part,
+    FIRST, N1, N2, OFFLINE, ONLINE, S1, S2, S3, SECOND, drop_resource, live, message, opening,
+    part, row,
 };
 use hx_calls::place_on;
 use hx_cluster::{Cluster, Placed, Proposal};
@@ -23,13 +23,13 @@ fn proposal(session: SessionId, part: PartId, from: StateId, to: StateId) -> Pro
 /// Two messages are in flight to the first session, and one to the second. The first resource is
 /// dropped.
 fn make_busy(cluster: &mut Cluster) -> Result<(), AllocError> {
-    add_live(cluster, S1, N1)?;
-    add_live(cluster, S2, N2)?;
-    add_live(cluster, S3, InstanceId(2))?;
-    add_message(cluster, 1, S1, part(SECOND, 0))?;
-    add_message(cluster, 2, S1, part(SECOND, 1))?;
-    add_message(cluster, 3, S2, part(SECOND, 0))?;
-    add_row(cluster, S3, part(SECOND, 1), ONLINE)?;
+    cluster.live.push(live(S1, N1))?;
+    cluster.live.push(live(S2, N2))?;
+    cluster.live.push(live(S3, InstanceId(2)))?;
+    cluster.mail.push(message(1, S1, part(SECOND, 0)))?;
+    cluster.mail.push(message(2, S1, part(SECOND, 1)))?;
+    cluster.mail.push(message(3, S2, part(SECOND, 0)))?;
+    cluster.rows.push(row(S3, part(SECOND, 1), ONLINE))?;
     drop_resource(cluster, FIRST);
     Ok(())
 }

@@ -1,7 +1,7 @@
 //! What refuses each step, and what each step answers.
 use crate::tests::fixtures::{
-    C1, C2, FIRST, N1, N2, ONLINE, S1, SECOND, add_live, add_reset, add_resource, add_row, custom,
-    drain_second, drop_resource, ideal, opening, part, stop_second,
+    C1, C2, FIRST, N1, N2, ONLINE, S1, SECOND, add_resource, custom, drain_second, drop_resource,
+    ideal, live, opening, part, row, stop_second,
 };
 use hx_cluster::{Admin, Cluster, Did, StepFault};
 use hx_ideal::{Ideal, IdealFault, Mode};
@@ -47,17 +47,24 @@ fn refusal(cluster: &Cluster, step: &Admin) -> Option<StepFault> {
     }
 }
 
-fn expect_fault(rt: &impl Abort, cluster: &Cluster, step: Admin, fault: StepFault) {
-    assert_eq!(rt; refusal(cluster, &step), Some(fault), "of {step:?}");
+fn expect_fault(rt: &impl Abort, cluster: &Cluster, step: &Admin, fault: StepFault) {
+    assert_eq!(rt; refusal(cluster, step), Some(fault), "of {step:?}");
+}
+
+/// Each step is refused for its fault.
+fn expect_faults(rt: &impl Abort, cluster: &Cluster, table: &[(Admin, StepFault)]) {
+    for (step, fault) in table {
+        expect_fault(rt, cluster, step, *fault);
+    }
 }
 
 /// Instance 1 is live with a replica in ERROR and one that is online, instance 2 is drained,
 /// controller 1 leads and 2 is down, and the second resource is dropped.
 fn make_busy(cluster: &mut Cluster) -> Result<(), AllocError> {
-    add_live(cluster, S1, N1)?;
-    add_row(cluster, S1, part(FIRST, 0), ERROR)?;
-    add_row(cluster, S1, part(SECOND, 0), ONLINE)?;
-    add_reset(cluster, S1, part(FIRST, 0))?;
+    cluster.live.push(live(S1, N1))?;
+    cluster.rows.push(row(S1, part(FIRST, 0), ERROR))?;
+    cluster.rows.push(row(S1, part(SECOND, 0), ONLINE))?;
+    cluster.resets.push((S1, part(FIRST, 0)))?;
     drain_second(cluster);
     stop_second(cluster);
     drop_resource(cluster, SECOND);
@@ -76,54 +83,22 @@ fn busy(alloc: Global) -> Result<Cluster, Fail> {
 fn steps_of_sessions_and_controllers_are_refused(rt: HostRuntime) -> Result<(), Fail> {
     let cluster = busy(rt.alloc())?;
     let live = StepFault::AlreadyLive { session: S1 };
-    expect_fault(&rt, &cluster, Admin::Join { instance: N1 }, live);
-    expect_fault(
-        &rt,
-        &cluster,
-        Admin::End { instance: N2 },
-        StepFault::NotLive,
-    );
-    expect_fault(
-        &rt,
-        &cluster,
-        Admin::Beat { instance: N2 },
-        StepFault::NotLive,
-    );
-    expect_fault(
-        &rt,
-        &cluster,
-        Admin::Tick { n: u64::MAX },
-        StepFault::ClockEnd,
-    );
-    expect_fault(
-        &rt,
-        &cluster,
-        Admin::Drain { instance: N2 },
-        StepFault::AlreadySo,
-    );
-    expect_fault(
-        &rt,
-        &cluster,
-        Admin::Undrain { instance: N1 },
-        StepFault::AlreadySo,
-    );
     let led = StepFault::LedBy {
         controller: C1,
         epoch: Epoch(1),
     };
-    expect_fault(&rt, &cluster, Admin::Lead { controller: C2 }, led);
-    expect_fault(
-        &rt,
-        &cluster,
-        Admin::Stop { controller: C2 },
-        StepFault::AlreadySo,
-    );
-    expect_fault(
-        &rt,
-        &cluster,
-        Admin::Start { controller: C1 },
-        StepFault::AlreadySo,
-    );
+    let table = [
+        (Admin::Join { instance: N1 }, live),
+        (Admin::End { instance: N2 }, StepFault::NotLive),
+        (Admin::Beat { instance: N2 }, StepFault::NotLive),
+        (Admin::Tick { n: u64::MAX }, StepFault::ClockEnd),
+        (Admin::Drain { instance: N2 }, StepFault::AlreadySo),
+        (Admin::Undrain { instance: N1 }, StepFault::AlreadySo),
+        (Admin::Lead { controller: C2 }, led),
+        (Admin::Stop { controller: C2 }, StepFault::AlreadySo),
+        (Admin::Start { controller: C1 }, StepFault::AlreadySo),
+    ];
+    expect_faults(&rt, &cluster, &table);
     Ok(())
 }
 
@@ -132,20 +107,12 @@ fn names_in_use_are_refused(rt: HostRuntime) -> Result<(), Fail> {
     let first = add(0, ideal(Mode::Full, 1)?);
     let second = add(1, ideal(Mode::Full, 1)?);
     let cluster = busy(rt.alloc())?;
-    expect_fault(
-        &rt,
-        &cluster,
-        first,
-        StepFault::NameInUse { resource: FIRST },
-    );
-    expect_fault(
-        &rt,
-        &cluster,
-        second,
-        StepFault::NameInUse { resource: SECOND },
-    );
-    let drop = Admin::Drop { resource: SECOND };
-    expect_fault(&rt, &cluster, drop, StepFault::AlreadyDropped);
+    let table = [
+        (first, StepFault::NameInUse { resource: FIRST }),
+        (second, StepFault::NameInUse { resource: SECOND }),
+        (Admin::Drop { resource: SECOND }, StepFault::AlreadyDropped),
+    ];
+    expect_faults(&rt, &cluster, &table);
     Ok(())
 }
 
@@ -177,30 +144,23 @@ fn lists_are_refused(rt: HostRuntime) -> Result<(), Fail> {
 fn a_map_is_refused_where_there_are_lists(rt: HostRuntime) -> Result<(), Fail> {
     let map = set_map(rt.alloc(), part(FIRST, 0), &[])?;
     let cluster = busy(rt.alloc())?;
-    expect_fault(&rt, &cluster, map, StepFault::WrongMode);
+    expect_fault(&rt, &cluster, &map, StepFault::WrongMode);
     Ok(())
 }
 
 #[test]
 fn resets_are_refused(rt: HostRuntime) -> Result<(), Fail> {
     let cluster = busy(rt.alloc())?;
-    expect_fault(&rt, &cluster, reset(N2, part(FIRST, 0)), StepFault::NotLive);
-    expect_fault(
-        &rt,
-        &cluster,
-        reset(N1, part(FIRST, 9)),
-        StepFault::NoPart { parts: 1 },
-    );
     let online = StepFault::NotError {
         state: Some(ONLINE),
     };
-    expect_fault(&rt, &cluster, reset(N1, part(SECOND, 0)), online);
-    expect_fault(
-        &rt,
-        &cluster,
-        reset(N1, part(FIRST, 0)),
-        StepFault::AlreadyAsked,
-    );
+    let table = [
+        (reset(N2, part(FIRST, 0)), StepFault::NotLive),
+        (reset(N1, part(FIRST, 9)), StepFault::NoPart { parts: 1 }),
+        (reset(N1, part(SECOND, 0)), online),
+        (reset(N1, part(FIRST, 0)), StepFault::AlreadyAsked),
+    ];
+    expect_faults(&rt, &cluster, &table);
     Ok(())
 }
 
@@ -211,10 +171,10 @@ fn a_cluster_has_at_most_256_resources(rt: HostRuntime) -> Result<(), Fail> {
     for _number in 2..256 {
         add_resource(&mut cluster, 1, ideal(Mode::Full, 1)?)?;
     }
-    expect_fault(&rt, &cluster, step, StepFault::TooMany);
+    expect_fault(&rt, &cluster, &step, StepFault::TooMany);
     cluster.leader = None;
     let down = Admin::Lead { controller: C2 };
-    expect_fault(&rt, &cluster, down, StepFault::ControllerDown);
+    expect_fault(&rt, &cluster, &down, StepFault::ControllerDown);
     Ok(())
 }
 
@@ -268,8 +228,8 @@ fn a_resource_is_added_and_its_map_is_set(rt: HostRuntime) -> Result<(), Fail> {
 #[test]
 fn a_reset_is_asked_for(rt: HostRuntime) -> Result<(), Fail> {
     let mut cluster = opening(rt.alloc())?;
-    add_live(&mut cluster, S1, N1)?;
-    add_row(&mut cluster, S1, part(FIRST, 0), ERROR)?;
+    cluster.live.push(live(S1, N1))?;
+    cluster.rows.push(row(S1, part(FIRST, 0), ERROR))?;
     expect_made(&rt, &mut cluster, reset(N1, part(FIRST, 0)));
     Ok(())
 }

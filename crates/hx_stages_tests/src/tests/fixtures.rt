@@ -1,6 +1,7 @@
 //! What a controller may have been shown of a description's one resource.
 ghost use Rattle.std.specs.Prelude.{◌≡◌};
 
+use crate::tests::texts::{LISTED, Text, written};
 use hx_best::targets;
 use hx_cluster::{Ideals, Message, Resource, Row, Spec, Target, View};
 use hx_desc::read;
@@ -37,7 +38,7 @@ pub const DB: ResourceId = ResourceId(0);
 /// What stands in a view.
 #[derive(Clone, Copy)]
 pub struct Case {
-    pub text: &'static str,
+    pub text: Text,
     pub live: &'static [(SessionId, InstanceId)],
     pub dropped: bool,
     pub drained: [bool; 3],
@@ -49,7 +50,7 @@ pub struct Case {
 
 /// Three sessions without replicas, shown out of order.
 pub const EMPTY: Case = Case {
-    text: "",
+    text: LISTED,
     live: &[(S3, N3), (S1, N1), (S2, N2)],
     dropped: false,
     drained: [false; 3],
@@ -65,8 +66,11 @@ pub fn part(index: u32) -> PartId {
     }
 }
 
-pub fn described(rt: &impl Abort, alloc: Global, text: &str) -> Spec {
-    let Ok(spec) = read(alloc, text.as_bytes()) else {
+pub fn described(rt: &impl Abort, alloc: Global, text: Text) -> Spec {
+    let Ok(written) = written(alloc, text) else {
+        panic!(rt; "no memory");
+    };
+    let Ok(spec) = read(alloc, written.as_bytes()) else {
         panic!(rt; "no description");
     };
     spec

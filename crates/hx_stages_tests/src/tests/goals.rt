@@ -9,7 +9,19 @@ use hx_model::{DROPPED, ERROR};
 use std::alloc::Global;
 use std::process::Abort;
 
-const N2_DRAINED: [bool; 3] = [false, true, false];
+/// A replica is in ERROR.
+const FAILED: Case = Case {
+    text: LISTED,
+    rows: &[(S1, 0, ERROR)],
+    ..EMPTY
+};
+
+/// The second instance is drained.
+const DRAINED: Case = Case {
+    text: LISTED,
+    drained: [false, true, false],
+    ..EMPTY
+};
 
 /// The goal and the place of a target on an instance.
 type Goal = (InstanceId, StateId, u32);
@@ -19,30 +31,24 @@ type Goal = (InstanceId, StateId, u32);
 static EXCEPTIONS: &[(Case, &[Goal])] = &[
     (
         Case {
-            text: LISTED,
-            rows: &[(S1, 0, ERROR)],
             resets: &[S1],
-            ..EMPTY
+            ..FAILED
         },
         &[(N1, OFFLINE, 0), (N2, MASTER, 1), (N3, SLAVE, 2)],
     ),
     (
         Case {
-            text: LISTED,
-            rows: &[(S1, 0, ERROR)],
             resets: &[S2],
-            ..EMPTY
+            ..FAILED
         },
         &[(N1, ERROR, 0), (N2, MASTER, 1), (N3, SLAVE, 2)],
     ),
     (
         Case {
-            text: LISTED,
             dropped: true,
-            drained: N2_DRAINED,
             rows: &[(S1, 0, ERROR), (S3, 0, ERROR), (S2, 0, SLAVE)],
             resets: &[S3],
-            ..EMPTY
+            ..DRAINED
         },
         &[(N1, ERROR, 0), (N2, DROPPED, 0), (N3, OFFLINE, 0)],
     ),
@@ -57,26 +63,20 @@ static EXCEPTIONS: &[(Case, &[Goal])] = &[
     (
         Case {
             text: THIRD,
-            drained: N2_DRAINED,
             rows: &[(S1, 0, SLAVE), (S2, 0, SLAVE)],
-            ..EMPTY
+            ..DRAINED
         },
         &[(N1, DROPPED, 1), (N2, DROPPED, 1), (N3, MASTER, 0)],
     ),
     (
-        Case {
-            text: LISTED,
-            drained: N2_DRAINED,
-            ..EMPTY
-        },
+        DRAINED,
         &[(N1, MASTER, 0), (N2, OFFLINE, 1), (N3, SLAVE, 2)],
     ),
     (
         Case {
             text: MAPPED,
-            drained: N2_DRAINED,
             rows: &[(S3, 0, SLAVE)],
-            ..EMPTY
+            ..DRAINED
         },
         &[(N1, SLAVE, 0), (N2, OFFLINE, 0), (N3, DROPPED, 0)],
     ),
@@ -106,9 +106,8 @@ static BEST: &[(Case, &[Goal])] = &[
     (
         Case {
             text: ANYWHERE,
-            drained: N2_DRAINED,
             rows: &[(S2, 0, SLAVE)],
-            ..EMPTY
+            ..DRAINED
         },
         &[(N1, MASTER, 0), (N2, DROPPED, 2), (N3, SLAVE, 1)],
     ),

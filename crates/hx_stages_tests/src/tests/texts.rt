@@ -1,110 +1,92 @@
-//! Descriptions of three instances and one resource. Where the text says nothing else, its one
-//! partition is wanted on the three in their order.
+//! Descriptions of three instances and one resource.
+use std::alloc::{AllocError, Global};
 
-/// Two replicas.
-pub const LISTED: &str = r#"{"version":1,"instances":["n1","n2","n3"],"resources":[
-{"name":"db","model":"MasterSlave","replicas":2,"partitions":1,"mode":"SEMI_AUTO",
-"lists":[["n1","n2","n3"]]}]}
----
-"#;
+/// The resource's model, how many replicas and partitions it has, its mode, and what else the
+/// description says.
+pub type Text = (&'static str, u32, u32, &'static str, &'static str);
 
-/// Two replicas, of which only the third instance is wanted.
-pub const THIRD: &str = r#"{"version":1,"instances":["n1","n2","n3"],"resources":[
-{"name":"db","model":"MasterSlave","replicas":2,"partitions":1,"mode":"SEMI_AUTO",
-"lists":[["n3"]]}]}
----
-"#;
+/// The one partition is wanted on the three in their order.
+const IN_ORDER: &str = r#""SEMI_AUTO","lists":[["n1","n2","n3"]]"#;
 
-/// Two slaves.
-pub const MAPPED: &str = r#"{"version":1,"instances":["n1","n2","n3"],"resources":[
-{"name":"db","model":"MasterSlave","replicas":2,"partitions":1,"mode":"CUSTOMIZED",
-"maps":[[{"instance":"n2","state":"SLAVE"},{"instance":"n1","state":"SLAVE"}]]}]}
----
-"#;
+/// The second instance stands first.
+const SECOND: &str = r#""SEMI_AUTO","lists":[["n2","n1","n3"]]"#;
 
-/// Two replicas, placed by the controller.
-pub const ANYWHERE: &str = r#"{"version":1,"instances":["n1","n2","n3"],"resources":[
-{"name":"db","model":"MasterSlave","replicas":2,"partitions":1,"mode":"FULL_AUTO"}]}
----
-"#;
+const ON_THIRD: &str = r#""SEMI_AUTO","lists":[["n3"]]"#;
 
-/// Three replicas, of which two may be in a state with a bound; between the two stands one without.
-pub const FEW: &str = r#"{"version":1,"instances":["n1","n2","n3"],"models":[
+const ON_FIRST: &str = r#""SEMI_AUTO","lists":[["n1"],["n1"],["n1"],["n1"]]"#;
+
+const BOTH_IN_ORDER: &str = r#""SEMI_AUTO","lists":[["n1","n2","n3"],["n1","n2","n3"]]"#;
+
+const SLAVES: &str = r#""CUSTOMIZED",
+"maps":[[{"instance":"n2","state":"SLAVE"},{"instance":"n1","state":"SLAVE"}]]"#;
+
+const MASTERS: &str = r#""CUSTOMIZED",
+"maps":[[{"instance":"n1","state":"MASTER"},{"instance":"n2","state":"MASTER"}]]"#;
+
+/// The controller places the partitions.
+const PLACED: &str = r#""FULL_AUTO""#;
+
+/// Of the states two have a bound; between the two stands one without.
+const FEW_STATES: &str = r#","models":[
 {"name":"Few","states":[{"name":"TOP","bound":"1"},{"name":"IDLE","bound":"-1"},
 {"name":"LOW","bound":"1"},{"name":"OFFLINE","bound":"-1"}],"initial":"OFFLINE","transitions":[
-"OFFLINE>LOW","LOW>TOP","TOP>IDLE","IDLE>OFFLINE","LOW>OFFLINE","OFFLINE>DROPPED"]}],"resources":[
-{"name":"db","model":"Few","replicas":3,"partitions":1,"mode":"SEMI_AUTO",
-"lists":[["n1","n2","n3"]]}]}
----
-"#;
+"OFFLINE>LOW","LOW>TOP","TOP>IDLE","IDLE>OFFLINE","LOW>OFFLINE","OFFLINE>DROPPED"]}]"#;
 
-pub const THREE_REPLICAS: &str = r#"{"version":1,"instances":["n1","n2","n3"],"resources":[
-{"name":"db","model":"MasterSlave","replicas":3,"partitions":1,"mode":"SEMI_AUTO",
-"lists":[["n1","n2","n3"]]}]}
----
-"#;
-
-/// The same with the second instance first.
-pub const SECOND_FIRST: &str = r#"{"version":1,"instances":["n1","n2","n3"],"resources":[
-{"name":"db","model":"MasterSlave","replicas":3,"partitions":1,"mode":"SEMI_AUTO",
-"lists":[["n2","n1","n3"]]}]}
----
-"#;
-
-/// Three replicas, of which one may be in P and two in Q.
-pub const SWAP: &str = r#"{"version":1,"instances":["n1","n2","n3"],"models":[
+/// One may be in P and two in Q.
+const P_AND_Q: &str = r#","models":[
 {"name":"Swap","states":[{"name":"P","bound":"1"},{"name":"Q","bound":"2"},
 {"name":"OFFLINE","bound":"-1"}],"initial":"OFFLINE","transitions":[
-"OFFLINE>Q","Q>P","P>Q","Q>OFFLINE","OFFLINE>DROPPED"]}],"resources":[
-{"name":"db","model":"Swap","replicas":3,"partitions":1,"mode":"SEMI_AUTO",
-"lists":[["n1","n2","n3"]]}]}
----
-"#;
+"OFFLINE>Q","Q>P","P>Q","Q>OFFLINE","OFFLINE>DROPPED"]}]"#;
 
-/// The same with the second instance first.
-pub const SWAPPED: &str = r#"{"version":1,"instances":["n1","n2","n3"],"models":[
-{"name":"Swap","states":[{"name":"P","bound":"1"},{"name":"Q","bound":"2"},
-{"name":"OFFLINE","bound":"-1"}],"initial":"OFFLINE","transitions":[
-"OFFLINE>Q","Q>P","P>Q","Q>OFFLINE","OFFLINE>DROPPED"]}],"resources":[
-{"name":"db","model":"Swap","replicas":3,"partitions":1,"mode":"SEMI_AUTO",
-"lists":[["n2","n1","n3"]]}]}
----
-"#;
+/// At most one message is in flight to an instance.
+const ONE_EACH: &str = r#","throttles":[{"scope":"instance","limit":1}]"#;
+
+/// At most one of the messages in flight is to go offline, at most three are in flight, and at most
+/// one to an instance.
+const THREE_RULES: &str = r#","throttles":[
+{"scope":"resource","from":"ONLINE","to":"OFFLINE","limit":1},
+{"scope":"cluster","limit":3},{"scope":"instance","limit":1}]"#;
+
+pub const LISTED: Text = ("MasterSlave", 2, 1, IN_ORDER, "");
+
+pub const THIRD: Text = ("MasterSlave", 2, 1, ON_THIRD, "");
+
+pub const MAPPED: Text = ("MasterSlave", 2, 1, SLAVES, "");
+
+pub const ANYWHERE: Text = ("MasterSlave", 2, 1, PLACED, "");
+
+pub const FEW: Text = ("Few", 3, 1, IN_ORDER, FEW_STATES);
+
+pub const THREE_REPLICAS: Text = ("MasterSlave", 3, 1, IN_ORDER, "");
+
+pub const SECOND_FIRST: Text = ("MasterSlave", 3, 1, SECOND, "");
+
+pub const SWAP: Text = ("Swap", 3, 1, IN_ORDER, P_AND_Q);
+
+pub const SWAPPED: Text = ("Swap", 3, 1, SECOND, P_AND_Q);
 
 /// Two masters, of which one may be.
-pub const TWO_MASTERS: &str = r#"{"version":1,"instances":["n1","n2","n3"],"resources":[
-{"name":"db","model":"MasterSlave","replicas":2,"partitions":1,"mode":"CUSTOMIZED",
-"maps":[[{"instance":"n1","state":"MASTER"},{"instance":"n2","state":"MASTER"}]]}]}
----
-"#;
+pub const TWO_MASTERS: Text = ("MasterSlave", 2, 1, MASTERS, "");
 
-/// Four partitions on the first instance, to which one message may go at a time.
-pub const THROTTLED: &str = r#"{"version":1,"instances":["n1","n2","n3"],
-"throttles":[{"scope":"instance","limit":1}],"resources":[
-{"name":"db","model":"OnlineOffline","replicas":1,"partitions":4,"mode":"SEMI_AUTO",
-"lists":[["n1"],["n1"],["n1"],["n1"]]}]}
----
-"#;
+pub const THROTTLED: Text = ("OnlineOffline", 1, 4, ON_FIRST, ONE_EACH);
 
-/// Three partitions of two replicas, placed by the controller. At most one of the messages in flight
-/// is to go offline, at most three are in flight, and at most one to an instance.
-pub const RULES: &str = r#"{"version":1,"instances":["n1","n2","n3"],"throttles":[
-{"scope":"resource","from":"ONLINE","to":"OFFLINE","limit":1},
-{"scope":"cluster","limit":3},{"scope":"instance","limit":1}],"resources":[
-{"name":"db","model":"OnlineOffline","replicas":2,"partitions":3,"mode":"FULL_AUTO"}]}
----
-"#;
+pub const RULES: Text = ("OnlineOffline", 2, 3, PLACED, THREE_RULES);
 
 /// The same without throttles.
-pub const NO_RULES: &str = r#"{"version":1,"instances":["n1","n2","n3"],"resources":[
-{"name":"db","model":"OnlineOffline","replicas":2,"partitions":3,"mode":"FULL_AUTO"}]}
----
-"#;
+pub const NO_RULES: Text = ("OnlineOffline", 2, 3, PLACED, "");
 
-/// Two partitions of three replicas. At most one message is in flight to an instance.
-pub const MIXED: &str = r#"{"version":1,"instances":["n1","n2","n3"],
-"throttles":[{"scope":"instance","limit":1}],"resources":[
-{"name":"db","model":"MasterSlave","replicas":3,"partitions":2,"mode":"SEMI_AUTO",
-"lists":[["n1","n2","n3"],["n1","n2","n3"]]}]}
----
-"#;
+pub const MIXED: Text = ("MasterSlave", 3, 2, BOTH_IN_ORDER, ONE_EACH);
+
+/// The description as a text.
+pub fn written(alloc: Global, text: Text) -> Result<String, AllocError> {
+    let (model, replicas, partitions, mode, more) = text;
+    let mut json = String::from_str(alloc, r#"{"version":1,"instances":["n1","n2","n3"]"#)?;
+    json.push_str(more)?;
+    json.push_str(r#","resources":[{"name":"db","model":""#)?;
+    json.push_str(model)?;
+    json.push_str(&format!(in alloc; "\",\"replicas\":{replicas},\"partitions\":{partitions}")?)?;
+    json.push_str(r#","mode":"#)?;
+    json.push_str(mode)?;
+    json.push_str("}]}\n---\n")?;
+    Ok(json)
+}

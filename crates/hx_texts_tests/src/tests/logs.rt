@@ -1,24 +1,15 @@
-use super::small_spec;
+use super::{short_lines, small_spec};
 use hx_cluster::Spec;
 use hx_logs::read_log;
 use hx_script::LogLine;
-use hx_text::split_lines;
 use std::alloc::{AllocError, Global};
 use std::test::Fail;
 
 /// What the lines of a short log are read as.
 fn read(alloc: Global, spec: &mut Spec, text: &str) -> Result<Vec<LogLine>, AllocError> {
-    let bytes = text.as_bytes();
-    let is_small = bytes.len() < 10_000
-        && spec.model_names.len() <= 256
-        && spec.states.len() <= 256
-        && spec.resource_names.len() < 10_000;
-    if !is_small {
-        return Err(AllocError);
-    }
-    match split_lines(alloc, bytes, 16_384) {
-        Ok(lines) if lines.len() < 10_000 => read_log(alloc, &lines, spec),
-        _ => Err(AllocError),
+    match short_lines(alloc, spec, text) {
+        Some(lines) => read_log(alloc, &lines, spec),
+        None => Err(AllocError),
     }
 }
 

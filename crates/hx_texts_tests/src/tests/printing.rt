@@ -44,6 +44,17 @@ fn printed(alloc: Global, spec: &Spec, events: &[Event]) -> Result<Page, AllocEr
     Ok(page)
 }
 
+const LOG: &str = "line 7
+join n1 s3
+end n1 s1
+tick 5
+  end n2 s2
+  end n1 s1
+begin c1 e1 p1
+fetch n1 - 0
+write s1 m1 failed
+";
+
 #[test]
 fn log_lines(rt: HostRuntime) -> Result<(), Fail> {
     let spec = small_spec(rt.alloc())?;
@@ -68,9 +79,7 @@ fn log_lines(rt: HostRuntime) -> Result<(), Fail> {
         Event::Write(SessionId(1), MsgId(1), Outcome::Failed),
     ];
     let page = printed(rt.alloc(), &spec, &events)?;
-    let want =
-        "line 7\njoin n1 s3\nend n1 s1\ntick 5\n  end n2 s2\n  end n1 s1\nbegin c1 e1 p1\nfetch n1 - 0\nwrite s1 m1 failed\n";
-    assert_eq!(rt; page.as_bytes(), want.as_bytes());
+    assert_eq!(rt; page.as_bytes(), LOG.as_bytes());
     Ok(())
 }
 
@@ -111,6 +120,18 @@ fn dispatch(alloc: Global) -> Result<Event, AllocError> {
     })
 }
 
+const ANSWERS: &str = "send c1 e1 p1
+  sent m1 s1 db#1/3 OFFLINE>SLAVE
+  ended s1 db#1/3 OFFLINE>SLAVE
+  dropped s1 db#1/3 OFFLINE>SLAVE
+  busy m3 s1 db#1/3 OFFLINE>SLAVE
+  from - s1 db#1/3 OFFLINE>SLAVE
+  from SLAVE s1 db#1/3 OFFLINE>SLAVE
+  illegal s1 db#1/3 OFFLINE>SLAVE
+  bound 1 of 1 s1 db#1/3 OFFLINE>SLAVE
+  throttle 0 4 of 4 s1 db#1/3 OFFLINE>SLAVE
+";
+
 #[test]
 fn answers_to_proposals(rt: HostRuntime) -> Result<(), Fail> {
     let spec = small_spec(rt.alloc())?;
@@ -118,9 +139,7 @@ fn answers_to_proposals(rt: HostRuntime) -> Result<(), Fail> {
     let roll = small_roll(rt.alloc())?;
     let mut page = Page::new(rt.alloc());
     print_event(&event, &roll, &spec, &mut page)?;
-    let want =
-        "send c1 e1 p1\n  sent m1 s1 db#1/3 OFFLINE>SLAVE\n  ended s1 db#1/3 OFFLINE>SLAVE\n  dropped s1 db#1/3 OFFLINE>SLAVE\n  busy m3 s1 db#1/3 OFFLINE>SLAVE\n  from - s1 db#1/3 OFFLINE>SLAVE\n  from SLAVE s1 db#1/3 OFFLINE>SLAVE\n  illegal s1 db#1/3 OFFLINE>SLAVE\n  bound 1 of 1 s1 db#1/3 OFFLINE>SLAVE\n  throttle 0 4 of 4 s1 db#1/3 OFFLINE>SLAVE\n";
-    assert_eq!(rt; page.as_bytes(), want.as_bytes());
+    assert_eq!(rt; page.as_bytes(), ANSWERS.as_bytes());
     Ok(())
 }
 
@@ -130,6 +149,15 @@ fn print_notes(spec: &Spec, notes: &[Note], page: &mut Page) -> Result<(), Alloc
     }
     Ok(())
 }
+
+const NOTES: &str = "! 12 already-live s1
+! 12 not-error -
+! 12 no-resource
+! 12 not-leader c2
+! 12 out-of-turn mail
+! 12 other-session -
+! 12 wrong-from SLAVE
+";
 
 #[test]
 fn notes(rt: HostRuntime) -> Result<(), Fail> {
@@ -147,9 +175,7 @@ fn notes(rt: HostRuntime) -> Result<(), Fail> {
     ];
     let mut page = Page::new(rt.alloc());
     print_notes(&spec, &notes, &mut page)?;
-    let want =
-        "! 12 already-live s1\n! 12 not-error -\n! 12 no-resource\n! 12 not-leader c2\n! 12 out-of-turn mail\n! 12 other-session -\n! 12 wrong-from SLAVE\n";
-    assert_eq!(rt; page.as_bytes(), want.as_bytes());
+    assert_eq!(rt; page.as_bytes(), NOTES.as_bytes());
     Ok(())
 }
 
@@ -193,6 +219,22 @@ fn print_views(spec: &Spec, page: &mut Page) -> Result<(), AllocError> {
     print_history_full(4_000_000, page)
 }
 
+const SHOWN: &str = "? c1 sent 2
+? c1 waiting 1
+? c1 moved 14 15
+? c1 settled
+? settle c1 3
+? n1 accept m4
+? failed n1 db#1/3
+? full n2 db#1/3 SLAVE>MASTER 1 of 1 n1
+= db#1/3 n1:MASTER n2:SLAVE
+= db#1/3 -
+= route db#1/3 MASTER n1
+= route db#1/3 MASTER -
+= summary sent 5 ok 4 failed 1 sessions 3 ended 2
+history full 4000000
+";
+
 #[test]
 fn outcomes_and_views(rt: HostRuntime) -> Result<(), Fail> {
     let spec = small_spec(rt.alloc())?;
@@ -200,8 +242,6 @@ fn outcomes_and_views(rt: HostRuntime) -> Result<(), Fail> {
     let mut page = Page::new(rt.alloc());
     print_outcomes(&full, &spec, &mut page)?;
     print_views(&spec, &mut page)?;
-    let want =
-        "? c1 sent 2\n? c1 waiting 1\n? c1 moved 14 15\n? c1 settled\n? settle c1 3\n? n1 accept m4\n? failed n1 db#1/3\n? full n2 db#1/3 SLAVE>MASTER 1 of 1 n1\n= db#1/3 n1:MASTER n2:SLAVE\n= db#1/3 -\n= route db#1/3 MASTER n1\n= route db#1/3 MASTER -\n= summary sent 5 ok 4 failed 1 sessions 3 ended 2\nhistory full 4000000\n";
-    assert_eq!(rt; page.as_bytes(), want.as_bytes());
+    assert_eq!(rt; page.as_bytes(), SHOWN.as_bytes());
     Ok(())
 }

@@ -1,23 +1,15 @@
-use super::small_spec;
+use super::{short_lines, small_spec};
 use hx_cluster::Spec;
 use hx_script::{Line, ScriptFault, ScriptKind, ScriptRefusal, parse, print_line};
-use hx_text::{Page, split_lines};
+use hx_text::Page;
 use std::alloc::{AllocError, Global};
 use std::test::Fail;
 
 /// The lines of a short script, with the names that they bring.
 fn parsed(alloc: Global, spec: &mut Spec, text: &str) -> Result<Vec<Line>, ScriptRefusal> {
-    let bytes = text.as_bytes();
-    let is_small = bytes.len() < 10_000
-        && spec.model_names.len() <= 256
-        && spec.states.len() <= 256
-        && spec.resource_names.len() < 10_000;
-    if !is_small {
-        return Err(ScriptRefusal::OutOfMemory);
-    }
-    match split_lines(alloc, bytes, 16_384) {
-        Ok(lines) if lines.len() < 10_000 => parse(alloc, &lines, spec),
-        _ => Err(ScriptRefusal::OutOfMemory),
+    match short_lines(alloc, spec, text) {
+        Some(lines) => parse(alloc, &lines, spec),
+        None => Err(ScriptRefusal::OutOfMemory),
     }
 }
 
