@@ -1,6 +1,6 @@
 //! The targets of a resource.
 ghost use Rattle.std.specs.Prelude.{◌≡◌, ◌||◌, ◌++◌, [], IfOk, OnOk, if◌then◌else◌};
-ghost use Rattle.std.specs.List.{flat_map, cons_option};
+ghost use Rattle.std.specs.List.{flat_map};
 ghost use Rattle.std.specs.Option.{option_map_or, is_some};
 ghost use Rattle.hx_best.specs.Goals.{goal as goal_of};
 ghost use Rattle.hx_best.specs.Targets.{targets_at, targets_in};
@@ -13,6 +13,7 @@ use crate::places::Places;
 use crate::visits::Visits;
 use hx_cluster::{Target, View};
 use hx_ids::{InstanceId, PartId, ResourceId, SessionId, StateId};
+use hx_lists::push_some;
 use hx_model::{DROPPED, ERROR, Model};
 use std::alloc::{AllocError, Global};
 
@@ -154,19 +155,6 @@ fn is_one(state: Option<StateId>, mark: Option<Mark>) -> bool
     ensures { result ≡ (is_some state || is_some mark) }
 {
     state.is_some() || mark.is_some()
-}
-
-/// Adds an item at the end, if there is one.
-pub fn push_some<T: Drop>(items: &mut Vec<T>, item: Option<T>) -> Result<(), AllocError>
-    ensures { OnOk result (items.new.items ≡ items.old.items ++ cons_option item []) }
-{
-    match item {
-        Some(item) => {
-            items.push(item)?;
-            Ok(())
-        }
-        None => Ok(()),
-    }
 }
 
 /// The targets of a resource, by partition, then instance.

@@ -184,6 +184,3 @@ pub fn is_well_formed(
     }
     is_well_formed_beside(alloc, models, instances, view)
 }
-
-#[cfg(test)]
-mod tests;

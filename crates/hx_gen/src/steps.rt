@@ -11,10 +11,10 @@ ghost use Rattle.hx_gen.specs.Candidates.{is_at_goal as is_at_goal_of, hop_of, c
 ghost use Rattle.hx_gen.specs.Stage.{has_model, ranked_as, ranked_by};
 
 use crate::Ranked;
-use hx_best::push_some;
 use hx_cluster::{Candidate, Message, Target, View, message_on};
 use hx_hops::Hops;
 use hx_ids::{ResourceId, StateId};
+use hx_lists::push_some;
 use hx_model::{DROPPED, ERROR, Model};
 use hx_parts::ByPart;
 use std::alloc::{AllocError, Global};

@@ -291,6 +291,3 @@ impl Slots {
         None
     }
 }
-
-#[cfg(test)]
-mod tests;

@@ -1,5 +1,7 @@
 mod fixtures;
+mod formed;
 mod goals;
 mod moves;
+mod parts;
 mod plans;
 mod texts;

@@ -1,4 +1,6 @@
 mod counts;
 mod links;
+mod lists;
 mod sessions;
+mod slots;
 mod store;

@@ -1,7 +1,10 @@
 ghost use Rattle.std.specs.Prelude.{◌≡◌, [], IfOk};
 
-use super::*;
-use hx_ids::Epoch;
+use hx_cluster::Message;
+use hx_ids::{Epoch, MsgId, PartId, ResourceId, SessionId, StateId};
+use hx_lists::Seq;
+use hx_slots::Slots;
+use std::alloc::{AllocError, Global};
 use std::test::Fail;
 
 const SESSION: SessionId = SessionId(7);

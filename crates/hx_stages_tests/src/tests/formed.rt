@@ -1,9 +1,12 @@
 ghost use Rattle.std.specs.Prelude.{◌≡◌, true, [], IfOk};
 ghost use Rattle.hx_formed.specs.Wanted.{are_good_ideals};
 
-use super::*;
-use hx_cluster::Row;
+use hx_cluster::{Ideals, Row, View};
+use hx_formed::is_well_formed_beside;
 use hx_ids::{InstanceId, PartId, ResourceId, SessionId};
+use hx_lists::Seq;
+use hx_model::ERROR;
+use std::alloc::{AllocError, Global};
 use std::test::Fail;
 
 /// A session of the only instance, where there are no resources.

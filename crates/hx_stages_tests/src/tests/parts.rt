@@ -1,5 +1,6 @@
-use super::*;
-use hx_ids::ResourceId;
+use hx_ids::{PartId, ResourceId, SessionId};
+use hx_parts::ByPart;
+use std::alloc::{AllocError, Global};
 use std::test::Fail;
 
 fn part(resource: u32, index: u32) -> PartId {

@@ -1,4 +1,4 @@
-use super::*;
+use hx_lists::{Log, Seq};
 use std::test::Fail;
 
 #[test]
