@@ -33,15 +33,11 @@ fn number_option<'a>(alloc: Global, name: &'a str, limits: Limits) -> Arg<'a>
 pub fn command_line<'a>(alloc: Global, modes: ValueParser<'a>) -> Result<Command<'a>, AllocError>
     ensures { IfOk result (λ c. app_of c ≡ command_line modes.entry) }
 {
-    let mode = value_option(alloc, "mode", modes);
-    let lanes = number_option(alloc, "lanes", LANES);
-    let rounds = number_option(alloc, "rounds", ROUNDS);
-    let seed = number_option(alloc, "seed", SEED);
-    let size = number_option(alloc, "size", SIZE);
-    let named = Command::new(alloc, "fodderca").version("0.1.0");
-    let with_mode = named.arg(mode)?;
-    let with_lanes = with_mode.arg(lanes)?;
-    let with_rounds = with_lanes.arg(rounds)?;
-    let with_seed = with_rounds.arg(seed)?;
-    with_seed.arg(size)
+    Command::new(alloc, "fodderca")
+        .version("0.1.0")
+        .arg(value_option(alloc, "mode", modes))?
+        .arg(number_option(alloc, "lanes", LANES))?
+        .arg(number_option(alloc, "rounds", ROUNDS))?
+        .arg(number_option(alloc, "seed", SEED))?
+        .arg(number_option(alloc, "size", SIZE))
 }

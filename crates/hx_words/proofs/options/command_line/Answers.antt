@@ -7,9 +7,9 @@ use Rattle.hx_words.proofs.options.command_line.Goals as goal
 
 pub returns : goal.returns
 returns c =
-    let named : app_of c.version-named.result ≡ with_version (new_app (codes "fodderca")) = ap app_of_fields c.version-named.ensures ∙ ap with_version c.new.ensures.app in
-    let with_mode = one_more _ _ _ _ (mode_rule c.args.modes) c.in_ok-with_mode.ensures named c.value_option-mode.ensures refl in
-    let with_lanes = one_more _ _ _ _ lanes_rule c.in_ok-with_lanes.ensures with_mode c.number_option-lanes.ensures refl in
-    let with_rounds = one_more _ _ _ _ rounds_rule c.in_ok-with_rounds.ensures with_lanes c.number_option-rounds.ensures refl in
-    let with_seed = one_more _ _ _ _ seed_rule c.in_ok-with_seed.ensures with_rounds c.number_option-seed.ensures refl in
-    IfOk-weaker c.arg-5.result _ _ (λ r adds. one_more _ _ _ _ size_rule adds with_seed c.number_option-size.ensures refl) c.arg-5.ensures
+    let named : app_of c.version.result ≡ with_version (new_app (codes "fodderca")) = ap app_of_fields c.version.ensures ∙ ap with_version c.new.ensures.app in
+    let with_mode = one_more _ _ _ _ (mode_rule c.args.modes) c.in_ok-arg.ensures named c.value_option.ensures refl in
+    let with_lanes = one_more _ _ _ _ lanes_rule c.in_ok-arg-2.ensures with_mode c.number_option.ensures refl in
+    let with_rounds = one_more _ _ _ _ rounds_rule c.in_ok-arg-3.ensures with_lanes c.number_option-2.ensures refl in
+    let with_seed = one_more _ _ _ _ seed_rule c.in_ok-arg-4.ensures with_rounds c.number_option-3.ensures refl in
+    IfOk-weaker c.arg-5.result _ _ (λ r adds. one_more _ _ _ _ size_rule adds with_seed c.number_option-4.ensures refl) c.arg-5.ensures
