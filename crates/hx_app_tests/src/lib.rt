@@ -1,4 +1,4 @@
-//! Tests of what hx_app offers, through its public calls alone.
+//! Tests of what hx_app offers, and of the streams below it, through their public calls alone.
 #![tactic(auto)]
 
 #[cfg(test)]

@@ -1,4 +1,5 @@
 mod hostile;
+mod streams;
 
 use hx_app::{RunMode, Status, Task, run_script, start};
 use hx_io::{MemSink, MemSource};

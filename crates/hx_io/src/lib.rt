@@ -55,6 +55,3 @@ pub trait Sink {
         ensures bytes { WriteAppends (got self.old) (got self.new) result bytes.now }
         ensures cause { CountsFault (faults self.old) (faults self.new) result };
 }
-
-#[cfg(test)]
-mod tests;

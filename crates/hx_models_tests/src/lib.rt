@@ -1,4 +1,5 @@
-//! Tests of state models, of ideal states and of the ways through a model, by their public calls.
+//! Tests of state models, of ideal states, of the ways through a model and of places dealt in turn,
+//! by their public calls.
 #![tactic(auto)]
 
 #[cfg(test)]

@@ -1,3 +1,4 @@
 mod hops;
 mod ideals;
 mod models;
+mod places;

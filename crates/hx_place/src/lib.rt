@@ -37,6 +37,3 @@ pub fn round_robin(
     }
     Ok(all)
 }
-
-#[cfg(test)]
-mod tests;

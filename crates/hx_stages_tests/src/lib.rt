@@ -1,4 +1,4 @@
-//! Tests of the stages of a plan, by their public calls.
+//! Tests of the stages of a plan, and of what they keep by part, by their public calls.
 #![tactic(auto)]
 
 #[cfg(test)]

@@ -1,4 +1,5 @@
-//! Tests of the structures below a cluster: linked lists, live sessions, versioned records, counts.
+//! Tests of the structures below a cluster: lists, names, linked lists, live sessions, versioned
+//! records, slots, counts.
 #![tactic(auto)]
 
 #[cfg(test)]

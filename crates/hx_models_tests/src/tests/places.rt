@@ -1,4 +1,4 @@
-use super::*;
+use hx_place::round_robin;
 use std::test::Fail;
 
 #[test]

@@ -1,4 +1,6 @@
-use super::*;
+use hx_io::{
+    Failed, MemSink, MemSource, ReadFault, Source, StdSink, StdSource, read_all, write_all,
+};
 use std::io;
 use std::test::Fail;
 
