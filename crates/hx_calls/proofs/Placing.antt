@@ -4,7 +4,6 @@ use Rattle.std.specs.Prelude.{nat_le, if◌then◌else◌, Bool, not, ◌==◌, 
 use Rattle.std.proofs.lemmas.List.{take-append-le, at_drop_more}
 use Rattle.std.proofs.Math.Seq.{take-length}
 use Rattle.hx_cluster.specs.declared.description.Rule.{Rule}
-use Rattle.hx_cluster.specs.declared.state.Row.{Row}
 use Rattle.hx_cluster.specs.declared.state.Cluster.{Cluster}
 use Rattle.hx_cluster.specs.declared.happenings.Proposal.{Proposal}
 use Rattle.hx_cluster.specs.declared.happenings.Placed.{Placed}
@@ -16,16 +15,6 @@ use Rattle.hx_cluster.specs.declared.state.Message.{Message}
 use Rattle.hx_cluster.specs.Ends.{matches, count_of, limit_at, state_of, message_of, model_of, is_live}
 use Rattle.hx_cluster.specs.Steps.{is_dropped}
 use Rattle.hx_cluster.specs.Messages.{proposal_load, throttled_from, bounded, placed_idle, placed_of, placed_all, standing_of, message_from, after_placed, after_proposal, after_proposals, raised_pass, next_pass, after_dispatch}
-use Rattle.hx_cluster.specs.Apart.{with_rows}
-
--- rows play no part in throttles
-pub throttled_rows_from : (c : Cluster) (rows : List Row) (q : Proposal) (k : ℕ) (rules : List Rule) → throttled_from (with_rows c rows) q k rules ≡ throttled_from c q k rules
-throttled_rows_from c rows q k [] = refl
-throttled_rows_from c rows q k (r ∷ rs) =
-    ap (λ (next : Placed). if matches r q.from q.to && nat_le r.limit (proposal_load c q r) then placings.OverThrottle k (proposal_load c q r) r.limit else next) (throttled_rows_from c rows q (k + 1) rs)
-
-pub throttled_rows : (c : Cluster) (rows : List Row) (q : Proposal) → throttled_from (with_rows c rows) q 0 c.rules ≡ throttled_from c q 0 c.rules
-throttled_rows c rows q = throttled_rows_from c rows q 0 c.rules
 
 -- only messages were added, at most n of them
 pub record IsGrown (n : ℕ) (old new : Cluster) : Type 0 where
@@ -51,10 +40,7 @@ grown_placed n old new q _ g = kept n old new g
 pub grown_more : (n : ℕ) (old new : Cluster) (q : Proposal) → IsGrown n old new → IsGrown (n + 1) old (after_proposal new q)
 grown_more n old new q g = grown_placed n old new q (placed_of new q) g
 
-pub grown_none : (c : Cluster) → IsGrown 0 c c
-grown_none c = record { same = refl; mail = take-length c.mail; longer = omega arith; next = omega arith; change = omega arith }
-
--- and so do the controllers' marks and passes in all of placing
+-- the controllers' marks and passes play no part in placing
 abbrev pub with_controllers : Cluster → List (Bool × PassNo) → Cluster
 with_controllers c ds = record c { controllers = ds }
 
@@ -118,14 +104,6 @@ after_raised c k qs = rw (same-passes c qs) (one (slice_get c.controllers k.0))
     one None = refl
     one (Some d) = rw (same-passes c qs) (after-passes c (slice_set c.controllers k.0 (d.0, record { 0 = d.1.0 + 1 })) qs)
 
--- rows play no part in passes
-pub raised_rows : (c : Cluster) (rows : List Row) (k : ControllerId) → with_rows (next_pass c k) rows ≡ next_pass (with_rows c rows) k
-raised_rows c rows k = one (slice_get c.controllers k.0)
-  where
-    one : (o : Option (Bool × PassNo)) → with_rows (raised_pass c k o) rows ≡ raised_pass (with_rows c rows) k o
-    one None = refl
-    one (Some d) = refl
-
 -- one more proposal: its answer joins those so far, and the rest is placed behind it
 pub told_more : (now next : Cluster) (all : List Proposal) (i : ℕ) (d : Proposal) (told more : List Placed) → i < length all
     → next ≡ after_proposal now (get_or all i d) → more ≡ told ++ placed_of now (get_or all i d) ∷ []
@@ -137,11 +115,6 @@ told_more now next all i d told more h after gives =
     ∙ append_assoc told (answer ∷ []) (placed_all next rest)
     ∙ ap (λ (x : Cluster). told ++ (answer ∷ placed_all x rest)) after
     ∙ sym (at_drop_more (λ ps. told ++ placed_all now ps) all i d h)
-
-pub rest_more : (now next : Cluster) (all : List Proposal) (i : ℕ) (d : Proposal) → i < length all → next ≡ after_proposal now (get_or all i d)
-    → after_proposals next (drop (i + 1) all) ≡ after_proposals now (drop i all)
-rest_more now next all i d h after =
-    ap (λ (x : Cluster). after_proposals x (drop (i + 1) all)) after ∙ sym (at_drop_more (λ ps. after_proposals now ps) all i d h)
 
 pub on_ok : {T E : Type 0} (r : Result T E) {P : Type 0} → is_ok r ≡ true → OnOk r P → P
 on_ok (Ok x) e p = p

@@ -1,15 +1,13 @@
-//! The calls of controllers and participants on a plain cluster: what each answers, and the cluster
-//! after it.
+//! What the calls of controllers and participants do to a plain cluster beside its sessions, rows and
+//! messages: passes, posts, what is read of the ideals, and what becomes of reset flags.
 #![tactic(auto)]
 
+mod messages;
 mod passes;
-mod proposals;
 mod reads;
-mod runs;
 mod shown;
 
+pub use messages::{message_from, settle_flags};
 pub use passes::{begin, publish, raise_pass};
-pub use proposals::{dispatch, dispatch_on, message_from, place_all_on, place_on};
-pub use reads::{fetch, read_ideals, read_ideals_over, read_live, read_mail, read_states};
-pub use runs::{ack, settle_flags, take, write, write_on};
+pub use reads::read_ideals_over;
 pub use shown::{forget_shown, no_ideals, nothing_shown};

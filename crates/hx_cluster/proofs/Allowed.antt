@@ -6,7 +6,7 @@ use Rattle.hx_ids.specs.declared.InstanceId.{InstanceId}
 use Rattle.hx_ids.specs.declared.StateId.{StateId}
 use Rattle.hx_ids.specs.declared.PartId.{PartId}
 use Rattle.hx_model.specs.Model.{states_of}
-use Rattle.hx_ideal.specs.Faults.{list_fault, map_fault}
+use Rattle.hx_ideal.specs.Faults.{map_fault}
 use Rattle.hx_ideal.specs.declared.Mode.{Mode}
 use Rattle.hx_ideal.specs.declared.Mode.TheVariants as modes
 use Rattle.hx_ideal.specs.declared.IdealFault.{IdealFault}

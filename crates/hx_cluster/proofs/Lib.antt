@@ -1,6 +1,5 @@
 pub mod Newest
 pub mod Shown
-pub mod RowsApart
 pub mod Absent
 pub mod Allowed
 pub mod Bare

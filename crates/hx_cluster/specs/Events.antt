@@ -1,5 +1,5 @@
 -- Events: which may happen, and what they make of a cluster.
-use Rattle.std.specs.Prelude.{◌≡◌, ℕ, ◌+◌, Bool, true, false, not, ◌==◌, ◌&&◌, List, [], ◌∷◌, length, Option, None, Some, is_none, nat_lt}
+use Rattle.std.specs.Prelude.{◌≡◌, ℕ, ◌+◌, Bool, true, ◌==◌, ◌&&◌, List, [], ◌∷◌, length, Option, None, Some, is_none, nat_lt}
 use Rattle.std.specs.List.{list_all}
 use Rattle.hx_ids.specs.declared.StateId.{StateId}
 use Rattle.hx_ids.specs.declared.ControllerId.{ControllerId}
@@ -8,7 +8,6 @@ use Rattle.hx_ids.specs.declared.Epoch.{Epoch}
 use Rattle.hx_ids.specs.declared.SessionId.{SessionId}
 use Rattle.hx_ids.specs.declared.MsgId.{MsgId}
 use Rattle.hx_ids.specs.declared.PartId.{PartId}
-use Rattle.hx_cluster.specs.declared.state.Message.{Message}
 use Rattle.hx_cluster.specs.declared.state.Cluster.{Cluster}
 use Rattle.hx_cluster.specs.declared.happenings.Begun.{Begun}
 use Rattle.hx_cluster.specs.declared.happenings.Dispatched.{Dispatched}
@@ -16,7 +15,7 @@ use Rattle.hx_cluster.specs.declared.happenings.Proposal.{Proposal}
 use Rattle.hx_cluster.specs.declared.happenings.Seen.{Seen}
 use Rattle.hx_cluster.specs.declared.happenings.Event.{Event}
 use Rattle.hx_cluster.specs.declared.happenings.Event.TheVariants as events
-use Rattle.hx_cluster.specs.Ends.{is_live, parts_of}
+use Rattle.hx_cluster.specs.Ends.{parts_of}
 use Rattle.hx_cluster.specs.Steps.{refusal_of, after, did_of, is_in_range, has_instance, has_controller, is_leader, session_of}
 use Rattle.hx_cluster.specs.Reads.{pass_of, messages_for}
 use Rattle.hx_cluster.specs.Messages.{placed_all, after_dispatch, next_pass, after_take, after_write, after_ack}

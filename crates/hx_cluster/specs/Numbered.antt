@@ -13,9 +13,3 @@ pub record IsNumbered (c : Cluster) : Type 0 where
 abbrev pub is_end : Admin → Bool
 is_end (steps.End i) = true
 is_end _ = false
-
--- a step that leaves the rows as they are
-abbrev pub leaves_rows : Admin → Bool
-leaves_rows (steps.End i) = false
-leaves_rows (steps.Tick n) = false
-leaves_rows _ = true

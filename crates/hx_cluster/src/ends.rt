@@ -1,20 +1,18 @@
-//! The ends of replicas, how many sessions have a state among them, and what throttles count.
+//! The ends of replicas, which transitions a throttle counts, and what the model of a part says.
 //! Nothing here takes memory.
-ghost use Rattle.std.specs.Prelude.{◌≡◌, ℕ, ◌^◌, ◌<◌, ◌==◌, ◌||◌, length, option_copied, unwrap_or};
-ghost use Rattle.hx_model.specs.Model.{is_legal, bound_of};
+ghost use Rattle.std.specs.Prelude.{◌≡◌, ◌==◌, ◌||◌, option_copied, unwrap_or};
+ghost use Rattle.hx_model.specs.Model.{is_legal};
 ghost use Rattle.hx_cluster.specs.Ends.{message_at, row_at, row_of, message_of};
-ghost use Rattle.hx_cluster.specs.Ends.{has_end as has_end_of, count_of, limit_at, load_of};
-ghost use Rattle.hx_cluster.specs.Ends.{matches, key_of, is_counted, shown_of, model_of, no_model};
-ghost use Rattle.hx_cluster.specs.Ends.{replicas_of, parts_of, instance_in};
+ghost use Rattle.hx_cluster.specs.Ends.{has_end as has_end_of, matches, model_of, no_model};
+ghost use Rattle.hx_cluster.specs.Ends.{replicas_of, parts_of};
 ghost use Rattle.hx_cluster.specs.Lookups.{model_in};
 ghost use Rattle.hx_cluster.specs.Messages.{initial_of};
-ghost use Rattle.hx_cluster.specs.Apart.{with_rows};
 
-use crate::description::{Rule, Scope};
+use crate::description::Rule;
 use crate::readers::{message_on, state_on};
 use crate::state::{Cluster, Message, Row};
-use hx_ids::{InstanceId, PartId, ResourceId, SessionId, StateId};
-use hx_model::{DROPPED, ERROR, Model, limit};
+use hx_ids::{PartId, ResourceId, SessionId, StateId};
+use hx_model::{DROPPED, ERROR, Model};
 
 impl Message {
     /// Whether it leads from or to a state.
@@ -47,18 +45,6 @@ fn has_message_end(mail: &[Message], part: PartId, state: StateId, session: Sess
     }
 }
 
-/// How many live sessions have a state among the ends of a part, with the rows apart.
-pub fn count_on(rest: &Cluster, rows: &[Row], part: PartId, state: StateId) -> usize
-    ensures { result ≡ count_of (with_rows rest.now rows.now) part state }
-{
-    let mail = rest.mail.as_slice();
-    rest.live
-        .iter()
-        .map(|l| l.session)
-        .filter(|session| has_end(rows, mail, part, state, *session))
-        .count()
-}
-
 impl Rule {
     /// Whether it counts a transition.
     pub fn matches(&self, from: StateId, to: StateId) -> bool
@@ -72,13 +58,6 @@ impl Rule {
 }
 
 impl Cluster {
-    /// How many live sessions have a state among the ends of a part.
-    pub fn count_of(&self, part: PartId, state: StateId) -> usize
-        ensures { result ≡ count_of self.now part state }
-    {
-        count_on(self, self.rows.as_slice(), part, state)
-    }
-
     /// A resource's model.
     #[tactic(auto, using(crate::proofs::Shown::model_in_or))]
     pub fn model_of(&self, resource: ResourceId) -> Option<&Model>
@@ -132,61 +111,5 @@ impl Cluster {
             Some(model) => model.legal(from, to),
             None => from == ERROR && to == DROPPED,
         }
-    }
-
-    /// How many replicas of a part may be in a state, if that is limited.
-    pub fn limit_at(&self, part: PartId, state: StateId) -> Option<u32>
-        requires { length self.now.live < 2 ^ 32 }
-        ensures { result ≡ limit_at self.now part state }
-    {
-        match self.model_of(part.resource) {
-            Some(model) => limit(
-                model.bound(state),
-                self.replicas_of(part.resource),
-                self.live.len() as u32,
-            ),
-            None => None,
-        }
-    }
-
-    #[tactic(auto, using(crate::proofs::Shown::instance_in_shown))]
-    fn instance_of(&self, session: SessionId) -> Option<InstanceId>
-        ensures { result ≡ instance_in (shown_of self.now.live) session }
-    {
-        self.live_of(session).map(|l| l.instance)
-    }
-
-    /// The key under which a scope counts a message to a session about a part: the instance, the
-    /// resource, or 0 for the cluster.
-    pub fn key_of(&self, scope: Scope, session: SessionId, part: PartId) -> u32
-        ensures { result ≡ key_of scope (shown_of self.now.live) session part }
-    {
-        match scope {
-            Scope::Cluster => 0,
-            Scope::Instance => match self.instance_of(session) {
-                Some(instance) => instance.0,
-                None => 0,
-            },
-            Scope::Resource => part.resource.0,
-        }
-    }
-
-    #[tactic(auto, using(crate::proofs::Shown::shown_is_live))]
-    fn is_counted(&self, rule: &Rule, key: u32, message: &Message) -> bool
-        ensures { result ≡ is_counted (shown_of self.now.live) rule.now key message.now }
-    {
-        self.is_live(message.session)
-            && rule.matches(message.from, message.to)
-            && self.key_of(rule.scope, message.session, message.part) == key
-    }
-
-    /// How many pending messages of live sessions a rule counts under a key.
-    pub fn load_of(&self, rule: &Rule, key: u32) -> usize
-        ensures { result ≡ load_of self.now rule.now key }
-    {
-        self.mail
-            .iter()
-            .filter(|m| self.is_counted(rule, key, *m))
-            .count()
     }
 }

@@ -6,7 +6,6 @@ mod description;
 mod edits;
 mod ends;
 mod happenings;
-mod marks;
 mod opening;
 mod planning;
 mod ranges;
@@ -16,9 +15,8 @@ mod refusals;
 mod state;
 mod steps;
 
-pub use admin::{admin_on, make_on};
 pub use description::{Failure, Resource, Rule, Scope, Spec};
-pub use ends::{count_on, has_end};
+pub use ends::has_end;
 pub use happenings::{
     AckFault, Admin, Begun, Did, Dispatched, Event, Mail, Outcome, Placed, Proposal, Seen,
     StepFault, TakeFault, WriteRefusal,
@@ -28,6 +26,6 @@ pub use planning::{
     Candidate, Entry, Finding, Full, Held, Ideals, Plan, Report, Selection, Target, Throttled, View,
 };
 pub use readers::{message_on, state_on};
-pub use refusals::{MOST_RESOURCES, is_flag_of, refuses_on};
+pub use refusals::{MOST_RESOURCES, is_flag_of};
 pub use state::{Cluster, Message, Row};
 pub use steps::add_flag;

@@ -35,13 +35,6 @@ impl Message {
         self.session == session && self.part == part
     }
 
-    /// Whether it is the message with this number of a session.
-    pub fn has_id(&self, session: SessionId, id: MsgId) -> bool
-        ensures { result ≡ has_id session id self.now }
-    {
-        self.session == session && self.id == id
-    }
-
     /// Where an outcome puts its replica.
     pub fn state_after(&self, outcome: Outcome) -> StateId
         ensures { result ≡ state_after self.now outcome }
@@ -87,13 +80,6 @@ impl Cluster {
         self.live.iter().any(|l| l.session == session)
     }
 
-    /// A live session with its instance and its last beat.
-    pub fn live_of(&self, session: SessionId) -> Option<Live>
-        ensures { result ≡ find (is_session session) self.now.live }
-    {
-        self.live.iter().copied().find(|l| l.session == session)
-    }
-
     /// Whether an instance is drained.
     #[tactic(auto, using(crate::proofs::Shown::drained_at))]
     pub fn is_drained(&self, instance: InstanceId) -> bool
@@ -131,41 +117,6 @@ impl Cluster {
             Some(entry) => entry.1,
             None => PassNo(0),
         }
-    }
-
-    /// Whether a controller has a pass of this number.
-    pub fn is_pass(&self, controller: ControllerId, pass: PassNo) -> bool
-        ensures { result ≡ is_pass self.now controller pass }
-    {
-        (controller.0 as usize) < self.controllers.len() && self.pass_of(controller) == pass
-    }
-
-    /// Whether this epoch stands.
-    pub fn is_epoch(&self, epoch: Epoch) -> bool
-        ensures { result ≡ is_epoch self.now epoch }
-    {
-        self.epoch == epoch
-    }
-
-    /// The state of a session's replica, if it has one.
-    pub fn state_of(&self, session: SessionId, part: PartId) -> Option<StateId>
-        ensures { result ≡ state_of self.now.rows session part }
-    {
-        state_on(self.rows.as_slice(), session, part)
-    }
-
-    /// The pending message of a session's part.
-    pub fn message_of(&self, session: SessionId, part: PartId) -> Option<Message>
-        ensures { result ≡ message_of self.now.mail session part }
-    {
-        message_on(self.mail.as_slice(), session, part)
-    }
-
-    /// A session's pending message by number.
-    pub fn pending_of(&self, session: SessionId, id: MsgId) -> Option<Message>
-        ensures { result ≡ pending_of self.now session id }
-    {
-        self.mail.iter().copied().find(|m| m.has_id(session, id))
     }
 
     /// A resource, dropped or not.

@@ -11,7 +11,6 @@ ghost use Rattle.hx_cluster.specs.Steps.{is_semi as is_semi_of, is_custom as is_
 ghost use Rattle.hx_cluster.specs.Steps.{name_in_use, already_so as already_so_of, already_live};
 ghost use Rattle.hx_cluster.specs.Steps.{not_live, edit_fault as edit_fault_of};
 ghost use Rattle.hx_cluster.specs.Steps.{reset_fault as reset_fault_of, lead_fault, refusal_of};
-ghost use Rattle.hx_cluster.specs.Apart.{with_rows};
 ghost use Rattle.hx_cluster.specs.Numbered.{IsNumbered};
 
 use crate::description::Resource;
@@ -108,15 +107,15 @@ impl Cluster {
             .any(|m| self.is_held_by_message(m, resource))
     }
 
-    fn is_held_in_rows(&self, rows: &[Row], resource: ResourceId) -> bool
+    fn is_held_in_rows(&self, resource: ResourceId) -> bool
         ensures { result
             ≡ list_any (λ x. (x.part.resource.0 == resource.0) && is_live self.now.live x.session)
-            rows.now }
+            self.now.rows }
     {
-        rows.iter().any(|r| self.is_held_by_row(r, resource))
+        self.rows.iter().any(|r| self.is_held_by_row(r, resource))
     }
 
-    pub(crate) fn already_live_fault(&self, instance: InstanceId) -> Option<StepFault>
+    fn already_live_fault(&self, instance: InstanceId) -> Option<StepFault>
         ensures { result ≡ already_live (live_of self.now.live instance) }
     {
         match self.live_at(instance) {
@@ -156,7 +155,7 @@ impl Cluster {
         }
     }
 
-    pub(crate) fn lead_fault(&self, controller: ControllerId) -> Option<StepFault>
+    fn lead_fault(&self, controller: ControllerId) -> Option<StepFault>
         ensures { result ≡ lead_fault self.now controller self.now.leader }
     {
         match self.leader {
@@ -241,83 +240,68 @@ fn edit_fault(
     }
 }
 
-/// Whether a live session has a row or a message of a resource.
-fn is_held(rest: &Cluster, rows: &[Row], resource: ResourceId) -> bool
-    ensures { result ≡ is_held_of (with_rows rest.now rows.now) resource }
-{
-    rest.is_held_in_rows(rows, resource) || rest.is_held_in_mail(resource)
-}
-
-fn add_fault(rest: &Cluster, rows: &[Row], name: u32) -> Option<StepFault>
-    requires { IsNumbered rest.now }
-    ensures { result ≡ name_in_use (with_rows rest.now rows.now) (newest rest.now name) }
-{
-    if let Some(resource) = rest.newest(name)
-        && (!rest.is_dropped(resource) || is_held(rest, rows, resource))
-    {
-        return Some(StepFault::NameInUse { resource });
-    }
-    if rest.resources.len() >= MOST_RESOURCES {
-        Some(StepFault::TooMany)
-    } else {
-        None
-    }
-}
-
-fn reset_fault(
-    rest: &Cluster,
-    rows: &[Row],
-    instance: InstanceId,
-    part: PartId,
-) -> Option<StepFault>
-    ensures { result
-        ≡ reset_fault_of (with_rows rest.now rows.now) part (live_of rest.now.live instance) }
-{
-    let Some(live) = rest.live_at(instance) else {
-        return Some(StepFault::NotLive);
-    };
-    let parts = rest.parts_of(part.resource);
-    let state = state_on(rows, live.session, part);
-    if parts <= part.index {
-        Some(StepFault::NoPart { parts })
-    } else if !is_error(state) {
-        Some(StepFault::NotError { state })
-    } else if has_flag(rest.resets.as_slice(), live.session, part) {
-        Some(StepFault::AlreadyAsked)
-    } else {
-        None
-    }
-}
-
-/// The refusal of a step other than want of memory, with the rows apart.
-#[tactic(auto, using(crate::proofs::RowsApart::lead_rows))]
-pub fn refuses_on(rest: &Cluster, rows: &[Row], step: &Admin) -> Option<StepFault>
-    requires { IsNumbered rest.now }
-    ensures { result ≡ refusal_of (with_rows rest.now rows.now) step.now }
-{
-    match step {
-        Admin::Join { instance } => rest.already_live_fault(*instance),
-        Admin::End { instance } | Admin::Beat { instance } => rest.not_live_fault(*instance),
-        Admin::Tick { n } => rest.tick_fault(*n),
-        Admin::Drain { instance } => already_so(rest.is_drained(*instance)),
-        Admin::Undrain { instance } => already_so(!rest.is_drained(*instance)),
-        Admin::Add { name, .. } => add_fault(rest, rows, *name),
-        Admin::Drop { resource } => rest.drop_fault(*resource),
-        Admin::SetList { part, list } => rest.list_fault(*part, list.as_slice()),
-        Admin::SetMap { part, map } => rest.map_fault(*part, map.as_slice()),
-        Admin::Reset { instance, part } => reset_fault(rest, rows, *instance, *part),
-        Admin::Lead { controller } => rest.lead_fault(*controller),
-        Admin::Stop { controller } => already_so(rest.is_down(*controller)),
-        Admin::Start { controller } => already_so(!rest.is_down(*controller)),
-    }
-}
-
 impl Cluster {
+    /// Whether a live session has a row or a message of a resource.
+    fn is_held(&self, resource: ResourceId) -> bool
+        ensures { result ≡ is_held_of self.now resource }
+    {
+        self.is_held_in_rows(resource) || self.is_held_in_mail(resource)
+    }
+
+    fn add_fault(&self, name: u32) -> Option<StepFault>
+        requires { IsNumbered self.now }
+        ensures { result ≡ name_in_use self.now (newest self.now name) }
+    {
+        if let Some(resource) = self.newest(name)
+            && (!self.is_dropped(resource) || self.is_held(resource))
+        {
+            return Some(StepFault::NameInUse { resource });
+        }
+        if self.resources.len() >= MOST_RESOURCES {
+            Some(StepFault::TooMany)
+        } else {
+            None
+        }
+    }
+
+    fn reset_fault(&self, instance: InstanceId, part: PartId) -> Option<StepFault>
+        ensures { result ≡ reset_fault_of self.now part (live_of self.now.live instance) }
+    {
+        let Some(live) = self.live_at(instance) else {
+            return Some(StepFault::NotLive);
+        };
+        let parts = self.parts_of(part.resource);
+        let state = state_on(self.rows.as_slice(), live.session, part);
+        if parts <= part.index {
+            Some(StepFault::NoPart { parts })
+        } else if !is_error(state) {
+            Some(StepFault::NotError { state })
+        } else if has_flag(self.resets.as_slice(), live.session, part) {
+            Some(StepFault::AlreadyAsked)
+        } else {
+            None
+        }
+    }
+
     /// The refusal of a step other than want of memory.
     pub fn refuses(&self, step: &Admin) -> Option<StepFault>
         requires { IsNumbered self.now }
         ensures { result ≡ refusal_of self.now step.now }
     {
-        refuses_on(self, self.rows.as_slice(), step)
+        match step {
+            Admin::Join { instance } => self.already_live_fault(*instance),
+            Admin::End { instance } | Admin::Beat { instance } => self.not_live_fault(*instance),
+            Admin::Tick { n } => self.tick_fault(*n),
+            Admin::Drain { instance } => already_so(self.is_drained(*instance)),
+            Admin::Undrain { instance } => already_so(!self.is_drained(*instance)),
+            Admin::Add { name, .. } => self.add_fault(*name),
+            Admin::Drop { resource } => self.drop_fault(*resource),
+            Admin::SetList { part, list } => self.list_fault(*part, list.as_slice()),
+            Admin::SetMap { part, map } => self.map_fault(*part, map.as_slice()),
+            Admin::Reset { instance, part } => self.reset_fault(*instance, *part),
+            Admin::Lead { controller } => self.lead_fault(*controller),
+            Admin::Stop { controller } => already_so(self.is_down(*controller)),
+            Admin::Start { controller } => already_so(!self.is_down(*controller)),
+        }
     }
 }

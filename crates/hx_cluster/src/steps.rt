@@ -1,5 +1,4 @@
-//! The steps that an operator, a session or a controller asks for. The rows stand apart where a
-//! step changes them.
+//! The steps that an operator, a session or a controller asks for.
 ghost use Rattle.std.specs.Prelude.{◌≡◌, ℕ, ◌+◌, ◌^◌, ◌<◌, ◌≤◌, [], ◌∷◌, ◌++◌, ◌==◌, not, length};
 ghost use Rattle.std.specs.Prelude.{filter, slice_set, slice_get, vec_len, vec_capacity, OnOk};
 ghost use Rattle.std.specs.Prelude.{OnErr, IfOk};
@@ -8,7 +7,6 @@ ghost use Rattle.hx_lists.specs.Lists.{insert_by};
 ghost use Rattle.hx_cluster.specs.Ends.{is_session};
 ghost use Rattle.hx_cluster.specs.Steps.{after, without, with_flag, flag_before, with_down};
 ghost use Rattle.hx_cluster.specs.Steps.{without_all, ended_by};
-ghost use Rattle.hx_cluster.specs.Apart.{with_rows};
 ghost use Rattle.hx_cluster.specs.Room.{half, HasRoom};
 
 use crate::description::Resource;
@@ -196,10 +194,8 @@ fn end_live(live: &mut Seq<Live>, session: SessionId)
     live.retain(|l| l.session != session);
 }
 
-fn end_rows(rows: &mut Vec<Row>, session: SessionId)
-    ensures kept { rows.new.items ≡ filter (λ r. not (r.session.0 == session.0)) rows.old.items }
-    ensures capacity { vec_capacity rows.new ≡ vec_capacity rows.old }
-    ensures fewer { vec_len rows.new ≤ vec_len rows.old }
+fn end_rows(rows: &mut Seq<Row>, session: SessionId)
+    ensures { rows.new ≡ filter (λ r. not (r.session.0 == session.0)) rows.old }
 {
     rows.retain(|r| r.session != session);
 }
@@ -233,61 +229,47 @@ pub fn add_flag(
     flags.insert_by(flag, |f| is_flag_before(f, flag))
 }
 
-/// Takes a session out, with its rows, its messages and its flags. It takes no memory.
-pub fn remove_session_on(rest: &mut Cluster, rows: &mut Vec<Row>, session: SessionId)
-    requires { rest.old.change + 1 < 2 ^ 64 }
-    ensures after { with_rows rest.new rows.new.items
-        ≡ without (with_rows rest.old rows.old.items) session }
-    ensures rest { rest.new.rows ≡ rest.old.rows }
-    ensures capacity { vec_capacity rows.new ≡ vec_capacity rows.old }
-    ensures fewer { vec_len rows.new ≤ vec_len rows.old }
-{
-    end_live(&mut rest.live, session);
-    end_rows(rows, session);
-    end_mail(&mut rest.mail, session);
-    end_resets(&mut rest.resets, session);
-    rest.change += 1;
-}
-
-/// Ends the session of an instance. It takes no memory.
-pub(crate) fn end_on(rest: &mut Cluster, rows: &mut Vec<Row>, instance: InstanceId)
-    requires { HasRoom rest.old }
-    ensures after { with_rows rest.new rows.new.items
-        ≡ after (with_rows rest.old rows.old.items) (Admin.End instance) }
-    ensures rest { rest.new.rows ≡ rest.old.rows }
-    ensures capacity { vec_capacity rows.new ≡ vec_capacity rows.old }
-    ensures fewer { vec_len rows.new ≤ vec_len rows.old }
-{
-    if let Some(live) = rest.live_at(instance) {
-        remove_session_on(rest, rows, live.session);
+impl Cluster {
+    /// Takes a session out, with its rows, its messages and its flags. It takes no memory.
+    fn remove_session(&mut self, session: SessionId)
+        requires { self.old.change + 1 < 2 ^ 64 }
+        ensures { self.new ≡ without self.old session }
+    {
+        end_live(&mut self.live, session);
+        end_rows(&mut self.rows, session);
+        end_mail(&mut self.mail, session);
+        end_resets(&mut self.resets, session);
+        self.change += 1;
     }
-}
 
-/// Raises the clock, and ends the sessions that have had no beat for the timeout. It takes no
-/// memory.
-pub(crate) fn tick_on(rest: &mut Cluster, rows: &mut Vec<Row>, n: u64, ended: &[SessionId])
-    requires clock { rest.old.clock + n < 2 ^ 64 }
-    requires ended { ended.now ≡ ended_by rest.old n }
-    requires room { HasRoom rest.old }
-    ensures after { with_rows rest.new rows.new.items
-        ≡ after (with_rows rest.old rows.old.items) (Admin.Tick n) }
-    ensures rest { rest.new.rows ≡ rest.old.rows }
-    ensures capacity { vec_capacity rows.new ≡ vec_capacity rows.old }
-    ensures fewer { vec_len rows.new ≤ vec_len rows.old }
-{
-    rest.clock += n;
-    remove_sessions_on(rest, rows, ended);
-}
+    fn remove_sessions(&mut self, sessions: &[SessionId])
+        requires { self.old.change < half }
+        ensures { self.new ≡ without_all self.old sessions.now }
+    {
+        for session in sessions {
+            self.remove_session(*session);
+        }
+    }
 
-fn remove_sessions_on(rest: &mut Cluster, rows: &mut Vec<Row>, sessions: &[SessionId])
-    requires room { rest.old.change < half }
-    ensures after { with_rows rest.new rows.new.items
-        ≡ without_all (with_rows rest.old rows.old.items) sessions.now }
-    ensures rest { rest.new.rows ≡ rest.old.rows }
-    ensures capacity { vec_capacity rows.new ≡ vec_capacity rows.old }
-    ensures fewer { vec_len rows.new ≤ vec_len rows.old }
-{
-    for session in sessions {
-        remove_session_on(rest, rows, *session);
+    /// Ends the session of an instance. It takes no memory.
+    pub(crate) fn end(&mut self, instance: InstanceId)
+        requires { HasRoom self.old }
+        ensures { self.new ≡ after self.old (Admin.End instance) }
+    {
+        if let Some(live) = self.live_at(instance) {
+            self.remove_session(live.session);
+        }
+    }
+
+    /// Raises the clock, and ends the sessions that have had no beat for the timeout. It takes no
+    /// memory.
+    pub(crate) fn tick(&mut self, n: u64, ended: &[SessionId])
+        requires clock { self.old.clock + n < 2 ^ 64 }
+        requires ended { ended.now ≡ ended_by self.old n }
+        requires room { HasRoom self.old }
+        ensures { self.new ≡ after self.old (Admin.Tick n) }
+    {
+        self.clock += n;
+        self.remove_sessions(ended);
     }
 }

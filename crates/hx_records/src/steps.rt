@@ -9,7 +9,7 @@ ghost use Rattle.hx_records.specs.Making.{IsMakeable};
 ghost use Rattle.hx_records.specs.Reached.{IsReached};
 
 use crate::Records;
-use hx_cluster::{Admin, Did, add_flag, make_on};
+use hx_cluster::{Admin, Did, add_flag};
 use hx_ids::{InstanceId, PartId, ResourceId, SessionId};
 use hx_lists::Seq;
 use std::alloc::AllocError;
@@ -112,10 +112,7 @@ impl Records {
         ensures ok { OnOk result (self.new ≡ after self.old step.now) }
         ensures err { OnErr result (self.new ≡ self.old) }
     {
-        let mut rows = self.rest.rows.take_all();
-        let made = make_on(&mut self.rest, &mut rows, step, did);
-        self.rest.rows = Seq::from_vec(rows);
-        made
+        self.rest.make(step, did)
     }
 
     /// Makes a step that nothing refuses, with its answer. An end takes no memory.
