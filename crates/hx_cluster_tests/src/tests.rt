@@ -1,5 +1,3 @@
 mod calls;
 mod fixtures;
-mod proposals;
-mod runs;
 mod steps;

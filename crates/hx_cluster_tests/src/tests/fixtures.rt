@@ -1,9 +1,8 @@
 //! A small cluster, and what stands in it.
-use hx_cluster::{Cluster, Message, Resource, Row, Rule, Scope, Spec};
+use hx_cluster::{Cluster, Resource, Row, Rule, Scope, Spec};
 use hx_ideal::{Ideal, Mode};
 use hx_ids::{
-    ControllerId, Epoch, InstanceId, Live, ModelId, MsgId, Names, PartId, PassNo, ResourceId,
-    SessionId, StateId,
+    ControllerId, InstanceId, Live, ModelId, Names, PartId, PassNo, ResourceId, SessionId, StateId,
 };
 use hx_lists::Seq;
 use hx_model::{Bound, DROPPED, Model, ModelParts};
@@ -20,13 +19,9 @@ pub const C2: ControllerId = ControllerId(1);
 
 pub const S1: SessionId = SessionId(1);
 
-pub const S2: SessionId = SessionId(2);
-
-pub const S3: SessionId = SessionId(3);
-
 pub const ONLINE: StateId = StateId(2);
 
-pub const OFFLINE: StateId = StateId(3);
+const OFFLINE: StateId = StateId(3);
 
 pub const FIRST: ResourceId = ResourceId(0);
 
@@ -57,7 +52,7 @@ pub fn ideal(mode: Mode, parts: u32) -> Result<Ideal, Fail> {
 }
 
 /// One empty list.
-pub fn semi(alloc: Global) -> Result<Mode, AllocError> {
+fn semi(alloc: Global) -> Result<Mode, AllocError> {
     let mut lists = Seq::new(alloc);
     lists.push(Seq::new(alloc))?;
     Ok(Mode::Semi(lists))
@@ -150,21 +145,6 @@ pub fn row(session: SessionId, part: PartId, state: StateId) -> Row {
         session,
         part,
         state,
-    }
-}
-
-/// A session is asked to bring a replica from OFFLINE to ONLINE.
-pub fn message(id: u64, session: SessionId, part: PartId) -> Message {
-    Message {
-        id: MsgId(id),
-        session,
-        part,
-        from: OFFLINE,
-        to: ONLINE,
-        initial: OFFLINE,
-        epoch: Epoch(1),
-        taken: false,
-        written: false,
     }
 }
 
