@@ -18,10 +18,16 @@ use hx_model::{DROPPED, ERROR, Model};
 use std::alloc::{AllocError, Global};
 
 /// What parts that are gone over one after another share: a list of instances, and visits.
-#[derive(Drop)]
 pub struct Room {
     pub list: Vec<InstanceId>,
     pub visits: Visits,
+}
+
+// A derived drop is written out, field by field, wherever one is dropped; this is a call.
+impl Drop for Room {
+    fn drop(self) {
+        let Room { list: _, visits: _ } = self;
+    }
 }
 
 impl Room {

@@ -13,13 +13,25 @@ use std::alloc::{AllocError, Global};
 use std::marker;
 
 /// A resource in a view, with the states that its places take.
-#[derive(Drop)]
 pub struct Places<'a> {
     index: &'a Index<'a>,
     models: &'a [Model],
     resource: &'a Resource,
     initial: StateId,
     best: Vec<StateId>,
+}
+
+// A derived drop is written out, field by field, wherever one is dropped; this is a call.
+impl Drop for Places<'_> {
+    fn drop(self) {
+        let Places {
+            index: _,
+            models: _,
+            resource: _,
+            initial: _,
+            best: _,
+        } = self;
+    }
 }
 
 impl<'a> marker::Model for Places<'a> {

@@ -10,7 +10,6 @@ use std::marker::Model;
 
 /// A cluster with its history. Each call that is answered is one event of it; a refused call
 /// changes nothing.
-#[derive(Drop)]
 pub struct Board {
     pub(crate) spec: Spec,
     pub(crate) records: Records,
@@ -34,6 +33,23 @@ impl Model for Board {
     ghost view = { held };
 
     ghost invariant = { IsBoard };
+}
+
+// A derived drop is written out, field by field, wherever one is dropped; this is a call.
+impl Drop for Board {
+    fn drop(self) {
+        let Board {
+            spec: _,
+            records: _,
+            history: _,
+            lines: _,
+            taken: _,
+            weight: _,
+            charges: _,
+            limit: _,
+            owed: _,
+        } = self;
+    }
 }
 
 impl Board {

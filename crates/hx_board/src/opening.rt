@@ -48,9 +48,11 @@ impl Board {
         requires limit { limit ≤ most }
         ensures { IfOk result (λ board. board ≡ new_board spec.now lines.items limit) }
     {
+        let records = Records::at_opening(alloc, spec)?;
+        let spec = spec_of(alloc, spec)?;
         Ok(Board {
-            spec: spec_of(alloc, spec)?,
-            records: Records::at_opening(alloc, spec)?,
+            spec,
+            records,
             history: History {
                 entries: Entries::new(alloc),
             },

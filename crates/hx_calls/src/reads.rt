@@ -13,10 +13,11 @@ use std::alloc::AllocError;
 pub fn read_ideals_over(cluster: &Cluster, kept: Ideals) -> Result<Ideals, AllocError>
     ensures { IfOk result (λ ideals. ideals ≡ ideals_shown cluster.now) }
 {
+    let (resources, drained, resets) = kept.into_parts();
     Ok(Ideals {
-        resources: resources_over(cluster.resources.as_slice(), kept.resources)?,
-        drained: copied_over(cluster.instances.as_slice(), kept.drained)?,
-        resets: copied_over(cluster.resets.as_slice(), kept.resets)?,
+        resources: resources_over(cluster.resources.as_slice(), resources)?,
+        drained: copied_over(cluster.instances.as_slice(), drained)?,
+        resets: copied_over(cluster.resets.as_slice(), resets)?,
     })
 }
 

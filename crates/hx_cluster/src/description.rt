@@ -9,13 +9,25 @@ use hx_model::Model;
 use std::alloc::AllocError;
 
 /// A resource. Its number is its place among the resources, and stays its own when it is dropped.
-#[derive(Debug, Drop)]
+#[derive(Debug)]
 pub struct Resource {
     /// The place of its name among the resource names.
     pub name: u32,
     pub model: ModelId,
     pub ideal: Ideal,
     pub dropped: bool,
+}
+
+// A derived drop is written out, field by field, wherever one is dropped; this is a call.
+impl Drop for Resource {
+    fn drop(self) {
+        let Resource {
+            name: _,
+            model: _,
+            ideal: _,
+            dropped: _,
+        } = self;
+    }
 }
 
 impl Resource {
@@ -73,7 +85,6 @@ pub struct Failure {
 }
 
 /// A cluster's description. The three built-in models stand first.
-#[derive(Drop)]
 pub struct Spec {
     pub instances: Names,
     pub states: Names,
@@ -86,4 +97,22 @@ pub struct Spec {
     pub rules: Seq<Rule>,
     pub resources: Seq<Resource>,
     pub failures: Seq<Failure>,
+}
+
+// A derived drop is written out, field by field, wherever one is dropped; this is a call.
+impl Drop for Spec {
+    fn drop(self) {
+        let Spec {
+            instances: _,
+            states: _,
+            resource_names: _,
+            model_names: _,
+            models: _,
+            controllers: _,
+            timeout: _,
+            rules: _,
+            resources: _,
+            failures: _,
+        } = self;
+    }
 }

@@ -1,4 +1,6 @@
 //! What a controller saw, and what it makes of it.
+ghost use Rattle.std.specs.Prelude.{◌≡◌};
+
 use crate::description::Resource;
 use crate::happenings::Proposal;
 use crate::state::{Message, Row};
@@ -6,7 +8,7 @@ use hx_ids::{InstanceId, MsgId, PartId, SessionId, StateId};
 use hx_lists::Seq;
 
 /// What is wanted: the resources, the drained instances and the reset flags.
-#[derive(Debug, Drop)]
+#[derive(Debug)]
 pub struct Ideals {
     pub resources: Seq<Resource>,
     /// For each instance, whether it is drained.
@@ -14,13 +16,50 @@ pub struct Ideals {
     pub resets: Seq<(SessionId, PartId)>,
 }
 
+// A derived drop is written out, field by field, wherever one is dropped; this is a call.
+impl Drop for Ideals {
+    fn drop(self) {
+        let Ideals {
+            resources: _,
+            drained: _,
+            resets: _,
+        } = self;
+    }
+}
+
+impl Ideals {
+    /// The resources, the drained instances and the reset flags.
+    pub fn into_parts(self) -> (Seq<Resource>, Seq<bool>, Seq<(SessionId, PartId)>)
+        ensures { result ≡ (self.resources, self.drained, self.resets) }
+    {
+        let Ideals {
+            resources,
+            drained,
+            resets,
+        } = self;
+        (resources, drained, resets)
+    }
+}
+
 /// What the reads of one pass showed. They may stem from different moments.
-#[derive(Debug, Drop)]
+#[derive(Debug)]
 pub struct View {
     pub live: Seq<(SessionId, InstanceId)>,
     pub mail: Seq<Message>,
     pub rows: Seq<Row>,
     pub ideals: Ideals,
+}
+
+// A derived drop is written out, field by field, wherever one is dropped; this is a call.
+impl Drop for View {
+    fn drop(self) {
+        let View {
+            live: _,
+            mail: _,
+            rows: _,
+            ideals: _,
+        } = self;
+    }
 }
 
 /// A replica, or a wanted place without one, and the state where it is to go.

@@ -33,7 +33,6 @@ pub struct Message {
 
 /// A cluster. Rows and reset flags stand by session, then part; messages by number; live sessions
 /// by last beat.
-#[derive(Drop)]
 pub struct Cluster {
     /// For each instance, whether it is drained.
     pub instances: Seq<bool>,
@@ -66,4 +65,32 @@ pub struct Cluster {
     pub states: u32,
     /// How many resource names there are.
     pub resource_names: u32,
+}
+
+// A derived drop is written out, field by field, wherever one is dropped; this is a call.
+impl Drop for Cluster {
+    fn drop(self) {
+        let Cluster {
+            instances: _,
+            resources: _,
+            live: _,
+            rows: _,
+            mail: _,
+            resets: _,
+            leader: _,
+            epoch: _,
+            controllers: _,
+            clock: _,
+            line: _,
+            change: _,
+            posted: _,
+            next_session: _,
+            next_msg: _,
+            timeout: _,
+            models: _,
+            rules: _,
+            states: _,
+            resource_names: _,
+        } = self;
+    }
 }

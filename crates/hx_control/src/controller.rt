@@ -84,7 +84,6 @@ fn is_first(next: Next) -> bool
 /// what is kept of it is a draft, of which the report is made only where it is told. That what it
 /// was shown is well formed is found with the plan, and kept to the end of the turn; what a plan
 /// found of the view is kept for the post, and for the next turn.
-#[derive(Drop)]
 pub struct Controller {
     pub(crate) id: ControllerId,
     pub(crate) next: Next,
@@ -95,6 +94,22 @@ pub struct Controller {
     pub(crate) formed: Formed,
     pub(crate) draft: Option<Draft>,
     pub(crate) planner: Planner,
+}
+
+// A derived drop is written out, field by field, wherever one is dropped; this is a call.
+impl Drop for Controller {
+    fn drop(self) {
+        let Controller {
+            id: _,
+            next: _,
+            begun: _,
+            view: _,
+            spare: _,
+            formed: _,
+            draft: _,
+            planner: _,
+        } = self;
+    }
 }
 
 impl Model for Controller {

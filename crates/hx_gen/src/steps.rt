@@ -21,12 +21,23 @@ use std::alloc::{AllocError, Global};
 use std::marker;
 
 /// The models and the view of a pass, with the hops and the messages by part.
-#[derive(Drop)]
 pub struct Stage<'a> {
     models: &'a [Model],
     hops: &'a [Hops],
     view: &'a View,
     mail: ByPart<Message>,
+}
+
+// A derived drop is written out, field by field, wherever one is dropped; this is a call.
+impl Drop for Stage<'_> {
+    fn drop(self) {
+        let Stage {
+            models: _,
+            hops: _,
+            view: _,
+            mail: _,
+        } = self;
+    }
 }
 
 impl<'a> marker::Model for Stage<'a> {

@@ -21,7 +21,6 @@ pub struct History {
 
 /// Events in order, each as its kind and the words that tell it, or as it is. Contracts see the
 /// events, and how many more need no memory.
-#[derive(Drop)]
 pub struct Entries {
     alloc: Global,
     kinds: Log<Kind>,
@@ -29,6 +28,19 @@ pub struct Entries {
     whole: Log<Event>,
     /// How many events more there is room for in each column.
     spare: usize,
+}
+
+// A derived drop is written out, field by field, wherever one is dropped; this is a call.
+impl Drop for Entries {
+    fn drop(self) {
+        let Entries {
+            alloc: _,
+            kinds: _,
+            words: _,
+            whole: _,
+            spare: _,
+        } = self;
+    }
 }
 
 impl Model for Entries {

@@ -52,11 +52,22 @@ pub enum IdealFault {
 }
 
 /// A checked ideal state. Contracts see its replicas, its partitions and its mode.
-#[derive(Debug, Drop)]
+#[derive(Debug)]
 pub struct Ideal {
     replicas: u32,
     parts: u32,
     mode: Mode,
+}
+
+// A derived drop is written out, field by field, wherever one is dropped; this is a call.
+impl Drop for Ideal {
+    fn drop(self) {
+        let Ideal {
+            replicas: _,
+            parts: _,
+            mode: _,
+        } = self;
+    }
 }
 
 impl Model for Ideal {

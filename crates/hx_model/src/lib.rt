@@ -69,19 +69,41 @@ pub enum ModelFault {
 }
 
 /// What a model is made of: its states in priority order, and its transitions in rank order.
-#[derive(Debug, PartialEq, Drop)]
+#[derive(Debug, PartialEq)]
 pub struct ModelParts {
     pub states: Seq<(StateId, Bound)>,
     pub initial: StateId,
     pub transitions: Seq<(StateId, StateId)>,
 }
 
+// A derived drop is written out, field by field, wherever one is dropped; this is a call.
+impl Drop for ModelParts {
+    fn drop(self) {
+        let ModelParts {
+            states: _,
+            initial: _,
+            transitions: _,
+        } = self;
+    }
+}
+
 /// A checked model. Contracts see it as what it is made of.
-#[derive(Debug, Drop)]
+#[derive(Debug)]
 pub struct Model {
     parts: ModelParts,
     order: [StateId; MOST_STATES],
     count: usize,
+}
+
+// A derived drop is written out, field by field, wherever one is dropped; this is a call.
+impl Drop for Model {
+    fn drop(self) {
+        let Model {
+            parts: _,
+            order: _,
+            count: _,
+        } = self;
+    }
 }
 
 impl std::marker::Model for Model {

@@ -14,11 +14,21 @@ use std::marker;
 
 /// What a plan sends, with a copy of the description's models and rules, by which its report can
 /// be made. What it holds back, and what finds no room, isn't kept: a report finds it again.
-#[derive(Drop)]
 pub struct Draft {
     pub(crate) models: Seq<Model>,
     pub(crate) rules: Seq<Rule>,
     pub(crate) sent: Seq<Candidate>,
+}
+
+// A derived drop is written out, field by field, wherever one is dropped; this is a call.
+impl Drop for Draft {
+    fn drop(self) {
+        let Draft {
+            models: _,
+            rules: _,
+            sent: _,
+        } = self;
+    }
 }
 
 impl marker::Model for Draft {

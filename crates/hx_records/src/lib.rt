@@ -27,7 +27,6 @@ use std::alloc::{AllocError, Global};
 use std::marker::Model;
 
 /// A cluster. What may come to a message or a session needs no memory once it was sent or joined.
-#[derive(Drop)]
 pub struct Records {
     /// Its lists of live sessions, rows and messages are empty.
     rest: Cluster,
@@ -49,6 +48,20 @@ impl Model for Records {
     ghost view = { seen };
 
     ghost invariant = { AreRecords };
+}
+
+// A derived drop is written out, field by field, wherever one is dropped; this is a call.
+impl Drop for Records {
+    fn drop(self) {
+        let Records {
+            rest: _,
+            sessions: _,
+            live: _,
+            seats: _,
+            slots: _,
+            counts: _,
+        } = self;
+    }
 }
 
 fn empty_seats(alloc: Global, instances: usize) -> Result<Seq<Option<SessionId>>, AllocError>
@@ -80,11 +93,12 @@ impl Records {
     pub fn at_opening(alloc: Global, spec: &Spec) -> Result<Records, AllocError>
         ensures { IfOk result (λ records. records ≡ opening spec.now) }
     {
+        let seats = empty_seats(alloc, spec.instances.len() as usize)?;
         Ok(Records {
             rest: Cluster::at_opening(alloc, spec)?,
             sessions: Sessions::new(alloc),
             live: 0,
-            seats: empty_seats(alloc, spec.instances.len() as usize)?,
+            seats,
             slots: Slots::new(alloc),
             counts: Counts::new(alloc),
         })

@@ -98,10 +98,17 @@ pub enum LogEntry {
 
 /// A line of a log, with the indented lines that belong to it: what it tells, and None where it is
 /// no line of a log.
-#[derive(Debug, PartialEq, Drop)]
+#[derive(Debug, PartialEq)]
 pub struct LogLine {
     pub line: u32,
     pub entry: Option<LogEntry>,
+}
+
+// A derived drop is written out, field by field, wherever one is dropped; this is a call.
+impl Drop for LogLine {
+    fn drop(self) {
+        let LogLine { line: _, entry: _ } = self;
+    }
 }
 
 /// The first word of a line of a log.

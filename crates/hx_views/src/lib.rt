@@ -18,12 +18,23 @@ use hx_parts::ByPart;
 use std::alloc::{AllocError, Global};
 
 /// A view, with its rows, messages and reset flags in order of part. Contracts see the view.
-#[derive(Drop)]
 pub struct ViewIndex<'a> {
     view: &'a View,
     rows: ByPart<Row>,
     mail: ByPart<Message>,
     resets: ByPart<(SessionId, PartId)>,
+}
+
+// A derived drop is written out, field by field, wherever one is dropped; this is a call.
+impl Drop for ViewIndex<'_> {
+    fn drop(self) {
+        let ViewIndex {
+            view: _,
+            rows: _,
+            mail: _,
+            resets: _,
+        } = self;
+    }
 }
 
 impl<'a> std::marker::Model for ViewIndex<'a> {

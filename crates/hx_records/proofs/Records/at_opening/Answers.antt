@@ -5,5 +5,5 @@ use Rattle.hx_records.proofs.Records.at_opening.Goals as goal
 pub invariant_of-result : goal.invariant_of-result
 invariant_of-result c =
     opened_records c.args.spec.now _ c.in_ok-at_opening.ensures c.new.ensures.live c.new.ensures.next refl
-    (c.in_ok-empty_seats.ensures ∙ ap (λ (n : ℕ). replicate n nobody) c.len.ensures.len)
+    (c.in_ok-seats.ensures ∙ ap (λ (n : ℕ). replicate n nobody) c.len.ensures.len)
     c.new-2.ensures.rows c.new-2.ensures.mail c.new-3.ensures.ends c.new-3.ensures.loads

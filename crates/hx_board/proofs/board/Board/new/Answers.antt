@@ -13,9 +13,9 @@ use Rattle.hx_board.proofs.board.Board.new.Goals as goal
 
 pub invariant_of-result : goal.invariant_of-result
 invariant_of-result c =
-    let spec = c.in_ok-spec_of.field-0 in
-    let same : spec ≡ c.args.spec.now = c.in_ok-spec_of.ensures in
-    let opens : c.in_ok-at_opening.field-0 ≡ opening c.args.spec.now = c.in_ok-at_opening.ensures in
+    let spec = c.in_ok-spec.spec in
+    let same : spec ≡ c.args.spec.now = c.in_ok-spec.ensures in
+    let opens : c.in_ok-records.records ≡ opening c.args.spec.now = c.in_ok-records.ensures in
     let past : c.new.result.items ≡ [] = c.new.ensures.items in
     let none : lines_in c.new.result.items ≡ [] = ap lines_in past in
     record {
