@@ -14,34 +14,28 @@ use Rattle.hx_answers.specs.Answers.{Answer, usage, version, words_refused}
 use Rattle.hx_app.specs.declared.program.Behind.{Behind}
 use Rattle.hx_app.specs.declared.program.Behind.TheVariants as behinds
 use Rattle.hx_app.specs.Writes.{SinkAt, Writes}
-use Rattle.hx_app.specs.Runs.{SourceAt, RunsIn, RunsInput, Tells, RunsWords, HoldsOfTold, IsSoundInput, answer_in}
+use Rattle.hx_app.specs.Runs.{SourceAt, RunsIn, RunsInput, EndsTold, Tells, RunsWords, HoldsOfTold, IsSoundInput, answer_in}
 use Rattle.hx_replies.proofs.Given.{run_sound}
 use Rattle.hx_verdicts.proofs.Sound.{sound_log}
-
-same_answer : (status : ℕ) (text : List ℕ) (a : Answer) → status ≡ a.status → text ≡ a.text → record { status = status; text = text } ≡ a
-same_answer status text a status_is text_is = rw (status_is, text_is) refl
 
 sound_input : (behind : Behind) (bytes : List ℕ) → IsSoundInput behind bytes
 sound_input behinds.Script bytes = run_sound bytes
 sound_input behinds.Log bytes = sound_log bytes
 
--- the answer to an input that was read is written
-pub runs_answer : (behind : Behind) (source source' : SourceAt) (sink sink' : SinkAt) (bytes text : List ℕ) (status result : ℕ)
+-- the answer to an input that was read is written, or memory was wanted for it
+pub runs_answer : (behind : Behind) (source source' : SourceAt) (sink sink' : SinkAt) (bytes : List ℕ) (status : ℕ)
     → Consumes source.left source'.left bytes → IsAtEnd source'.left → length bytes ≤ most_bytes → source.faults ≤ source'.faults
-    → status ≡ (answer_in behind bytes).status → text ≡ (answer_in behind bytes).text
-    → Writes (record { status = status; text = text }) sink sink' result
-    → RunsInput behind source source' sink sink' result
-runs_answer behind source source' sink sink' bytes text status result given end short later status_is text_is w =
-    let answer : Answer = record { status = status; text = text } in
-    record {
-      ended = inl (
-        answer,
-        inl (bytes, record { given = given; end = end; short = short; sound = sound_input behind bytes }, same_answer status text (answer_in behind bytes) status_is text_is),
-        w,
-      );
-      source_later = later;
-      sink_later = w.later;
-    }
+    → EndsTold (answer_in behind bytes) sink sink' status → RunsInput behind source source' sink sink' status
+runs_answer behind source source' sink sink' bytes status given end short later (inl w) = record {
+  ended = inl (answer_in behind bytes, inl (bytes, record { given = given; end = end; short = short; sound = sound_input behind bytes }, refl), w);
+  source_later = later;
+  sink_later = w.later;
+}
+runs_answer behind source source' sink sink' bytes status given end short later (inr unwritten) = record {
+  ended = inr (record { wanted = unwritten.0; got = ap (λ (s : SinkAt). s.got) unwritten.1 });
+  source_later = later;
+  sink_later = omega (arith, ap (λ (s : SinkAt). s.faults) unwritten.1);
+}
 
 -- what was found is what was asked for
 pub as_asked : {answer : Result Words WordsFault} (words : List (List ℕ)) (found : Result Words WordsFault) (source source' : SourceAt) (sink sink' : SinkAt) (status : ℕ) (of : HoldsOfAsked words (IsAnswer answer))

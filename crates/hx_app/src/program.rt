@@ -79,13 +79,23 @@ fn run_input<S: Source, K: Sink>(alloc: Global, behind: Behind, src: &mut S, out
         (record { got = K.got out.new; faults = K.faults out.new })
         result.0 }
 {
-    let bytes = match read_all(alloc, src, MOST_BYTES) {
-        Ok(bytes) => bytes,
-        Err(ReadFault::Failed) => return write(Status::READ_FAULT, b"read fault\n", out),
-        Err(ReadFault::TooLong) => return write(Status::TOO_LONG, b"input too long\n", out),
-        Err(ReadFault::OutOfMemory) => return Status::NO_MEMORY,
-    };
-    match reply_to(alloc, behind, &bytes) {
+    match read_all(alloc, src, MOST_BYTES) {
+        Ok(bytes) => answer_input(alloc, behind, &bytes, out),
+        Err(ReadFault::Failed) => write(Status::READ_FAULT, b"read fault\n", out),
+        Err(ReadFault::TooLong) => write(Status::TOO_LONG, b"input too long\n", out),
+        Err(ReadFault::OutOfMemory) => Status::NO_MEMORY,
+    }
+}
+
+/// Answers an input that was read.
+fn answer_input<K: Sink>(alloc: Global, behind: Behind, bytes: &[u8], out: &mut K) -> Status
+    requires { length bytes.now ≤ most_bytes }
+    ensures { EndsTold (answer_in behind bytes.now)
+        (record { got = K.got out.old; faults = K.faults out.old })
+        (record { got = K.got out.new; faults = K.faults out.new })
+        result.0 }
+{
+    match reply_to(alloc, behind, bytes) {
         Ok(reply) => write(reply.status, reply.text.as_bytes(), out),
         Err(AllocError) => Status::NO_MEMORY,
     }

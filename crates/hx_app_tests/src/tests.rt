@@ -25,6 +25,12 @@ const TASK: Task = Task {
     size: 64,
 };
 
+/// A run that ended, and what its sink took.
+fn ran(alloc: Global, status: Status, sink: MemSink) -> Result<Ran, AllocError> {
+    let got = Vec::from_slice(alloc, sink.got())?;
+    Ok(Ran { status, got })
+}
+
 /// Runs an input through a source whose given calls fail, and a sink that takes so many bytes.
 fn run_on(alloc: Global, input: &str, fails: &[u64], most: u64) -> Result<Ran, AllocError> {
     run_bytes(
@@ -36,11 +42,12 @@ fn run_on(alloc: Global, input: &str, fails: &[u64], most: u64) -> Result<Ran, A
 }
 
 fn run_bytes(alloc: Global, bytes: Vec<u8>, fails: &[u64], most: u64) -> Result<Ran, AllocError> {
-    let mut source = MemSource::new(bytes, Vec::from_slice(alloc, fails)?);
+    let fails = Vec::from_slice(alloc, fails)?;
+    let mut source = MemSource::new(bytes, fails);
     let mut sink = MemSink::new(alloc, Vec::new(alloc), most);
     let status = run_script(alloc, TASK, &mut source, &mut sink);
-    let got = Vec::from_slice(alloc, sink.got())?;
-    Ok(Ran { status, got })
+    drop(source);
+    ran(alloc, status, sink)
 }
 
 const PLENTY: u64 = 1 << 20;
@@ -241,14 +248,14 @@ fn run_told<R: Threads + Wait + Sync>(
     alloc: Global,
     words: &[&[u8]],
 ) -> Result<Ran, AllocError> {
+    let bytes = Vec::from_slice(alloc, EMPTY.as_bytes())?;
     let told = env::args(&(Told { words }, alloc));
     let words: io::Result<Vec<String>> = told.and_then(|words| Ok(words.collect(alloc)?));
-    let bytes = Vec::from_slice(alloc, EMPTY.as_bytes())?;
     let mut source = MemSource::new(bytes, Vec::new(alloc));
     let mut sink = MemSink::new(alloc, Vec::new(alloc), PLENTY);
     let status = start(rt, alloc, words, &mut source, &mut sink);
-    let got = Vec::from_slice(alloc, sink.got())?;
-    Ok(Ran { status, got })
+    drop(source);
+    ran(alloc, status, sink)
 }
 
 #[test]

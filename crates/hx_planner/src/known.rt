@@ -34,13 +34,25 @@ pub(crate) struct Described<'a> {
 /// A view that is well formed with the models and the number of instances of a description, and
 /// what a pass finds of it: the accepted candidates, and the rows to post. Contracts see the first
 /// three.
-#[derive(Drop)]
 pub(crate) struct Known {
     models: Seq<Model>,
     instances: usize,
     view: View,
     accepted: Seq<Candidate>,
     posted: Vec<Seen>,
+}
+
+// A derived drop is written out, field by field, wherever one is dropped; this is a call.
+impl Drop for Known {
+    fn drop(self) {
+        let Known {
+            models: _,
+            instances: _,
+            view: _,
+            accepted: _,
+            posted: _,
+        } = self;
+    }
 }
 
 impl marker::Model for Known {

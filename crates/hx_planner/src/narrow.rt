@@ -34,44 +34,26 @@ fn marked<T: OfPart>(alloc: Global, items: &[T], marks: &Marks) -> Result<Seq<T>
 /// are those of an earlier view.
 pub(crate) fn narrowed(
     alloc: Global,
-    last: View,
+    mut last: View,
     view: &View,
     marks: &Marks,
 ) -> Result<View, AllocError>
     requires { IsAlike last view.now }
     ensures { IfOk result (λ narrow. narrow ≡ narrowed_of (is_marked marks.now) view.now) }
 {
-    let View {
-        live,
-        ideals,
-        mail: _,
-        rows: _,
-    } = last;
-    Ok(View {
-        live,
-        mail: marked(alloc, view.mail.as_slice(), marks)?,
-        rows: marked(alloc, view.rows.as_slice(), marks)?,
-        ideals,
-    })
+    last.mail = marked(alloc, view.mail.as_slice(), marks)?;
+    last.rows = marked(alloc, view.rows.as_slice(), marks)?;
+    Ok(last)
 }
 
 /// A view, of which a narrowed one has the sessions and what is wanted.
-pub(crate) fn widened(alloc: Global, narrow: View, view: &View) -> Result<View, AllocError>
+pub(crate) fn widened(alloc: Global, mut narrow: View, view: &View) -> Result<View, AllocError>
     requires { IsAlike narrow view.now }
     ensures { IfOk result (λ wide. wide ≡ view.now) }
 {
-    let View {
-        live,
-        ideals,
-        mail: _,
-        rows: _,
-    } = narrow;
-    Ok(View {
-        live,
-        mail: Seq::from_slice(alloc, view.mail.as_slice())?,
-        rows: Seq::from_slice(alloc, view.rows.as_slice())?,
-        ideals,
-    })
+    narrow.mail = Seq::from_slice(alloc, view.mail.as_slice())?;
+    narrow.rows = Seq::from_slice(alloc, view.rows.as_slice())?;
+    Ok(narrow)
 }
 
 /// The accepted candidates among the targets of the marked parts.

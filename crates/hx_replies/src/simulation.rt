@@ -193,8 +193,8 @@ pub(crate) fn simulate(alloc: Global, scenario: Scenario) -> Result<Simulated, A
     ensures { IfOk result (IsSimulated scenario) }
 {
     let Scenario { spec, lines } = scenario;
-    let mut page = Page::new(alloc);
     let mut world = opening(alloc, spec, lines.as_slice())?;
+    let mut page = Page::new(alloc);
     let ended = do_script(&mut world, lines.as_slice(), &mut page);
     let board = world.close();
     match ended {

@@ -129,12 +129,19 @@ impl<F: Factory> Scene<F> {
     {
         match voice {
             Voice::Quiet => Ok(()),
-            Voice::Loud(_) => {
-                self.charge(1)?;
-                print_accept(instance, id, &self.spec, out)?;
-                Ok(())
-            }
+            Voice::Loud(_) => self.say_accepted(instance, id, out),
         }
+    }
+
+    /// Says aloud that a participant accepted a message.
+    fn say_accepted(&mut self, instance: InstanceId, id: MsgId, out: &mut Page) -> Deed
+        ensures does { DoesDeed (λ x. say 1 (accept_text x.world.spec instance id) x)
+            self.old out.old self.new out.new result }
+        ensures bag { self.new.bag ≡ self.old.bag }
+    {
+        self.charge(1)?;
+        print_accept(instance, id, &self.spec, out)?;
+        Ok(())
     }
 
     /// Says that proposals were sent.

@@ -1,4 +1,4 @@
-use Rattle.std.proofs.Common.{refl, ◌∙◌, inl, inr}
+use Rattle.std.proofs.Common.{refl, inl, inr}
 use Rattle.hx_answers.specs.Answers.{read_fault, too_long}
 use Rattle.hx_app.specs.Runs.{SourceAt}
 use Rattle.hx_app.specs.Writes.{SinkAt}
@@ -19,18 +19,15 @@ returns-in-Err-TooLong g c = record {
   sink_later = c.write-in-Err-TooLong.ensures.later;
 }
 
-pub returns-in-Ok-reply_to : goal.returns-in-Ok-reply_to
-returns-in-Ok-reply_to g c =
+pub returns-in-Ok : goal.returns-in-Ok
+returns-in-Ok g c =
     let source : SourceAt = record { left = g.S.Source.left c.args.src.now; faults = g.S.Source.faults c.args.src.now } in
     let source' : SourceAt = record { left = g.S.Source.left c.read_all.new.source; faults = g.S.Source.faults c.read_all.new.source } in
     let sink : SinkAt = record { got = g.K.Sink.got c.args.out.now; faults = g.K.Sink.faults c.args.out.now } in
-    let sink' : SinkAt = record { got = g.K.Sink.got c.write-in-Ok-reply_to.new.out; faults = g.K.Sink.faults c.write-in-Ok-reply_to.new.out } in
-    let reply = c.in-Ok-reply_to.reply in
-    runs_answer c.args.behind source source' sink sink' c.deref.result.now c.as_bytes.result.now reply.status.0 c.write-in-Ok-reply_to.result.0
+    let sink' : SinkAt = record { got = g.K.Sink.got c.answer_input.new.out; faults = g.K.Sink.faults c.answer_input.new.out } in
+    runs_answer c.args.behind source source' sink sink' c.deref.result.now c.answer_input.result.0
     (rw c.deref.ensures.value c.in-Ok.ensures.all)
     c.in-Ok.ensures.end
     (rw c.deref.ensures.value c.in-Ok.ensures.within)
     c.read_all.ensures.later
-    c.in-Ok-reply_to.ensures.status
-    (c.as_bytes.ensures ∙ c.in-Ok-reply_to.ensures.text)
-    c.write-in-Ok-reply_to.ensures
+    c.answer_input.ensures
