@@ -73,9 +73,9 @@ impl Board {
         let weight = self.sendable(c, epoch, pass, proposals)?;
         let count = proposals.len();
         let coming = weight as usize - 1 - count;
-        make_room(&mut self.history, self.owed, 1 + coming)?;
         let copy = Seq::from_slice(*self.lines.allocator(), proposals)?;
         let space = Vec::with_capacity(*self.lines.allocator(), count)?;
+        make_room(&mut self.history, self.owed, 1 + coming)?;
         let answer = self.records.dispatch(c, proposals)?;
         let told = answer.copied_into(space);
         record(

@@ -143,8 +143,8 @@ impl Board {
             });
             return Ok(Did::Done);
         }
-        make_room(&mut self.history, self.owed, 2)?;
         let answered = Answered::new(&self.records, step)?;
+        make_room(&mut self.history, self.owed, 2)?;
         self.records.make(step, &answered.did)?;
         let did = answered.record(&mut self.history);
         self.weight += weight;
