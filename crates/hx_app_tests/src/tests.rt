@@ -1,5 +1,6 @@
 mod hostile;
 mod streams;
+mod verdicts;
 
 use hx_app::{RunMode, Status, Task, run_script, start};
 use hx_io::{MemSink, MemSource};

@@ -1,3 +1,4 @@
 mod calls;
+mod external_views;
 mod fixtures;
 mod steps;

@@ -143,6 +143,3 @@ pub trait Factory: Drop + Send {
         ensures listed { listed self.new ≡ listed self.old }
         ensures later { faults self.old ≤ faults self.new };
 }
-
-#[cfg(test)]
-mod tests;

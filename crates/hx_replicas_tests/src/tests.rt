@@ -1,6 +1,8 @@
 ghost use Rattle.std.specs.Prelude.{◌≡◌, true};
 ghost use Rattle.hx_replicas.specs.Participants.{all_idle};
 
+mod handlers;
+
 use hx_cluster::{Failure, Message, Outcome};
 use hx_handler::{Factory, MakeFault, Retired, ScriptedFactory, ScriptedHandler};
 use hx_ids::{Epoch, InstanceId, MsgId, PartId, ResourceId, SessionId, StateId};

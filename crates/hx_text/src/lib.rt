@@ -12,6 +12,3 @@ pub use line_ends::{Input, cut, split_line, split_words};
 pub use line_table::{Lines, TextFault, split_lines};
 pub use pages::{Page, Piece};
 pub use spellings::{is_name, read_u64};
-
-#[cfg(test)]
-mod tests;

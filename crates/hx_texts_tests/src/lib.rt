@@ -1,4 +1,5 @@
-//! Tests of the printed texts and of scripts, by their public calls alone.
+//! Tests of pages, lines and words, of the printed texts, of scripts and of logs, by their public
+//! calls alone.
 #![tactic(auto)]
 
 #[cfg(test)]

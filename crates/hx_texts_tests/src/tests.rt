@@ -7,9 +7,12 @@ use std::alloc::Global;
 use std::test::Fail;
 
 mod histories;
+mod lines;
 mod logs;
+mod pages;
 mod printing;
 mod scripts;
+mod words;
 
 /// Two resources: `logs` has number 0, and `db` number 1.
 const DESCRIPTION: &str =

@@ -5,6 +5,3 @@ pub mod laws;
 mod verdicts;
 
 pub use verdicts::judged;
-
-#[cfg(test)]
-mod tests;

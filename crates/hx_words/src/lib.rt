@@ -63,6 +63,3 @@ impl From<AllocError> for WordsFault {
         WordsFault::OutOfMemory
     }
 }
-
-#[cfg(test)]
-mod tests;

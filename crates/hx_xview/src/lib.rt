@@ -10,6 +10,3 @@ mod views;
 pub use laws::{routes_are_holders, routes_follow_what_is_shown};
 pub use routes::Routing;
 pub use views::ExternalView;
-
-#[cfg(test)]
-mod tests;

@@ -1,4 +1,4 @@
-use super::*;
+use hx_words::{RunMode, Task, Words, WordsFault, read_words, usage, version};
 use std::alloc::{AllocError, Global};
 use std::test::Fail;
 
@@ -21,7 +21,7 @@ const DEFAULTS: Task = Task {
 };
 
 #[test]
-fn options_have_ranges_and_defaults(rt: HostRuntime) -> Result<(), Fail> {
+fn lanes_have_a_range_and_a_default(rt: HostRuntime) -> Result<(), Fail> {
     let alloc = rt.alloc();
     for (words, lanes) in [
         ([].as_slice(), 4),
@@ -35,35 +35,44 @@ fn options_have_ranges_and_defaults(rt: HostRuntime) -> Result<(), Fail> {
         let want = Words::Run(Task { lanes, ..DEFAULTS });
         assert_eq!(rt; asked(alloc, words)?, Ok(want), "of {words:?}");
     }
-    let most = [
-        "--rounds",
-        "0",
-        "--seed",
-        "18446744073709551615",
-        "--size",
-        "256",
-    ];
-    let want = Words::Run(Task {
+    Ok(())
+}
+
+/// Words that give each number but the lanes.
+const NUMBERS: [&str; 6] = [
+    "--rounds",
+    "0",
+    "--seed",
+    "18446744073709551615",
+    "--size",
+    "256",
+];
+
+#[test]
+fn other_options_have_ranges_and_defaults(rt: HostRuntime) -> Result<(), Fail> {
+    let alloc = rt.alloc();
+    let numbers = Task {
         rounds: 0,
         seed: u64::MAX,
         size: 256,
         ..DEFAULTS
-    });
-    assert_eq!(rt; asked(alloc, most.as_slice())?, Ok(want));
-    let want = Words::Run(Task {
+    };
+    let generated = Task {
         mode: RunMode::Gen,
         size: 8,
         ..DEFAULTS
-    });
-    assert_eq!(rt;
-        asked(alloc, ["--mode", "gen", "--size", "8"].as_slice())?,
-        Ok(want)
-    );
-    let want = Words::Run(Task {
+    };
+    let checked = Task {
         mode: RunMode::Check,
         ..DEFAULTS
-    });
-    assert_eq!(rt; asked(alloc, ["--mode", "check"].as_slice())?, Ok(want));
+    };
+    for (words, want) in [
+        (NUMBERS.as_slice(), numbers),
+        (["--mode", "gen", "--size", "8"].as_slice(), generated),
+        (["--mode", "check"].as_slice(), checked),
+    ] {
+        assert_eq!(rt; asked(alloc, words)?, Ok(Words::Run(want)), "of {words:?}");
+    }
     Ok(())
 }
 

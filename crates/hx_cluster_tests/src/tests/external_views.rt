@@ -1,8 +1,9 @@
+//! Rows that a controller posts: who holds a part, and where a state of it is found.
 ghost use Rattle.std.specs.Prelude.{◌≡◌};
 
-use super::*;
 use hx_cluster::Seen;
 use hx_ids::{InstanceId, PartId, ResourceId, StateId};
+use hx_xview::{ExternalView, Routing};
 use std::test::Fail;
 
 const MASTER: StateId = StateId(2);

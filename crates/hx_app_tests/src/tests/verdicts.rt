@@ -1,5 +1,6 @@
-use crate::judged;
+//! Logs that are judged.
 use hx_answers::Status;
+use hx_verdicts::judged;
 use std::alloc::{AllocError, Global};
 use std::test::Fail;
 

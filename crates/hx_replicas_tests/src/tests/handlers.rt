@@ -1,8 +1,9 @@
+//! Makings and runs that fail as a list says.
 ghost use Rattle.std.specs.Prelude.{◌≡◌};
 
-use super::*;
 use hx_cluster::Failure;
-use hx_ids::{InstanceId, ResourceId};
+use hx_handler::{Factory, Handler, Kept, MakeFault, ScriptedFactory, ScriptedHandler};
+use hx_ids::{InstanceId, PartId, ResourceId, StateId};
 use std::alloc::{AllocError, Global};
 use std::process::Abort;
 use std::test::Fail;
