@@ -14,10 +14,19 @@ use hx_lists::Seq;
 use std::alloc::Global;
 
 /// An event of a history: lent from it, or made again.
-#[derive(Drop)]
 pub enum Told<'a> {
     Kept(&'a Event),
     Made(Event),
+}
+
+// A derived drop is written out, event by event, wherever one is dropped; this is a call.
+impl Drop for Told<'_> {
+    fn drop(self) {
+        match self {
+            Told::Kept(_) => {}
+            Told::Made(_) => {}
+        }
+    }
 }
 
 impl<'a> Told<'a> {
