@@ -27,7 +27,7 @@ const TASK: Task = Task {
 };
 
 /// A run that ended, and what its sink took.
-fn ran(alloc: Global, status: Status, sink: MemSink) -> Result<Ran, AllocError> {
+fn ended(alloc: Global, status: Status, sink: MemSink) -> Result<Ran, AllocError> {
     let got = Vec::from_slice(alloc, sink.got())?;
     Ok(Ran { status, got })
 }
@@ -48,7 +48,7 @@ fn run_bytes(alloc: Global, bytes: Vec<u8>, fails: &[u64], most: u64) -> Result<
     let mut sink = MemSink::new(alloc, Vec::new(alloc), most);
     let status = run_script(alloc, TASK, &mut source, &mut sink);
     drop(source);
-    ran(alloc, status, sink)
+    ended(alloc, status, sink)
 }
 
 const PLENTY: u64 = 1 << 20;
@@ -256,7 +256,7 @@ fn run_told<R: Threads + Wait + Sync>(
     let mut sink = MemSink::new(alloc, Vec::new(alloc), PLENTY);
     let status = start(rt, alloc, words, &mut source, &mut sink);
     drop(source);
-    ran(alloc, status, sink)
+    ended(alloc, status, sink)
 }
 
 #[test]

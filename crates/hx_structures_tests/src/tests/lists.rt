@@ -1,16 +1,22 @@
 use hx_lists::{Log, Seq};
+use std::alloc::AllocError;
 use std::test::Fail;
 
-#[test]
-fn a_list_is_kept_in_order_and_copied(rt: HostRuntime) -> Result<(), Fail> {
-    let mut list = Seq::new(rt.alloc());
-    for value in [3u32, 1, 2] {
+/// Puts some numbers in order, and changes the last.
+fn put_some(list: &mut Seq<u32>) -> Result<(), AllocError> {
+    for value in [3, 1, 2] {
         list.insert_by(value, |other| *other < value)?;
     }
     if let Some(last) = list.get_mut(2) {
         *last = 4;
     }
-    list.extend_from_slice(&[5])?;
+    list.extend_from_slice(&[5])
+}
+
+#[test]
+fn a_list_is_kept_in_order_and_copied(rt: HostRuntime) -> Result<(), Fail> {
+    let mut list = Seq::new(rt.alloc());
+    put_some(&mut list)?;
     let copy = list.clone()?;
     assert!(rt; copy == list);
     assert_eq!(rt; copy.as_slice(), [1, 2, 4, 5].as_slice());

@@ -48,17 +48,27 @@ fn a_message_is_sent_taken_and_acknowledged(rt: HostRuntime) -> Result<(), Fail>
     Ok(())
 }
 
+/// How many rows a session has.
+fn rows_of(alloc: Global, slots: &Slots) -> Result<usize, AllocError> {
+    let mut rows = Seq::new(alloc);
+    slots.push_rows_of(SESSION, &mut rows)?;
+    Ok(rows.len())
+}
+
+/// How many messages a session has.
+fn mail_of(alloc: Global, slots: &Slots) -> Result<usize, AllocError> {
+    let mut mail = Seq::new(alloc);
+    slots.push_mail_of(SESSION, &mut mail)?;
+    Ok(mail.len())
+}
+
 #[test]
 fn an_outcome_comes_to_the_row(rt: HostRuntime) -> Result<(), Fail> {
     let slots = with_row(rt.alloc())?;
     assert_eq!(rt; slots.state(SESSION, PART), Some(STATE));
     assert_eq!(rt; slots.holds(SESSION, ResourceId(1)), true);
-    let mut rows = Seq::new(rt.alloc());
-    slots.push_rows_of(SESSION, &mut rows)?;
-    assert_eq!(rt; rows.len(), 1);
-    let mut mail = Seq::new(rt.alloc());
-    slots.push_mail_of(SESSION, &mut mail)?;
-    assert_eq!(rt; mail.len(), 1);
+    assert_eq!(rt; rows_of(rt.alloc(), &slots), Ok(1));
+    assert_eq!(rt; mail_of(rt.alloc(), &slots), Ok(1));
     Ok(())
 }
 
