@@ -47,6 +47,12 @@ fn copied(step: &Admin) -> Result<Admin, AllocError>
     step.clone()
 }
 
+fn answer_copied(did: &Did) -> Result<Did, AllocError>
+    ensures { IfOk result (λ copy. copy ≡ did.now) }
+{
+    did.clone()
+}
+
 /// What a step answers, with its event. Both are made before the step.
 struct Answered {
     event: Event,
@@ -70,7 +76,7 @@ impl Answered {
         ensures did { IfOk result (λ answered. answered.did ≡ did_of records.now step.now) }
     {
         let told = records.answer_to(step)?;
-        let did = records.answer_to(step)?;
+        let did = answer_copied(&told)?;
         let copy = copied(step)?;
         Ok(Answered {
             event: Event::Admin(copy, told),
