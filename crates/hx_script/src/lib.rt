@@ -38,7 +38,7 @@ pub enum ReadKind {
 
 /// What a script line asks for. A resource is given by the place of its name among the resource
 /// names, a mode as 0, 1 or 2 for FULL_AUTO, SEMI_AUTO and CUSTOMIZED.
-#[derive(Debug, PartialEq, Drop)]
+#[derive(Drop)]
 pub enum What {
     Join(InstanceId),
     Beat(InstanceId),
@@ -95,7 +95,7 @@ pub enum What {
 }
 
 /// A script line. Comments and empty lines count in the numbers, which begin at 1.
-#[derive(Debug, PartialEq, Drop)]
+#[derive(Drop)]
 pub struct Line {
     pub number: u32,
     pub what: What,

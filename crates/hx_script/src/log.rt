@@ -25,7 +25,7 @@ pub struct LogMove {
 }
 
 /// What an entry of a log tells. Change numbers and a post's rows are not in the text.
-#[derive(Debug, PartialEq, Drop)]
+#[derive(Drop)]
 pub enum LogEntry {
     Line(u32),
     Join(InstanceId, SessionId),
@@ -98,7 +98,6 @@ pub enum LogEntry {
 
 /// A line of a log, with the indented lines that belong to it: what it tells, and None where it is
 /// no line of a log.
-#[derive(Debug, PartialEq)]
 pub struct LogLine {
     pub line: u32,
     pub entry: Option<LogEntry>,
