@@ -12,7 +12,7 @@ use Rattle.hx_cluster.specs.Steps.{has_instance}
 use Rattle.hx_text.specs.Texts.{Prints, PutsFront}
 use Rattle.hx_print.specs.declared.roll.Roll.{Roll}
 use Rattle.hx_print.specs.declared.Note.TheVariants as notes
-use Rattle.hx_print.specs.Texts.{event_text, entry_text, roll_of}
+use Rattle.hx_print.specs.Texts.{event_text, entry_text}
 use Rattle.hx_board.specs.declared.faults.RoomFault.{RoomFault}
 use Rattle.hx_board.specs.declared.faults.RoomFault.TheVariants as rooms
 use Rattle.hx_board.specs.declared.faults.BoardFault.TheVariants as boards
@@ -29,6 +29,7 @@ use Rattle.hx_agreed.proofs.Operations.{die_keeps}
 use Rattle.hx_scene.specs.Scenes.{SceneState, OpenState, at, lists_of}
 use Rattle.hx_scene.specs.Kept.{IsScene, IsListed}
 use Rattle.hx_scene.specs.Doing.{Keeps, Ends, IsCut, Fails, DoesDeed}
+use Rattle.hx_scene.specs.Rolls.{step_roll}
 use Rattle.hx_scene.specs.Ending.{Adopts, KeepsParts}
 use Rattle.hx_scene.proofs.Reaching.{reaches_as, cut_as, does_as, happens_and, happens_and_cut, kept_going}
 use Rattle.hx_scene.proofs.Standing.{valid_in}
@@ -73,12 +74,12 @@ scene_died {s} v i b later after is history has free made adopts kept =
     }
 
 pub died_printed : {T E : Type 0} {roll : Roll} (v : Voice) (i : InstanceId) (s : SceneState) (b : Held) (later : List OpenState) (after : List ParticipantState) (p q : List ℕ) (t : T)
-    → step_refusal s.board (steps.End i) ≡ None → b ≡ on_board s.board (ended i) → Adopts i None s.jobs later s.staff after → KeepsParts s.jobs later s.staff after → roll ≡ roll_of s.board.cluster
+    → step_refusal s.board (steps.End i) ≡ None → b ≡ on_board s.board (ended i) → Adopts i None s.jobs later s.staff after → KeepsParts s.jobs later s.staff after → roll ≡ step_roll s.board.cluster (steps.End i)
     → ((h : List Event) (d : Event) → b.history ≡ h ++ d ∷ [] → Prints {E = E} (event_text s.spec roll d) p (Ok t) q)
     → Ends (λ x. do_die v i x) s p tt (record s { board = b; jobs = later; staff = after }) q
 died_printed {T} {E} {roll} v i s b later after p q t free made adopts kept same printed =
     printed_after p q (died_ends v i s b later after free made adopts kept)
-    ((printed s.board.history (ended i) (ap (λ c. c.history) made)).ok ∙ ap (λ text. p ++ text) (same_roll s (ended i) same))
+    ((printed s.board.history (ended i) (ap (λ c. c.history) made)).ok ∙ ap (λ text. p ++ text) (same_roll s (steps.End i) dids.Done same))
 
 died_cut : (v : Voice) (i : InstanceId) (s : SceneState) (b : Held) (later : List OpenState) (after : List ParticipantState) (p q : List ℕ) → step_refusal s.board (steps.End i) ≡ None
     → b ≡ on_board s.board (ended i) → KeepsParts s.jobs later s.staff after → PutsFront (entry_text s.spec s.board.cluster (ended i)) p q
@@ -93,13 +94,13 @@ died_cut v i s b later after p q free made kept front =
 
 pub died_front : {R T E : Type 0} {roll : Roll} (v : Voice) (i : InstanceId) (s : SceneState) (b : Held) (later : List OpenState) (after : List ParticipantState) (p q : List ℕ) (fault : E)
     (result : Result R RoomFault) → step_refusal s.board (steps.End i) ≡ None → b ≡ on_board s.board (ended i) → Adopts i None s.jobs later s.staff after → KeepsParts s.jobs later s.staff after
-    → roll ≡ roll_of s.board.cluster → ((h : List Event) (d : Event) → b.history ≡ h ++ d ∷ [] → Prints {T = T} (event_text s.spec roll d) p (Err fault) q)
+    → roll ≡ step_roll s.board.cluster (steps.End i) → ((h : List Event) (d : Event) → b.history ≡ h ++ d ∷ [] → Prints {T = T} (event_text s.spec roll d) p (Err fault) q)
     → IsErrAnd result (λ x. x ≡ rooms.OutOfMemory) → DoesDeed (λ x. do_die v i x) s p (record s { board = b; jobs = later; staff = after }) q result
 died_front v i s b later after p q fault (Ok x) free made adopts kept same printed failed = absurd failed
 died_front {R} {T} {E} {roll} v i s b later after p q fault (Err x) free made adopts kept same printed failed =
     subst (λ y. Fails (λ z. do_die v i z) s p y (record s { board = b; jobs = later; staff = after }) q) (sym failed)
     (died_cut v i s b later after p q free made kept
-    (subst (λ text. PutsFront text p q) (same_roll s (ended i) same) (printed s.board.history (ended i) (ap (λ c. c.history) made)).err))
+    (subst (λ text. PutsFront text p q) (same_roll s (steps.End i) dids.Done same) (printed s.board.history (ended i) (ap (λ c. c.history) made)).err))
 
 -- it is refused
 pub die_noted : {R : Type 0} (v : Voice) (i : InstanceId) (fault : StepFault) (s u : SceneState) (b : Held) (p q : List ℕ) (result : Result R RoomFault)

@@ -6,7 +6,10 @@ use Rattle.std.proofs.lemmas.Bool.Decides.{nat_tests}
 use Rattle.std.proofs.lemmas.Option.{get_or_from_slice_get}
 use Rattle.std.proofs.Math.Seq.{get_or-append_seam}
 use Rattle.hx_cluster.specs.declared.description.Spec.{Spec}
+use Rattle.hx_cluster.specs.declared.state.Cluster.{Cluster}
 use Rattle.hx_cluster.specs.declared.happenings.Admin.{Admin}
+use Rattle.hx_cluster.specs.declared.happenings.Admin.TheVariants as steps
+use Rattle.hx_cluster.specs.declared.happenings.Did.{Did}
 use Rattle.hx_cluster.specs.declared.happenings.StepFault.{StepFault}
 use Rattle.hx_cluster.specs.declared.happenings.Event.{Event}
 use Rattle.hx_cluster.specs.declared.happenings.Event.TheVariants as events
@@ -34,6 +37,7 @@ use Rattle.hx_agreed.proofs.Operations.{stands_there, line_stands, step_keeps}
 use Rattle.hx_scene.specs.Scenes.{SceneState, at}
 use Rattle.hx_scene.specs.Kept.{IsScene}
 use Rattle.hx_scene.specs.Advances.{no_roll}
+use Rattle.hx_scene.specs.Rolls.{step_roll}
 use Rattle.hx_scene.specs.Doing.{Ends, Fails, DoesDeed}
 use Rattle.hx_scene.proofs.Reaching.{here, reaches_as, cut_here, cut_as, does_as, makes, makes_cut, at_happened, room_of, no_room_of}
 
@@ -52,6 +56,11 @@ pub prints_last : {T E : Type 0} {p q : List ℕ} {result : Result T E} (roll : 
     → Some x ≡ slice_get es (length es - 1) → z ≡ spec → Prints (event_text z roll x) p result q → Prints (event_text spec roll e) p result q
 prints_last {T} {E} {p} {q} {result} roll z x es h e spec is found same printed =
     subst (λ y. Prints (event_text spec roll y) p result q) (last_is es h e x is found) (subst (λ y. Prints (event_text y roll x) p result q) same printed)
+
+-- what was printed of an event, with the description that stands there
+pub prints_with : {T E : Type 0} {p q : List ℕ} {result : Result T E} {z spec : Spec} (roll : Roll) (e : Event) → z ≡ spec → Prints (event_text z roll e) p result q
+    → Prints (event_text spec roll e) p result q
+prints_with {T} {E} {p} {q} {result} roll e same printed = subst (λ y. Prints (event_text y roll e) p result q) same printed
 
 -- what was printed, by an answer of another type: memory alone can be wanting
 pub prints_failed : {R T E : Type 0} {text p q : List ℕ} {fault : E} (result : Result R RoomFault) → Prints {T = T} text p (Err fault) q → IsErrAnd result (λ x. x ≡ rooms.OutOfMemory) → Prints text p result q
@@ -107,21 +116,18 @@ refused_as f s b p fault more stops same (inr refused) =
 
 -- an event was made, and printed whole or by a front
 pub printed_event : {T E : Type 0} (f : State → Deed) (e : Event) (s : SceneState) (b : Held) (roll : Roll) (p q : List ℕ) (t : T) → ((a : Answers) → f (at s a) ≡ make e (at s a))
-    → b ≡ on_board s.board e → event_text s.spec roll e ≡ entry_text s.spec s.board.cluster e
-    → ((h : List Event) (d : Event) → b.history ≡ h ++ d ∷ [] → Prints {E = E} (event_text s.spec roll d) p (Ok t) q) → Ends f s p tt (record s { board = b }) q
+    → b ≡ on_board s.board e → event_text s.spec roll e ≡ entry_text s.spec s.board.cluster e → Prints {E = E} (event_text s.spec roll e) p (Ok t) q → Ends f s p tt (record s { board = b }) q
 printed_event f e s b roll p q t is made same printed =
-    reaches_as is
-    (makes e s (record s { board = b }) p q (ap (λ c. record s { board = c }) made) ((printed s.board.history e (ap (λ c. c.history) made)).ok ∙ ap (λ text. p ++ text) same))
+    reaches_as is (makes e s (record s { board = b }) p q (ap (λ c. record s { board = c }) made) (printed.ok ∙ ap (λ text. p ++ text) same))
 
 pub printed_front : {R T E : Type 0} (f : State → Deed) (e : Event) (s : SceneState) (b : Held) (roll : Roll) (p q : List ℕ) (fault : E) (result : Result R RoomFault)
     → ((a : Answers) → f (at s a) ≡ make e (at s a)) → b ≡ on_board s.board e → event_text s.spec roll e ≡ entry_text s.spec s.board.cluster e
-    → ((h : List Event) (d : Event) → b.history ≡ h ++ d ∷ [] → Prints {T = T} (event_text s.spec roll d) p (Err fault) q) → IsErrAnd result (λ x. x ≡ rooms.OutOfMemory)
-    → DoesDeed f s p (record s { board = b }) q result
+    → Prints {T = T} (event_text s.spec roll e) p (Err fault) q → IsErrAnd result (λ x. x ≡ rooms.OutOfMemory) → DoesDeed f s p (record s { board = b }) q result
 printed_front f e s b roll p q fault (Ok x) is made same printed failed = absurd failed
 printed_front f e s b roll p q fault (Err x) is made same printed failed =
     subst (λ y. Fails f s p y (record s { board = b }) q) (sym failed)
     (cut_as is
-    (makes_cut e s (record s { board = b }) p q (ap (λ c. record s { board = c }) made) (subst (λ text. PutsFront text p q) same (printed s.board.history e (ap (λ c. c.history) made)).err)))
+    (makes_cut e s (record s { board = b }) p q (ap (λ c. record s { board = c }) made) (subst (λ text. PutsFront text p q) same printed.err)))
 
 -- where there is room an event is made
 pub made_here : (e : Event) (x : State) → nat_lt x.world.limit (x.world.weight + weight_of e) ≡ false → happen e x ≡ make e x
@@ -141,18 +147,18 @@ line_made : (s : SceneState) (n : ℕ) (a : Answers) → next_line_of s.board �
 line_made s n a next free = made_here (events.Line n) (at s a) (room_of s.board 1 rooms.HistoryFull (sym (line_room s.board n next) ∙ free))
 
 line_printed : {T E : Type 0} (n : ℕ) (s : SceneState) (b : Held) (p q : List ℕ) (t : T) → next_line_of s.board ≡ Some n → line_refusal s.board ≡ None → b ≡ line_taken s.board (next_line_of s.board)
-    → ((h : List Event) (d : Event) → b.history ≡ h ++ d ∷ [] → Prints {E = E} (event_text s.spec no_roll d) p (Ok t) q) → Ends (λ x. happen (events.Line n) x) s p tt (record s { board = b }) q
+    → Prints {E = E} (event_text s.spec no_roll (events.Line n)) p (Ok t) q → Ends (λ x. happen (events.Line n) x) s p tt (record s { board = b }) q
 line_printed n s b p q t next free taken printed =
     printed_event (λ x. happen (events.Line n) x) (events.Line n) s b no_roll p q t (λ a. line_made s n a next free) (line_is s.board b n next taken) refl printed
 
 line_front : {R T E : Type 0} (n : ℕ) (s : SceneState) (b : Held) (p q : List ℕ) (fault : E) (result : Result R RoomFault) → next_line_of s.board ≡ Some n → line_refusal s.board ≡ None
-    → b ≡ line_taken s.board (next_line_of s.board) → ((h : List Event) (d : Event) → b.history ≡ h ++ d ∷ [] → Prints {T = T} (event_text s.spec no_roll d) p (Err fault) q)
+    → b ≡ line_taken s.board (next_line_of s.board) → Prints {T = T} (event_text s.spec no_roll (events.Line n)) p (Err fault) q
     → IsErrAnd result (λ x. x ≡ rooms.OutOfMemory) → DoesDeed (λ x. happen (events.Line n) x) s p (record s { board = b }) q result
 line_front n s b p q fault result next free taken printed failed =
     printed_front (λ x. happen (events.Line n) x) (events.Line n) s b no_roll p q fault result (λ a. line_made s n a next free) (line_is s.board b n next taken) refl printed failed
 
 pub line_done : {R : Type 0} (n : ℕ) (s : SceneState) (b : Held) (p q : List ℕ) (result : Result R RoomFault) → next_line_of s.board ≡ Some n → line_refusal s.board ≡ None
-    → b ≡ line_taken s.board (next_line_of s.board) → ((h : List Event) (d : Event) → b.history ≡ h ++ d ∷ [] → Prints (event_text s.spec no_roll d) p result q) → IfErr result (λ x. x ≡ rooms.OutOfMemory)
+    → b ≡ line_taken s.board (next_line_of s.board) → Prints (event_text s.spec no_roll (events.Line n)) p result q → IfErr result (λ x. x ≡ rooms.OutOfMemory)
     → DoesDeed (λ x. happen (events.Line n) x) s p (record s { board = b }) q result
 line_done n s b p q (Ok t) next free taken printed memory = line_printed n s b p q t next free taken printed
 line_done {R} n s b p q (Err fault) next free taken printed memory = line_front {R = R} n s b p q fault (Err fault) next free taken printed memory
@@ -220,23 +226,43 @@ step_made s v step a free =
     let f = step_free s.board step free in
     ap (λ (o : Option StepFault). stepped v step o (at s a)) f.none ∙ made_here (events.Admin step (did_of s.board.cluster step)) (at s a) f.room
 
-pub same_roll : {roll : Roll} (s : SceneState) (e : Event) → roll ≡ roll_of s.board.cluster → event_text s.spec roll e ≡ entry_text s.spec s.board.cluster e
-same_roll s e is = ap (λ r. event_text s.spec r e) is
+-- a step's roll serves its log line
+serves : (spec : Spec) (c : Cluster) (step : Admin) (did : Did) → event_text spec (step_roll c step) (events.Admin step did) ≡ event_text spec (roll_of c) (events.Admin step did)
+serves spec c (steps.Join i) did = refl
+serves spec c (steps.End i) did = refl
+serves spec c (steps.Beat i) did = refl
+serves spec c (steps.Tick n) did = refl
+serves spec c (steps.Drain i) did = refl
+serves spec c (steps.Undrain i) did = refl
+serves spec c (steps.Add name model ideal) did = refl
+serves spec c (steps.Drop r) did = refl
+serves spec c (steps.SetList p list) did = refl
+serves spec c (steps.SetMap p entries) did = refl
+serves spec c (steps.Reset i p) did = refl
+serves spec c (steps.Lead k) did = refl
+serves spec c (steps.Stop k) did = refl
+serves spec c (steps.Start k) did = refl
+
+pub same_roll : {roll : Roll} (s : SceneState) (step : Admin) (did : Did) → roll ≡ step_roll s.board.cluster step
+    → event_text s.spec roll (events.Admin step did) ≡ entry_text s.spec s.board.cluster (events.Admin step did)
+same_roll s step did is = ap (λ r. event_text s.spec r (events.Admin step did)) is ∙ serves s.spec s.board.cluster step did
 
 pub step_printed : {T E : Type 0} {roll : Roll} (v : Voice) (step : Admin) (s : SceneState) (b : Held) (p q : List ℕ) (t : T) → step_refusal s.board step ≡ None
-    → b ≡ on_board s.board (events.Admin step (did_of s.board.cluster step)) → roll ≡ roll_of s.board.cluster
+    → b ≡ on_board s.board (events.Admin step (did_of s.board.cluster step)) → roll ≡ step_roll s.board.cluster step
     → ((h : List Event) (d : Event) → b.history ≡ h ++ d ∷ [] → Prints {E = E} (event_text s.spec roll d) p (Ok t) q) → Ends (λ x. do_step v step x) s p tt (record s { board = b }) q
 step_printed {T} {E} {roll} v step s b p q t free made is printed =
     let e = events.Admin step (did_of s.board.cluster step) in
-    printed_event (λ x. do_step v step x) e s b roll p q t (λ a. step_made s v step a free) made (same_roll s e is) printed
+    printed_event (λ x. do_step v step x) e s b roll p q t (λ a. step_made s v step a free) made (same_roll s step (did_of s.board.cluster step) is)
+    (printed s.board.history e (ap (λ c. c.history) made))
 
 pub step_front : {R T E : Type 0} {roll : Roll} (v : Voice) (step : Admin) (s : SceneState) (b : Held) (p q : List ℕ) (fault : E) (result : Result R RoomFault) → step_refusal s.board step ≡ None
-    → b ≡ on_board s.board (events.Admin step (did_of s.board.cluster step)) → roll ≡ roll_of s.board.cluster
+    → b ≡ on_board s.board (events.Admin step (did_of s.board.cluster step)) → roll ≡ step_roll s.board.cluster step
     → ((h : List Event) (d : Event) → b.history ≡ h ++ d ∷ [] → Prints {T = T} (event_text s.spec roll d) p (Err fault) q) → IsErrAnd result (λ x. x ≡ rooms.OutOfMemory)
     → DoesDeed (λ x. do_step v step x) s p (record s { board = b }) q result
 step_front {R} {T} {E} {roll} v step s b p q fault result free made is printed failed =
     let e = events.Admin step (did_of s.board.cluster step) in
-    printed_front (λ x. do_step v step x) e s b roll p q fault result (λ a. step_made s v step a free) made (same_roll s e is) printed failed
+    printed_front (λ x. do_step v step x) e s b roll p q fault result (λ a. step_made s v step a free) made (same_roll s step (did_of s.board.cluster step) is)
+    (printed s.board.history e (ap (λ c. c.history) made)) failed
 
 pub scene_of_step : {s : SceneState} (b : Held) (v : Voice) (step : Admin) → IsScene s → HasHistory b → is_in_range s.board.cluster step ≡ true → step_refusal s.board step ≡ None
     → b ≡ on_board s.board (events.Admin step (did_of s.board.cluster step)) → IsScene (record s { board = b })

@@ -37,12 +37,16 @@ makes_as {f} {e} {s} {u} {w} {board} is made line ends cut scene =
     })
 
 -- the event is printed, or memory is wanted for that
+pub makes_given : {R : Type 0} {f : State → Deed} {e : Event} {s u : SceneState} {board : Held} → Makes f e s board u → (p q : List ℕ) (result : Result R RoomFault)
+    → Prints (event_text s.spec no_roll e) p result q → IfErr result (λ x. x ≡ rooms.OutOfMemory) → DoesDeed f s p u q result
+makes_given m p q (Ok x) printed memory = m.ends p q (printed.ok ∙ ap (λ t. p ++ t) m.line)
+makes_given {R} {f} {e} {s} {u} {board} m p q (Err x) printed memory =
+    subst (λ y. Fails f s p y u q) (sym memory) (m.cut p q (subst (λ t. PutsFront t p q) m.line printed.err))
+
+-- so too where the last event is printed
 pub makes_printed : {R : Type 0} {f : State → Deed} {e : Event} {s u : SceneState} {board : Held} → Makes f e s board u → (p q : List ℕ) (result : Result R RoomFault)
     → ((h : List Event) (d : Event) → board.history ≡ h ++ d ∷ [] → Prints (event_text s.spec no_roll d) p result q) → IfErr result (λ x. x ≡ rooms.OutOfMemory) → DoesDeed f s p u q result
-makes_printed {R} {f} {e} {s} {u} {board} m p q (Ok x) printed memory =
-    m.ends p q ((printed s.board.history e (ap (λ (b : Held). b.history) m.made)).ok ∙ ap (λ t. p ++ t) m.line)
-makes_printed {R} {f} {e} {s} {u} {board} m p q (Err x) printed memory =
-    subst (λ y. Fails f s p y u q) (sym memory) (m.cut p q (subst (λ t. PutsFront t p q) m.line (printed s.board.history e (ap (λ (b : Held). b.history) m.made)).err))
+makes_printed {R} {f} {e} {s} {u} {board} m p q result printed memory = makes_given m p q result (printed s.board.history e (ap (λ (b : Held). b.history) m.made)) memory
 
 -- an operation comes to another one at a scene, without an item
 pub record ComesTo (f g : State → Deed) (s u : SceneState) : Type 0 where

@@ -5,5 +5,6 @@ pub mod Doing
 pub mod Kept
 pub mod Telling
 pub mod Advances
+pub mod Rolls
 pub mod Taking
 pub mod Ending

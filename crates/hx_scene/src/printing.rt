@@ -5,10 +5,11 @@ ghost use Rattle.hx_cluster.specs.declared.happenings.Event.{Event as Happening}
 ghost use Rattle.hx_text.specs.Texts.{Prints};
 ghost use Rattle.hx_print.specs.Texts.{event_text, names_of, roll_of};
 ghost use Rattle.hx_scene.specs.Advances.{no_roll};
+ghost use Rattle.hx_scene.specs.Rolls.{names_resources, names_sessions, step_roll};
 
 use crate::{Deed, Scene};
 use hx_board::RoomFault;
-use hx_cluster::Resource;
+use hx_cluster::{Admin, Event, Resource};
 use hx_handler::Factory;
 use hx_lists::Seq;
 use hx_print::{Roll, print_event};
@@ -21,8 +22,28 @@ fn names_of(alloc: Global, resources: &[Resource]) -> Result<Vec<u32>, AllocErro
     resources.iter().map(|r| r.name).collect(alloc)
 }
 
+/// Whether a step's log line names a resource by its number.
+fn names_resources(step: &Admin) -> bool
+    ensures { result ≡ names_resources step.now }
+{
+    matches!(
+        step,
+        Admin::Drop { .. } | Admin::SetList { .. } | Admin::SetMap { .. } | Admin::Reset { .. }
+    )
+}
+
+/// Whether a step's log line names a session that was live.
+fn names_sessions(step: &Admin) -> bool
+    ensures { result ≡ names_sessions step.now }
+{
+    matches!(
+        step,
+        Admin::End { .. } | Admin::Beat { .. } | Admin::Tick { .. } | Admin::Reset { .. }
+    )
+}
+
 impl<F: Factory> Scene<F> {
-    /// What the names in a step's or a dispatch's log lines need of the cluster.
+    /// What the names in a dispatch's log lines need of the cluster.
     pub(crate) fn roll(&self) -> Result<Roll, AllocError>
         ensures { IfOk result (λ roll. roll ≡ roll_of self.now.board.cluster) }
     {
@@ -30,6 +51,20 @@ impl<F: Factory> Scene<F> {
             resources: Seq::from_vec(names_of(self.alloc(), self.board.resources())?),
             live: Seq::from_vec(self.board.roster()?),
         })
+    }
+
+    /// What the names in a step's log line need of the cluster.
+    pub(crate) fn step_roll(&self, step: &Admin) -> Result<Roll, AllocError>
+        ensures { IfOk result (λ roll. roll ≡ step_roll self.now.board.cluster step.now) }
+    {
+        let mut roll = self.no_roll();
+        if names_resources(step) {
+            roll.resources = Seq::from_vec(names_of(self.alloc(), self.board.resources())?);
+        }
+        if names_sessions(step) {
+            roll.live = Seq::from_vec(self.board.roster()?);
+        }
+        Ok(roll)
     }
 
     /// What the log lines of other events need: nothing.
@@ -52,6 +87,16 @@ impl<F: Factory> Scene<F> {
             Some(told) => print_event(told.event(), roll, &self.spec, out),
             None => Ok(()),
         }
+    }
+
+    /// Prints an event whose log line needs nothing of the cluster.
+    pub(crate) fn print_given(&self, event: &Event, out: &mut Page) -> Deed
+        ensures prints { Prints (event_text self.now.spec no_roll event.now)
+            out.old result out.new }
+        ensures memory { IfErr result (λ fault. fault ≡ RoomFault.OutOfMemory) }
+    {
+        print_event(event, &self.no_roll(), &self.spec, out)?;
+        Ok(())
     }
 
     /// Prints the last event, whose log line needs nothing of the cluster.

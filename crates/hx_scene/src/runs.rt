@@ -11,6 +11,7 @@ ghost use Rattle.hx_scene.specs.Taking.{HandsOut, IsStill};
 use crate::jobs::{OpenJob, end_at, place_of};
 use crate::{Deed, Scene};
 use hx_board::RoomFault;
+use hx_cluster::Event;
 use hx_handler::Factory;
 use hx_ids::{InstanceId, MsgId};
 use hx_print::Note;
@@ -64,7 +65,7 @@ impl<F: Factory> Scene<F> {
                     ran: job.run(),
                     is_written: false,
                 });
-                self.print_event(out)
+                self.print_given(&Event::Take(message.session, message.id), out)
             }
             Err(_) => {
                 self.participants[instance.0 as usize].finish(job.put_back());
@@ -85,12 +86,15 @@ impl<F: Factory> Scene<F> {
         if job.is_written {
             return self.note(voice, &Note::NoJob, out);
         }
-        let written = self.board.write(job.session(), job.id(), job.outcome());
+        let session = job.session();
+        let number = job.id();
+        let outcome = job.outcome();
+        let written = self.board.write(session, number, outcome);
         self.board.history();
         match written {
             Ok(()) => {
                 self.jobs[place].is_written = true;
-                self.print_event(out)
+                self.print_given(&Event::Write(session, number, outcome), out)
             }
             Err(_) => {
                 end_at(&mut self.jobs, &mut self.participants, place);
@@ -111,11 +115,13 @@ impl<F: Factory> Scene<F> {
         if !job.is_written {
             return self.note(voice, &Note::NoJob, out);
         }
-        let acked = self.board.ack(job.session(), job.id());
+        let session = job.session();
+        let number = job.id();
+        let acked = self.board.ack(session, number);
         self.board.history();
         end_at(&mut self.jobs, &mut self.participants, place);
         match acked {
-            Ok(()) => self.print_event(out),
+            Ok(()) => self.print_given(&Event::Ack(session, number), out),
             Err(_) => self.note(voice, &Note::SessionEnded, out),
         }
     }

@@ -7,6 +7,7 @@ ghost use Rattle.hx_board.specs.Board.{next_line_of};
 ghost use Rattle.hx_worlds.specs.Runs.{happen};
 ghost use Rattle.hx_worlds.specs.Scripts.{do_step, do_die};
 ghost use Rattle.hx_scene.specs.Doing.{DoesDeed};
+ghost use Rattle.hx_scene.specs.Rolls.{step_roll};
 
 use crate::jobs::adopt;
 use crate::{Deed, Scene};
@@ -14,7 +15,7 @@ use hx_board::{BoardFault, RoomFault};
 use hx_cluster::{Admin, Event};
 use hx_handler::Factory;
 use hx_ids::InstanceId;
-use hx_print::Note;
+use hx_print::{Note, Roll};
 use hx_text::Page;
 use hx_worlds::Voice;
 
@@ -27,7 +28,7 @@ impl<F: Factory> Scene<F> {
     {
         self.board.next_line()?;
         self.board.history();
-        self.print_event(out)
+        self.print_given(&Event::Line(number), out)
     }
 
     /// Makes a step, or notes why not.
@@ -35,11 +36,20 @@ impl<F: Factory> Scene<F> {
         requires { is_in_range self.old.board.cluster step.now ≡ true }
         ensures { DoesDeed (do_step voice step.now) self.old out.old self.new out.new result }
     {
-        let roll = self.roll()?;
+        let roll = self.step_roll(step)?;
+        self.make(voice, step, &roll, out)
+    }
+
+    /// Makes a step whose log line needs this roll, or notes why not.
+    fn make(&mut self, voice: Voice, step: &Admin, roll: &Roll, out: &mut Page) -> Deed
+        requires range { is_in_range self.old.board.cluster step.now ≡ true }
+        requires roll { roll.now ≡ step_roll self.old.board.cluster step.now }
+        ensures { DoesDeed (do_step voice step.now) self.old out.old self.new out.new result }
+    {
         match self.board.admin(step) {
             Ok(_) => {
                 self.board.history();
-                self.print_last(&roll, out)?;
+                self.print_last(roll, out)?;
                 Ok(())
             }
             Err(BoardFault::Step(fault)) => self.note(voice, &Note::Step(fault), out),
@@ -53,7 +63,17 @@ impl<F: Factory> Scene<F> {
         requires { has_instance self.old.board.cluster instance ≡ true }
         ensures { DoesDeed (do_die voice instance) self.old out.old self.new out.new result }
     {
-        let roll = self.roll()?;
+        let step = Admin::End { instance };
+        let roll = self.step_roll(&step)?;
+        self.end(voice, instance, &roll, out)
+    }
+
+    /// Ends an instance's session, where the log line needs this roll, or notes why not.
+    fn end(&mut self, voice: Voice, instance: InstanceId, roll: &Roll, out: &mut Page) -> Deed
+        requires instance { has_instance self.old.board.cluster instance ≡ true }
+        requires roll { roll.now ≡ step_roll self.old.board.cluster (Admin.End instance) }
+        ensures { DoesDeed (do_die voice instance) self.old out.old self.new out.new result }
+    {
         let open = self.open_jobs(instance)?;
         match self.board.admin(&Admin::End { instance }) {
             Ok(_) => {
@@ -65,7 +85,7 @@ impl<F: Factory> Scene<F> {
                     None,
                     &open,
                 );
-                self.print_last(&roll, out)?;
+                self.print_last(roll, out)?;
                 Ok(())
             }
             Err(fault) => match fault {

@@ -5,7 +5,7 @@ use Rattle.hx_worlds.specs.Runs.{note}
 use Rattle.hx_print.specs.declared.Note.TheVariants as notes
 use Rattle.hx_scene.proofs.Reaching.{does_after}
 use Rattle.hx_scene.specs.Fields.{scene_of}
-use Rattle.hx_scene.proofs.Making.{Makes, ComesTo, makes_printed, comes_to}
+use Rattle.hx_scene.proofs.Making.{Makes, ComesTo, makes_given, comes_to}
 use Rattle.hx_scene.proofs.Written.{StandsAt, stands_found, mark_is, found_nowhere, found_within}
 use Rattle.hx_scene.proofs.Written.{within as within_jobs}
 use Rattle.hx_scene.proofs.Acked.{ended_scene, job_can, ack_none, ack_before, ack_makes, ack_comes}
@@ -22,14 +22,14 @@ acked : (g : Over) (c : In-Ok g) → Makes (λ x. do_ack c.args.voice c.args.ins
     c.ack-acked.new.self (ended_scene (scene_of c.self.inside) c.ack-acked.new.self c.end_at.new.jobs.items c.end_at.new.participants.items)
 acked g c =
     ack_makes (stands_found c.args.instance c.args.id c.in-Some.place c.self.invariant.0 c.deref.ensures.value c.place_of.ensures c.in-Some.is c.index-job.ensures) c.end_at.ensures.jobs c.end_at.ensures.plain c.end_at.ensures.kept
-    c.session.ensures c.id.ensures c.args.voice (mark_is c.job.view_is c.if-not-job.false) c.in-Ok.ensures.refused c.in-Ok.ensures.ok
+    c.session-session.ensures c.id-number.ensures c.args.voice (mark_is c.job.view_is c.if-not-job.false) c.in-Ok.ensures.refused c.in-Ok.ensures.ok
 
 -- its session had ended, and so it does
 over : (g : Over) (c : In-Err g) → ComesTo (λ x. do_ack c.args.voice c.args.instance c.args.id x) (λ x. note c.args.voice notes.SessionEnded x) (scene_of c.self.inside)
     (ended_scene (scene_of c.self.inside) c.ack-acked.new.self c.end_at.new.jobs.items c.end_at.new.participants.items)
 over g c =
     ack_comes (stands_found c.args.instance c.args.id c.in-Some.place c.self.invariant.0 c.deref.ensures.value c.place_of.ensures c.in-Some.is c.index-job.ensures) c.end_at.ensures.jobs c.end_at.ensures.plain c.end_at.ensures.kept
-    c.session.ensures c.id.ensures c.args.voice c.in-Err.field-0 (mark_is c.job.view_is c.if-not-job.false) c.in-Err.ensures.refused c.in-Err.ensures.err
+    c.session-session.ensures c.id-number.ensures c.args.voice c.in-Err.field-0 (mark_is c.job.view_is c.if-not-job.false) c.in-Err.ensures.refused c.in-Err.ensures.err
 
 pub returns-in_default : goal.returns-in_default
 returns-in_default g c =
@@ -54,7 +54,7 @@ invariant_of-self g c = ((acked g (goal.at.invariant_of-self g c).In-Ok).scene c
 
 pub returns-in-Ok : goal.returns-in-Ok
 returns-in-Ok g c =
-    rw (← c.self.view_is) (makes_printed (acked g (goal.at.returns-in-Ok g c).In-Ok) c.args.out.now c.print_event.new.out c.print_event.result c.print_event.ensures.prints c.print_event.ensures.memory)
+    rw (← c.self.view_is) (makes_given (acked g (goal.at.returns-in-Ok g c).In-Ok) c.args.out.now c.print_given.new.out c.print_given.result (rw (c.session-session.ensures, c.id-number.ensures) at c.print_given.ensures.prints) c.print_given.ensures.memory)
 
 pub invariant_of-self-in-Err : goal.invariant_of-self-in-Err
 invariant_of-self-in-Err g c = ((over g (goal.at.invariant_of-self-in-Err g c).In-Err).scene, c.self.invariant.1)

@@ -1,38 +1,5 @@
-use Rattle.hx_scene.proofs.Happening.{memory_wanted, no_memory, step_printed, step_front, step_noted, step_none, scene_of_step}
+use Rattle.hx_scene.proofs.Happening.{memory_wanted}
 use Rattle.hx_scene.proofs.scene.Scene.step.Goals as goal
 
 pub returns-in_err-roll : goal.returns-in_err-roll
 returns-in_err-roll g c = memory_wanted _ c.args.self.now c.args.out.now c.from_residual.result c.from_residual.ensures.1
-
-pub invariant_of-self : goal.invariant_of-self
-invariant_of-self g c = (
-  scene_of_step c.admin.new.self c.args.voice c.args.step.now c.self.invariant.0 c.history.ensures.history (rw (← c.self.view_is) at c.requires) c.in-Ok.ensures.refused c.in-Ok.ensures.ok,
-  c.self.invariant.1,
-)
-
-pub returns-in_err-print_last-in-Ok : goal.returns-in_err-print_last-in-Ok
-returns-in_err-print_last-in-Ok g c =
-    rw (← c.self.view_is)
-    (step_front c.args.voice c.args.step.now _ c.admin.new.self c.args.out.now c.print_last.new.out c.in_err-print_last-in-Ok.field-0.0 c.from_residual-in_err-print_last-in-Ok.result c.in-Ok.ensures.refused
-    c.in-Ok.ensures.ok (rw (← c.self.view_is) at c.in_ok-roll.ensures) c.in_err-print_last-in-Ok.ensures c.from_residual-in_err-print_last-in-Ok.ensures.1)
-
-pub returns-in-Ok : goal.returns-in-Ok
-returns-in-Ok g c =
-    rw (← c.self.view_is)
-    (step_printed c.args.voice c.args.step.now _ c.admin.new.self c.args.out.now c.print_last.new.out c.in_ok-print_last-in-Ok.field-0 c.in-Ok.ensures.refused c.in-Ok.ensures.ok
-    (rw (← c.self.view_is) at c.in_ok-roll.ensures) c.in_ok-print_last-in-Ok.ensures)
-
-pub returns-in-Err-Step : goal.returns-in-Err-Step
-returns-in-Err-Step g c =
-    rw (← c.self.view_is)
-    (step_noted c.args.voice c.args.step.now c.in-Err-Step.fault _ c.note.new.self c.admin.new.self c.args.out.now c.note.new.out c.note.result
-    (rw c.in-Err-Step.field-0-is at c.in-Err-Step.ensures.refused) c.in-Err-Step.ensures.err c.note.ensures.does)
-
-pub returns-in-Err-HistoryFull : goal.returns-in-Err-HistoryFull
-returns-in-Err-HistoryFull g c =
-    rw (← c.self.view_is)
-    (step_none c.args.voice c.args.step.now _ c.admin.new.self c.args.out.now c.in-Err-HistoryFull.weight (rw c.in-Err-HistoryFull.field-0-is at c.in-Err-HistoryFull.ensures.refused)
-    c.in-Err-HistoryFull.ensures.err)
-
-pub returns : goal.returns
-returns g c = rw (← c.self.view_is) (no_memory _ _ c.admin.new.self c.args.out.now c.in-Err-OutOfMemory.ensures.err)

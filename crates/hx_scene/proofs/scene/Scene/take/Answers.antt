@@ -10,7 +10,7 @@ use Rattle.hx_scene.specs.Doing.{IsCut}
 use Rattle.hx_scene.proofs.Reaching.{cut_here, does_after}
 use Rattle.hx_scene.specs.Fields.{scene_of}
 use Rattle.hx_scene.proofs.Standing.{has_staff}
-use Rattle.hx_scene.proofs.Making.{Makes, ComesTo, IsCutHere, wants_memory, makes_printed}
+use Rattle.hx_scene.proofs.Making.{Makes, ComesTo, IsCutHere, wants_memory, makes_given}
 use Rattle.hx_scene.proofs.Taking.{with_staff}
 use Rattle.hx_scene.proofs.Taken.{IsHandedOut, handed_of, back_scene, back_out, back_listed, back_of, still_here, none_comes, take_makes, back_comes}
 use Rattle.hx_scene.proofs.scene.Scene.take.Goals as goal
@@ -84,7 +84,7 @@ invariant_of-self-in-Ok g c = ((taken g (goal.at.invariant_of-self-in-Ok g c).Af
 
 pub returns-in-Ok : goal.returns-in-Ok
 returns-in-Ok g c =
-    rw (← c.self.view_is) (makes_printed (taken g (goal.at.returns-in-Ok g c).After-push_reserved) c.args.out.now c.print_event.new.out c.print_event.result c.print_event.ensures.prints c.print_event.ensures.memory)
+    rw (← c.self.view_is) (makes_given (taken g (goal.at.returns-in-Ok g c).After-push_reserved) c.args.out.now c.print_given.new.out c.print_given.result (rw c.message-message.ensures at c.print_given.ensures.prints) c.print_given.ensures.memory)
 
 pub index_mut-requires-in-Err : goal.index_mut-requires-in-Err
 index_mut-requires-in-Err g c =

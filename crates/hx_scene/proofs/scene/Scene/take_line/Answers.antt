@@ -17,5 +17,5 @@ invariant_of-self-2 g c = (
 pub returns : goal.returns
 returns g c =
     rw (← c.self.view_is)
-    (line_done c.args.number _ c.next_line.new.self c.args.out.now c.print_event.new.out c.print_event.result (rw (← c.self.view_is) at c.requires.next) c.in_ok-next_line.ensures.refused c.in_ok-next_line.ensures.ok
-    c.print_event.ensures.prints c.print_event.ensures.memory)
+    (line_done c.args.number _ c.next_line.new.self c.args.out.now c.print_given.new.out c.print_given.result (rw (← c.self.view_is) at c.requires.next) c.in_ok-next_line.ensures.refused c.in_ok-next_line.ensures.ok
+    c.print_given.ensures.prints c.print_given.ensures.memory)

@@ -6,7 +6,7 @@ use Rattle.hx_print.specs.declared.Note.TheVariants as notes
 use Rattle.hx_scene.proofs.Reaching.{does_after}
 use Rattle.hx_scene.specs.Fields.{scene_of}
 use Rattle.hx_scene.specs.Scenes.{OpenState}
-use Rattle.hx_scene.proofs.Making.{Makes, ComesTo, makes_printed, comes_to}
+use Rattle.hx_scene.proofs.Making.{Makes, ComesTo, makes_given, comes_to}
 use Rattle.hx_scene.proofs.Written.{StandsAt, stands_found, mark_is, found_nowhere, found_within, marked_scene, write_none, written_before, write_makes}
 use Rattle.hx_scene.proofs.Written.{within as within_jobs}
 use Rattle.hx_scene.proofs.Acked.{ended_scene, job_can, write_comes}
@@ -24,14 +24,14 @@ written : (g : Over) (c : After-index_mut g) {k : OpenState} → k ≡ c.index_m
     (scene_of c.self.inside) c.write-written.new.self (marked_scene (scene_of c.self.inside) c.in-Some.place c.write-written.new.self k)
 written g c =
     write_makes (stands_found c.args.instance c.args.id c.in-Some.place c.self.invariant.0 c.deref.ensures.value c.place_of.ensures c.in-Some.is c.index-job.ensures) c.args.voice
-    (mark_is c.job.view_is c.if-job.false) c.session.ensures c.id.ensures c.outcome.ensures c.in-Ok.ensures.refused c.in-Ok.ensures.ok c.index_mut.ensures.value
+    (mark_is c.job.view_is c.if-job.false) c.session-session.ensures c.id-number.ensures c.outcome-outcome.ensures c.in-Ok.ensures.refused c.in-Ok.ensures.ok c.index_mut.ensures.value
 
 -- its session had ended, and so it does
 over : (g : Over) (c : After-end_at g) → ComesTo (λ x. do_write c.args.voice c.args.instance c.args.id x) (λ x. note c.args.voice notes.SessionEnded x) (scene_of c.self.inside)
     (ended_scene (scene_of c.self.inside) c.write-written.new.self c.end_at.new.jobs.items c.end_at.new.participants.items)
 over g c =
     write_comes (stands_found c.args.instance c.args.id c.in-Some.place c.self.invariant.0 c.deref.ensures.value c.place_of.ensures c.in-Some.is c.index-job.ensures) c.end_at.ensures.jobs c.end_at.ensures.plain
-    c.end_at.ensures.kept c.session.ensures c.id.ensures c.args.voice c.in-Err.field-0 (mark_is c.job.view_is c.if-job.false) c.in-Err.ensures.refused c.in-Err.ensures.err
+    c.end_at.ensures.kept c.session-session.ensures c.id-number.ensures c.args.voice c.in-Err.field-0 (mark_is c.job.view_is c.if-job.false) c.in-Err.ensures.refused c.in-Err.ensures.err
 
 pub returns-in_default : goal.returns-in_default
 returns-in_default g c =
@@ -55,7 +55,7 @@ invariant_of-self g c = ((written g (goal.at.invariant_of-self g c).After-index_
 
 pub returns-in-Ok : goal.returns-in-Ok
 returns-in-Ok g c =
-    rw (← c.self.view_is) (makes_printed (written g (goal.at.returns-in-Ok g c).After-index_mut c.behind-self.view_is) c.args.out.now c.print_event.new.out c.print_event.result c.print_event.ensures.prints c.print_event.ensures.memory)
+    rw (← c.self.view_is) (makes_given (written g (goal.at.returns-in-Ok g c).After-index_mut c.behind-self.view_is) c.args.out.now c.print_given.new.out c.print_given.result (rw (c.session-session.ensures, c.id-number.ensures, c.outcome-outcome.ensures) at c.print_given.ensures.prints) c.print_given.ensures.memory)
 
 pub end_at-requires-clause-place : goal.end_at-requires-clause-place
 end_at-requires-clause-place g c κs within = within_jobs (stands g (goal.at.end_at-requires-clause-place g c).After-index-job)
