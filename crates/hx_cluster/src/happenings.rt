@@ -7,7 +7,7 @@ use hx_ids::{
 use hx_lists::Seq;
 
 /// A step that an operator, a session or a controller asks for.
-#[derive(Clone, Debug, Drop)]
+#[derive(Clone, Debug)]
 pub enum Admin {
     Join {
         instance: InstanceId,
@@ -58,8 +58,38 @@ pub enum Admin {
     },
 }
 
+// A derived drop is written out, field by field, wherever one is dropped; this is a call.
+impl Drop for Admin {
+    #[inline(always)]
+    fn drop(self) {
+        match self {
+            Admin::Join { instance: _ }
+            | Admin::End { instance: _ }
+            | Admin::Beat { instance: _ }
+            | Admin::Tick { n: _ }
+            | Admin::Drain { instance: _ }
+            | Admin::Undrain { instance: _ }
+            | Admin::Add {
+                name: _,
+                model: _,
+                ideal: _,
+            }
+            | Admin::Drop { resource: _ }
+            | Admin::SetList { part: _, list: _ }
+            | Admin::SetMap { part: _, map: _ }
+            | Admin::Reset {
+                instance: _,
+                part: _,
+            }
+            | Admin::Lead { controller: _ }
+            | Admin::Stop { controller: _ }
+            | Admin::Start { controller: _ } => {}
+        }
+    }
+}
+
 /// What a step answers.
-#[derive(Clone, Debug, PartialEq, Drop)]
+#[derive(Clone, Debug, PartialEq)]
 pub enum Did {
     Joined(SessionId),
     /// The sessions that a tick ended, in order of last beat.
@@ -67,6 +97,16 @@ pub enum Did {
     Added(ResourceId),
     Leads(Epoch),
     Done,
+}
+
+// A derived drop is written out, field by field, wherever one is dropped; this is a call.
+impl Drop for Did {
+    #[inline(always)]
+    fn drop(self) {
+        match self {
+            Did::Joined(_) | Did::Ended(_) | Did::Added(_) | Did::Leads(_) | Did::Done => {}
+        }
+    }
 }
 
 /// Why a step is refused.
@@ -189,7 +229,6 @@ pub struct Seen {
 }
 
 /// A call that was answered Ok. What a read or a fetch showed follows from the events before it.
-#[derive(Debug, Drop)]
 pub enum Event {
     Admin(Admin, Did),
     Line(u32),
@@ -218,4 +257,40 @@ pub enum Event {
     Take(SessionId, MsgId),
     Write(SessionId, MsgId, Outcome),
     Ack(SessionId, MsgId),
+}
+
+// A derived drop is written out, field by field, wherever one is dropped; this is a call.
+impl Drop for Event {
+    #[inline(always)]
+    fn drop(self) {
+        match self {
+            Event::Admin(_, _)
+            | Event::Line(_)
+            | Event::Begin(_, _)
+            | Event::Live(_, _)
+            | Event::Mail(_, _, _)
+            | Event::States(_, _, _)
+            | Event::Ideals(_, _)
+            | Event::Dispatch {
+                c: _,
+                epoch: _,
+                pass: _,
+                proposals: _,
+                answer: _,
+            }
+            | Event::Post {
+                c: _,
+                epoch: _,
+                rows: _,
+            }
+            | Event::Fetch {
+                instance: _,
+                session: _,
+                count: _,
+            }
+            | Event::Take(_, _)
+            | Event::Write(_, _, _)
+            | Event::Ack(_, _) => {}
+        }
+    }
 }

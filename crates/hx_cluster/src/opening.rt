@@ -15,9 +15,12 @@ impl Cluster {
     {
         let drained = Vec::from_elem(alloc, false, spec.instances.len() as usize)?;
         let controllers = Vec::from_elem(alloc, (false, PassNo(0)), spec.controllers as usize)?;
+        let resources = spec.resources.clone()?;
+        let models = spec.models.clone()?;
+        let rules = spec.rules.clone()?;
         Ok(Cluster {
             instances: Seq::from_vec(drained),
-            resources: spec.resources.clone()?,
+            resources,
             live: Seq::new(alloc),
             rows: Seq::new(alloc),
             mail: Seq::new(alloc),
@@ -32,8 +35,8 @@ impl Cluster {
             next_session: 1,
             next_msg: 1,
             timeout: spec.timeout,
-            models: spec.models.clone()?,
-            rules: spec.rules.clone()?,
+            models,
+            rules,
             states: spec.states.len(),
             resource_names: spec.resource_names.len(),
         })
