@@ -1,3 +1,4 @@
 pub mod Columns
 pub mod Told
 pub mod Kept
+pub mod Counted

@@ -2,13 +2,15 @@
 ghost use Rattle.std.specs.Prelude.{◌≡◌, ◌+◌, ◌-◌, ◌<◌, ◌≤◌, ◌↔◌, [], ◌∷◌, ◌++◌, length};
 ghost use Rattle.std.specs.Prelude.{slice_get, IsTrue, IsOk, OnOk, OnErr};
 ghost use Rattle.std.specs.Option.{option_map};
+ghost use Rattle.hx_history.specs.Counted.{IsCountedBy};
 ghost use Rattle.hx_history.specs.Told.{event_in};
 
 use crate::briefs::brief_of;
+use crate::counted::{Counted, writes_of};
 use crate::kinds::Kind;
 use crate::told::{Told, tell};
 use crate::walk::Walk;
-use hx_cluster::Event;
+use hx_cluster::{Event, Outcome};
 use hx_lists::Log;
 use std::alloc::{AllocError, Global};
 use std::marker::Model;
@@ -171,6 +173,18 @@ impl Entries {
         let (_, words) = words.split_at(words.len() - kind.words());
         let (_, whole) = whole.split_at(whole.len() - kind.events());
         Some(tell(self.alloc, *kind, words, whole))
+    }
+
+    /// What counts the items: those that are kept as they are, and how many others are writes.
+    pub fn counted(&self) -> Counted<'_>
+        ensures { IsCountedBy self.now.items result.kept.now result.ok result.failed }
+    {
+        let kinds = self.kinds.as_slice();
+        Counted {
+            kept: self.whole.as_slice(),
+            ok: writes_of(Outcome::Ok, kinds),
+            failed: writes_of(Outcome::Failed, kinds),
+        }
     }
 
     /// The items in order.

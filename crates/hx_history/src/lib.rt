@@ -2,11 +2,13 @@
 #![tactic(auto)]
 
 mod briefs;
+mod counted;
 mod entries;
 mod kinds;
 mod told;
 mod walk;
 
+pub use counted::Counted;
 pub use entries::{Entries, History};
 pub use told::Told;
 pub use walk::Walk;
