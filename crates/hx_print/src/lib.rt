@@ -11,7 +11,7 @@ mod roll;
 use hx_cluster::StepFault;
 use hx_ids::{ControllerId, Epoch, MsgId, SessionId, StateId};
 pub use lines::{Rest, Token, print_line, print_long_line, print_word, print_words};
-pub use log::print_event;
+pub use log::{print_event, print_step};
 pub use names::{
     instance_name, mode_name, model_name, name_at, name_of_resource, outcome_name, resource_name,
     state_name, word_name,

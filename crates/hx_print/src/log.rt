@@ -244,8 +244,8 @@ fn print_edit(
     print_long_line(word, &[Token::Part(name, part)], rest, spec, page)
 }
 
-/// Prints a step with what it answered. The roll is the one before it.
-fn print_step(
+/// Prints a step with what it did. The roll is the one before it.
+pub fn print_step(
     step: &Admin,
     did: &Did,
     roll: &Roll,
