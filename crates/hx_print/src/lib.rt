@@ -24,7 +24,7 @@ pub use outcomes::{
 pub use roll::{Roll, instance_in, rolls_follow_clusters, session_in};
 
 /// The next step of a controller's turn.
-#[derive(Clone, Copy, Debug, PartialEq, Eq)]
+#[derive(Clone, Copy)]
 pub enum Word {
     Begin,
     Live,
@@ -36,7 +36,7 @@ pub enum Word {
 }
 
 /// Why a script line, or a part of one, was not done.
-#[derive(Clone, Copy, Debug, PartialEq, Eq)]
+#[derive(Clone, Copy)]
 pub enum Note {
     Step(StepFault),
     /// No resource has the name.

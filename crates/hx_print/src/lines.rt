@@ -13,7 +13,7 @@ use hx_text::Page;
 use std::alloc::AllocError;
 
 /// A word of a line.
-#[derive(Clone, Copy, Debug)]
+#[derive(Clone, Copy)]
 pub enum Token<'a> {
     Text(&'a str),
     Number(u64),
@@ -31,13 +31,38 @@ pub enum Token<'a> {
 }
 
 /// The words at the end of a line, of which there may be any number.
-#[derive(Clone, Copy, Debug)]
+#[derive(Clone, Copy)]
 pub enum Rest<'a> {
     Instances(&'a [InstanceId]),
     /// Instances with states, and a sign between.
     Pairs(&'a str, &'a [(InstanceId, StateId)]),
     /// The instances of those of the shown sessions that are among the holders.
     Holders(&'a [(SessionId, InstanceId)], &'a [SessionId]),
+}
+
+/// Prints a resource by its name and number.
+fn print_resource(name: &str, resource: ResourceId, page: &mut Page) -> Result<(), AllocError>
+    ensures { Prints (Texts.numbered name.now resource) page.old result page.new }
+{
+    page.push_str(name)?;
+    page.push_numbered(b'#', resource.0 as u64)
+}
+
+/// Prints a part by its resource's name, and its numbers.
+fn print_part(name: &str, part: PartId, page: &mut Page) -> Result<(), AllocError>
+    ensures { Prints (Texts.part_of_name name.now part) page.old result page.new }
+{
+    print_resource(name, part.resource, page)?;
+    page.push_numbered(b'/', part.index as u64)
+}
+
+/// Prints two names with a sign between.
+fn print_pair(a: &str, sign: &str, b: &str, page: &mut Page) -> Result<(), AllocError>
+    ensures { Prints (a.now ++ sign.now ++ b.now) page.old result page.new }
+{
+    page.push_str(a)?;
+    page.push_str(sign)?;
+    page.push_str(b)
 }
 
 /// Prints a word.
@@ -52,20 +77,9 @@ fn print_token(word: &Token, page: &mut Page) -> Result<(), AllocError>
         Token::Message(m) => page.push_numbered(b'm', m.0),
         Token::Epoch(e) => page.push_numbered(b'e', e.0),
         Token::Pass(p) => page.push_numbered(b'p', p.0),
-        Token::Resource(name, r) => {
-            page.push_str(name)?;
-            page.push_numbered(b'#', r.0 as u64)
-        }
-        Token::Part(name, p) => {
-            page.push_str(name)?;
-            page.push_numbered(b'#', p.resource.0 as u64)?;
-            page.push_numbered(b'/', p.index as u64)
-        }
-        Token::Pair(a, sign, b) => {
-            page.push_str(a)?;
-            page.push_str(sign)?;
-            page.push_str(b)
-        }
+        Token::Resource(name, r) => print_resource(name, *r, page),
+        Token::Part(name, p) => print_part(name, *p, page),
+        Token::Pair(a, sign, b) => print_pair(a, sign, b, page),
     }
 }
 

@@ -1,7 +1,8 @@
 //! The lines of the log. Each kind of line has a function of its own, since a function clears the
 //! room of all its words when it is called.
-ghost use Rattle.std.specs.Prelude.{◌≡◌, [], ◌∷◌, codes, decimal};
+ghost use Rattle.std.specs.Prelude.{◌≡◌, [], ◌∷◌, ◌++◌, map, codes, decimal};
 ghost use Rattle.std.specs.List.{flat_map};
+ghost use Rattle.hx_cluster.specs.Ends.{session_in};
 ghost use Rattle.hx_text.specs.Texts.{Prints};
 ghost use Rattle.hx_print.specs.Tokens;
 ghost use Rattle.hx_print.specs.Texts;
@@ -12,11 +13,12 @@ use crate::names::{
     state_name, state_or_dash,
 };
 use crate::roll::{Roll, instance_in, session_in};
-use hx_cluster::{Admin, Did, Event, Outcome, Placed, Proposal, Spec};
+use hx_cluster::{Admin, Did, Dispatched, Event, Outcome, Placed, Proposal, Spec};
 use hx_ideal::Ideal;
 use hx_ids::{
-    ControllerId, Epoch, InstanceId, ModelId, MsgId, PartId, PassNo, ResourceId, SessionId,
+    ControllerId, Epoch, InstanceId, ModelId, MsgId, PartId, PassNo, ResourceId, SessionId, StateId,
 };
+use hx_lists::Seq;
 use hx_text::Page;
 use std::alloc::AllocError;
 
@@ -80,6 +82,22 @@ fn print_session(
     }
 }
 
+/// Prints an end or a beat of the session that an instance has in the roll.
+fn print_live_session(
+    word: &str,
+    instance: InstanceId,
+    roll: &Roll,
+    spec: &Spec,
+    page: &mut Page,
+) -> Result<(), AllocError>
+    ensures { Prints
+        (Texts.session_line word.now spec.now instance (session_in roll.now.live instance))
+        page.old result page.new }
+{
+    let session = session_in(roll.live.as_slice(), instance);
+    print_session(word, instance, session, spec, page)
+}
+
 /// Prints a session that a tick ended, with the instance that it had.
 fn print_ended(
     session: SessionId,
@@ -120,14 +138,14 @@ fn print_all_ended(
 fn print_tick(
     n: u64,
     ended: &[SessionId],
-    live: &[(SessionId, InstanceId)],
+    roll: &Roll,
     spec: &Spec,
     page: &mut Page,
 ) -> Result<(), AllocError>
-    ensures { Prints (Texts.tick_text spec.now live.now n ended.now) page.old result page.new }
+    ensures { Prints (Texts.tick_text spec.now roll.now.live n ended.now) page.old result page.new }
 {
     print_line("tick", &[Token::Number(n)], page)?;
-    print_all_ended(ended, live, spec, page)
+    print_all_ended(ended, roll.live.as_slice(), spec, page)
 }
 
 /// Prints an added resource.
@@ -153,22 +171,35 @@ fn print_add(
     print_line("add", &[name, model, replicas, parts, mode], page)
 }
 
+/// The word of a part. The roll has the names of the resources.
+fn part_word<'a>(part: PartId, roll: &Roll, spec: &'a Spec) -> Token<'a>
+    ensures { Tokens.token_word result ≡ Texts.part_in spec.now roll.now.resources part }
+{
+    let name = name_of_resource(spec, roll.resources.as_slice(), part.resource);
+    Token::Part(name, part)
+}
+
 /// Prints a reset.
 fn print_reset(
     instance: InstanceId,
-    session: Option<SessionId>,
     part: PartId,
-    names: &[u32],
+    roll: &Roll,
     spec: &Spec,
     page: &mut Page,
 ) -> Result<(), AllocError>
-    ensures { Prints (Texts.reset_text spec.now names.now instance part session)
+    ensures { Prints
+        (Texts.reset_text spec.now roll.now.resources instance part
+        (session_in roll.now.live instance))
         page.old result page.new }
 {
-    let Some(s) = session else { return Ok(()) };
-    let instance = Token::Text(instance_name(spec, instance));
-    let part = Token::Part(name_of_resource(spec, names, part.resource), part);
-    print_line("reset", &[instance, Token::Session(s), part], page)
+    match session_in(roll.live.as_slice(), instance) {
+        Some(s) => {
+            let instance = Token::Text(instance_name(spec, instance));
+            let part = part_word(part, roll, spec);
+            print_line("reset", &[instance, Token::Session(s), part], page)
+        }
+        None => Ok(()),
+    }
 }
 
 /// Prints a new leader.
@@ -213,16 +244,17 @@ fn print_controller(word: &str, controller: ControllerId, page: &mut Page) -> Re
 /// Prints that a resource was dropped.
 fn print_drop(
     resource: ResourceId,
-    names: &[u32],
+    roll: &Roll,
     spec: &Spec,
     page: &mut Page,
 ) -> Result<(), AllocError>
     ensures { Prints
         (Texts.line_of (codes "drop"
-        ∷ Texts.numbered (Texts.name_of_resource spec.now names.now resource) resource ∷ []))
+        ∷ Texts.numbered (Texts.name_of_resource spec.now roll.now.resources resource) resource
+        ∷ []))
         page.old result page.new }
 {
-    let name = name_of_resource(spec, names, resource);
+    let name = name_of_resource(spec, roll.resources.as_slice(), resource);
     print_line("drop", &[Token::Resource(name, resource)], page)
 }
 
@@ -231,17 +263,48 @@ fn print_edit(
     word: &str,
     part: PartId,
     rest: &Rest,
-    names: &[u32],
+    roll: &Roll,
     spec: &Spec,
     page: &mut Page,
 ) -> Result<(), AllocError>
     ensures { Prints
-        (Texts.line_of (word.now ∷ Texts.part_in spec.now names.now part
+        (Texts.line_of (word.now ∷ Texts.part_in spec.now roll.now.resources part
         ∷ Tokens.rest_words spec.now rest.now))
         page.old result page.new }
 {
-    let name = name_of_resource(spec, names, part.resource);
-    print_long_line(word, &[Token::Part(name, part)], rest, spec, page)
+    print_long_line(word, &[part_word(part, roll, spec)], rest, spec, page)
+}
+
+/// Prints a new list of a part.
+fn print_list(
+    part: PartId,
+    list: &[InstanceId],
+    roll: &Roll,
+    spec: &Spec,
+    page: &mut Page,
+) -> Result<(), AllocError>
+    ensures { Prints
+        (Texts.line_of (codes "list" ∷ Texts.part_in spec.now roll.now.resources part
+        ∷ map (Texts.instance_name spec.now) list.now))
+        page.old result page.new }
+{
+    print_edit("list", part, &Rest::Instances(list), roll, spec, page)
+}
+
+/// Prints a new map of a part.
+fn print_map(
+    part: PartId,
+    entries: &[(InstanceId, StateId)],
+    roll: &Roll,
+    spec: &Spec,
+    page: &mut Page,
+) -> Result<(), AllocError>
+    ensures { Prints
+        (Texts.line_of (codes "map" ∷ Texts.part_in spec.now roll.now.resources part
+        ∷ map (Texts.mapped_name spec.now) entries.now))
+        page.old result page.new }
+{
+    print_edit("map", part, &Rest::Pairs("=", entries), roll, spec, page)
 }
 
 /// Prints a step with what it did. The roll is the one before it.
@@ -254,56 +317,117 @@ pub fn print_step(
 ) -> Result<(), AllocError>
     ensures { Prints (Texts.step_text spec.now roll.now step.now did.now) page.old result page.new }
 {
-    let names = roll.resources.as_slice();
-    let live = roll.live.as_slice();
     match step {
         Admin::Join { instance } => print_session("join", *instance, joined_by(did), spec, page),
-        Admin::End { instance } => {
-            print_session("end", *instance, session_in(live, *instance), spec, page)
-        }
-        Admin::Beat { instance } => {
-            print_session("beat", *instance, session_in(live, *instance), spec, page)
-        }
-        Admin::Tick { n } => print_tick(*n, ended_by_tick(did), live, spec, page),
-        Admin::Drain { instance } => { print_instance("drain", *instance, spec, page) }
-        Admin::Undrain { instance } => { print_instance("undrain", *instance, spec, page) }
+        Admin::End { instance } => print_live_session("end", *instance, roll, spec, page),
+        Admin::Beat { instance } => print_live_session("beat", *instance, roll, spec, page),
+        Admin::Tick { n } => print_tick(*n, ended_by_tick(did), roll, spec, page),
+        Admin::Drain { instance } => print_instance("drain", *instance, spec, page),
+        Admin::Undrain { instance } => print_instance("undrain", *instance, spec, page),
         Admin::Add { name, model, ideal } => {
             print_add(*name, *model, ideal, added_as(did), spec, page)
         }
-        Admin::Drop { resource } => { print_drop(*resource, names, spec, page) }
-        Admin::SetList { part, list } => {
-            print_edit(
-                "list",
-                *part,
-                &Rest::Instances(list.as_slice()),
-                names,
-                spec,
-                page,
-            )
-        }
-        Admin::SetMap { part, map } => {
-            print_edit(
-                "map",
-                *part,
-                &Rest::Pairs("=", map.as_slice()),
-                names,
-                spec,
-                page,
-            )
-        }
-        Admin::Reset { instance, part } => {
-            print_reset(
-                *instance,
-                session_in(live, *instance),
-                *part,
-                names,
-                spec,
-                page,
-            )
-        }
+        Admin::Drop { resource } => print_drop(*resource, roll, spec, page),
+        Admin::SetList { part, list } => print_list(*part, list.as_slice(), roll, spec, page),
+        Admin::SetMap { part, map } => print_map(*part, map.as_slice(), roll, spec, page),
+        Admin::Reset { instance, part } => print_reset(*instance, *part, roll, spec, page),
         Admin::Lead { controller } => print_lead(*controller, leads_in(did), page),
         Admin::Stop { controller } => print_controller("stop", *controller, page),
         Admin::Start { controller } => print_controller("start", *controller, page),
+    }
+}
+
+/// Prints an answer that names a message, with the words of the proposal behind it.
+fn print_with_message(
+    word: &str,
+    message: MsgId,
+    proposed: &[Token],
+    page: &mut Page,
+) -> Result<(), AllocError>
+    ensures { Prints
+        (Texts.line_of (word.now ∷ Texts.message_name message ∷ Tokens.words_of proposed.now))
+        page.old result page.new }
+{
+    print_parted_line(word, &[Token::Message(message)], proposed, page)
+}
+
+/// Prints that a replica has another state, with the words of the proposal behind it.
+fn print_wrong_from(
+    has: Option<StateId>,
+    proposed: &[Token],
+    spec: &Spec,
+    page: &mut Page,
+) -> Result<(), AllocError>
+    ensures { Prints
+        (Texts.line_of
+        (codes "  from" ∷ Texts.or_dash (Texts.state_name spec.now) has
+        ∷ Tokens.words_of proposed.now))
+        page.old result page.new }
+{
+    let has = Token::Text(state_or_dash(spec, has));
+    print_parted_line("  from", &[has], proposed, page)
+}
+
+/// Prints that a bound is reached, with the words of the proposal behind it.
+fn print_over_bound(
+    count: u32,
+    bound: u32,
+    proposed: &[Token],
+    page: &mut Page,
+) -> Result<(), AllocError>
+    ensures { Prints
+        (Texts.line_of
+        (codes "  bound" ∷ decimal count ∷ codes "of" ∷ decimal bound
+        ∷ Tokens.words_of proposed.now))
+        page.old result page.new }
+{
+    let [count, bound] = [Token::Number(count as u64), Token::Number(bound as u64)];
+    let words = [count, Token::Text("of"), bound];
+    print_parted_line("  bound", &words, proposed, page)
+}
+
+/// Prints that a throttle is reached, with the words of the proposal behind it.
+fn print_over_throttle(
+    rule: u32,
+    load: u32,
+    limit: u32,
+    proposed: &[Token],
+    page: &mut Page,
+) -> Result<(), AllocError>
+    ensures { Prints
+        (Texts.line_of
+        (codes "  throttle" ∷ decimal rule ∷ decimal load ∷ codes "of" ∷ decimal limit
+        ∷ Tokens.words_of proposed.now))
+        page.old result page.new }
+{
+    let rule = Token::Number(rule as u64);
+    let [load, limit] = [Token::Number(load as u64), Token::Number(limit as u64)];
+    let words = [rule, load, Token::Text("of"), limit];
+    print_parted_line("  throttle", &words, proposed, page)
+}
+
+/// Prints the answer to a proposal, with the words of the proposal behind it.
+fn print_answer(
+    answer: Placed,
+    proposed: &[Token],
+    spec: &Spec,
+    page: &mut Page,
+) -> Result<(), AllocError>
+    ensures { Prints
+        (Texts.line_of (Texts.placed_words spec.now answer ++ Tokens.words_of proposed.now))
+        page.old result page.new }
+{
+    match answer {
+        Placed::Sent(m) => print_with_message("  sent", m, proposed, page),
+        Placed::Ended => print_line("  ended", proposed, page),
+        Placed::ResourceDropped => print_line("  dropped", proposed, page),
+        Placed::Busy { id } => print_with_message("  busy", id, proposed, page),
+        Placed::WrongFrom { has } => print_wrong_from(has, proposed, spec, page),
+        Placed::Illegal => print_line("  illegal", proposed, page),
+        Placed::OverBound { count, bound } => print_over_bound(count, bound, proposed, page),
+        Placed::OverThrottle { rule, load, limit } => {
+            print_over_throttle(rule, load, limit, proposed, page)
+        }
     }
 }
 
@@ -324,37 +448,7 @@ fn print_placed(
     let from = state_name(spec, proposal.from);
     let to = state_name(spec, proposal.to);
     let change = Token::Pair(from, ">", to);
-    let proposed = [session, part, change];
-    match answer {
-        Placed::Sent(m) => print_parted_line("  sent", &[Token::Message(m)], &proposed, page),
-        Placed::Ended => print_parted_line("  ended", &[], &proposed, page),
-        Placed::ResourceDropped => print_parted_line("  dropped", &[], &proposed, page),
-        Placed::Busy { id } => print_parted_line("  busy", &[Token::Message(id)], &proposed, page),
-        Placed::WrongFrom { has } => {
-            let has = Token::Text(state_or_dash(spec, has));
-            print_parted_line("  from", &[has], &proposed, page)
-        }
-        Placed::Illegal => print_parted_line("  illegal", &[], &proposed, page),
-        Placed::OverBound { count, bound } => {
-            let [count, bound] = [Token::Number(count as u64), Token::Number(bound as u64)];
-            print_parted_line(
-                "  bound",
-                &[count, Token::Text("of"), bound],
-                &proposed,
-                page,
-            )
-        }
-        Placed::OverThrottle { rule, load, limit } => {
-            let rule = Token::Number(rule as u64);
-            let [load, limit] = [Token::Number(load as u64), Token::Number(limit as u64)];
-            print_parted_line(
-                "  throttle",
-                &[rule, load, Token::Text("of"), limit],
-                &proposed,
-                page,
-            )
-        }
-    }
+    print_answer(answer, &[session, part, change], spec, page)
 }
 
 /// Prints what became of all proposals of a dispatch.
@@ -375,6 +469,28 @@ fn print_all_placed(
         print_placed(proposal, *answer, names, spec, page)?;
     }
     Ok(())
+}
+
+/// Prints what a dispatch answered. The roll is the one before it.
+fn print_answered(
+    proposals: &Seq<Proposal>,
+    answer: &Dispatched,
+    roll: &Roll,
+    spec: &Spec,
+    page: &mut Page,
+) -> Result<(), AllocError>
+    ensures { Prints
+        (Texts.placed_lines spec.now roll.now.resources proposals.now answer.now.placed)
+        page.old result page.new }
+{
+    let names = roll.resources.as_slice();
+    print_all_placed(
+        proposals.as_slice(),
+        answer.placed.as_slice(),
+        names,
+        spec,
+        page,
+    )
 }
 
 /// Prints that a line of the script begins.
@@ -538,14 +654,7 @@ pub fn print_event(
             answer,
         } => {
             print_turn("send", *c, *epoch, *pass, page)?;
-            let names = roll.resources.as_slice();
-            print_all_placed(
-                proposals.as_slice(),
-                answer.placed.as_slice(),
-                names,
-                spec,
-                page,
-            )
+            print_answered(proposals, answer, roll, spec, page)
         }
         Event::Post { c, epoch, rows } => print_post(*c, *epoch, rows.len(), page),
         Event::Fetch {

@@ -7,5 +7,4 @@ returns-in_err-print_turn-in-Dispatch c =
 
 pub returns-in_ok-print_turn-in-Dispatch : goal.returns-in_ok-print_turn-in-Dispatch
 returns-in_ok-print_turn-in-Dispatch c =
-    let placed = rw (c.as_slice-names.ensures, c.as_slice.ensures, c.as_slice-in-Dispatch.ensures) at c.print_all_placed.ensures in
-    rw c.in-Dispatch.is (prints_then _ _ _ _ _ c.print_all_placed.result c.in_ok-print_turn-in-Dispatch.ensures.ok placed)
+    rw c.in-Dispatch.is (prints_then _ _ _ _ _ c.print_answered.result c.in_ok-print_turn-in-Dispatch.ensures.ok c.print_answered.ensures)

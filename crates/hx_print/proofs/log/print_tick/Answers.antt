@@ -6,4 +6,4 @@ returns-in_err-print_line c =
     prints_err _ _ _ _ c.from_residual.result c.from_residual.ensures.1 (puts_first _ _ _ _ c.in_err-print_line.ensures.err)
 
 pub returns : goal.returns
-returns c = prints_then _ _ _ _ _ c.print_all_ended.result c.in_ok-print_line.ensures.ok c.print_all_ended.ensures
+returns c = prints_then _ _ _ _ _ c.print_all_ended.result c.in_ok-print_line.ensures.ok (rw c.as_slice.ensures at c.print_all_ended.ensures)
