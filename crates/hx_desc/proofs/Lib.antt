@@ -11,3 +11,4 @@ pub mod Few
 pub mod Room
 pub mod Sorting
 pub mod Whole
+pub mod Stopped

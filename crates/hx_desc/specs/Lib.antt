@@ -3,3 +3,4 @@ pub mod ResourceForm
 pub mod FailureForm
 pub mod Demo
 pub mod Description
+pub mod Steps

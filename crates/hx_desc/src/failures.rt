@@ -1,9 +1,10 @@
 //! Failures to come.
-ghost use Rattle.std.specs.Prelude.{◌≡◌, [], codes};
+ghost use Rattle.std.specs.Prelude.{◌≡◌, List, [], ◌∷◌, ◌++◌, codes};
 ghost use Rattle.serde_json.specs.View.{view};
+ghost use Rattle.hx_cluster.specs.declared.description.Failure.{Failure};
 ghost use Rattle.hx_forms.specs.Found.{optional};
 ghost use Rattle.hx_forms.specs.Members.{members_of};
-ghost use Rattle.hx_forms.specs.Reading.{Reads};
+ghost use Rattle.hx_forms.specs.Reading.{Reads, at_ok};
 ghost use Rattle.hx_desc.specs.FailureForm as Spec;
 
 use crate::limits::{MOST_FAILURES, TURNS};
@@ -103,6 +104,28 @@ fn failed_turn(alloc: Global, object: &Object) -> Result<(bool, u32), DescRefusa
 /// The members of a failure.
 const FAILURE_KEYS: [&str; 5] = ["instance", "resource", "part", "run", "make"];
 
+/// One failure, over the instances and the resources. It goes behind any others.
+fn failure(
+    alloc: Global,
+    instances: &Names,
+    table: &ResourceTable,
+    value: &Value,
+) -> Result<Failure, DescRefusal>
+    ensures { (before : List Failure) → Reads (at_ok (λ failure. before ++ failure ∷ []) result)
+        (Spec.failure_in instances.now table.now before (view value.now)) }
+{
+    let object = Object::read(alloc, &FAILURE_KEYS, value)?;
+    let instance = object.required("instance", InstanceForm { instances })?;
+    let part = failed_part(&object, table)?;
+    let turn = failed_turn(alloc, &object)?;
+    Ok(Failure {
+        instance,
+        part,
+        make: turn.0,
+        number: turn.1,
+    })
+}
+
 /// A failure, or all of them, over the instances and the resources.
 #[derive(Clone, Copy)]
 struct FailureForm<'a> {
@@ -122,17 +145,8 @@ impl ItemForm for FailureForm<'_> {
         mut failures: Seq<Failure>,
         value: &Value,
     ) -> Result<Seq<Failure>, DescRefusal> {
-        let instances = self.instances;
-        let object = Object::read(alloc, &FAILURE_KEYS, value)?;
-        let instance = object.required("instance", InstanceForm { instances })?;
-        let part = failed_part(&object, self.table)?;
-        let (make, number) = failed_turn(alloc, &object)?;
-        failures.push(Failure {
-            instance,
-            part,
-            make,
-            number,
-        })?;
+        let failure = failure(alloc, self.instances, self.table, value)?;
+        failures.push(failure)?;
         Ok(failures)
     }
 }

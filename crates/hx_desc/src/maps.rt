@@ -1,7 +1,7 @@
 //! Maps from instances to states.
-ghost use Rattle.std.specs.Prelude.{◌≡◌};
+ghost use Rattle.std.specs.Prelude.{◌≡◌, [], ◌∷◌, ◌++◌};
 ghost use Rattle.serde_json.specs.View.{view};
-ghost use Rattle.hx_forms.specs.Reading.{Reads};
+ghost use Rattle.hx_forms.specs.Reading.{Reads, at_ok};
 ghost use Rattle.hx_desc.specs.ResourceForm as Spec;
 
 use crate::each_part::in_order;
@@ -81,6 +81,29 @@ pub(crate) struct MapForm<'a> {
     pub(crate) model: &'a Model,
 }
 
+/// One entry of a map that has these so far.
+fn entry(
+    alloc: Global,
+    map: MapForm,
+    entries: &[(InstanceId, StateId)],
+    value: &Value,
+) -> Result<(InstanceId, StateId), DescRefusal>
+    ensures { let over = map.entry in
+        Reads (at_ok (λ entry. entries.now ++ entry ∷ []) result)
+        (Spec.entry_in over.instances.now over.names.now over.model.now entries.now
+        (view value.now)) }
+{
+    let instances = map.instances;
+    let object = Object::read(alloc, &["instance", "state"], value)?;
+    let instance = object.required("instance", NextInstance { instances, entries })?;
+    let state = StateInModel {
+        names: map.names,
+        model: map.model,
+    };
+    let state = object.required("state", state)?;
+    Ok((instance, state))
+}
+
 /// An entry of a map: a state on an instance.
 #[derive(Clone, Copy)]
 struct EntryForm<'a> {
@@ -99,18 +122,8 @@ impl ItemForm for EntryForm<'_> {
         mut entries: Seq<(InstanceId, StateId)>,
         value: &Value,
     ) -> Result<Seq<(InstanceId, StateId)>, DescRefusal> {
-        let object = Object::read(alloc, &["instance", "state"], value)?;
-        let next = NextInstance {
-            instances: self.map.instances,
-            entries: entries.as_slice(),
-        };
-        let instance = object.required("instance", next)?;
-        let state = StateInModel {
-            names: self.map.names,
-            model: self.map.model,
-        };
-        let state = object.required("state", state)?;
-        entries.push((instance, state))?;
+        let entry = entry(alloc, self.map, entries.as_slice(), value)?;
+        entries.push(entry)?;
         Ok(entries)
     }
 }

@@ -1,11 +1,18 @@
 //! Whole descriptions.
-ghost use Rattle.std.specs.Prelude.{◌≡◌, IfOk};
+ghost use Rattle.std.specs.Prelude.{◌≡◌, ◌-◌, ◌^◌, IfOk, List, Ok, codes};
 ghost use Rattle.serde_json.specs.View.{view};
-ghost use Rattle.hx_forms.specs.declared.faults.DescKind.TheVariants.{BadJson};
-ghost use Rattle.hx_forms.specs.Found.{there_or};
-ghost use Rattle.hx_forms.specs.Reading.{Reads, at_ok};
-ghost use Rattle.hx_desc.specs.Description as Desc;
+ghost use Rattle.hx_cluster.specs.declared.description.Failure.{Failure};
+ghost use Rattle.hx_cluster.specs.declared.description.Rule.{Rule};
+ghost use Rattle.hx_cluster.specs.declared.description.Spec.{Spec};
 ghost use Rattle.hx_cluster.specs.Valid.{IsValid};
+ghost use Rattle.hx_forms.specs.declared.faults.DescKind.TheVariants.{BadJson};
+ghost use Rattle.hx_forms.specs.Found.{there_or, object_in, required, optional, number_in};
+ghost use Rattle.hx_forms.specs.Members.{members_of};
+ghost use Rattle.hx_forms.specs.Reading.{Reads, at_ok};
+ghost use Rattle.hx_model_forms.specs.Tables.{AreFew};
+ghost use Rattle.hx_desc.specs.declared.tables.ResourceTable.{ResourceTable};
+ghost use Rattle.hx_desc.specs.Description as Desc;
+ghost use Rattle.hx_desc.specs.Steps.{over_in};
 
 use crate::demo::demo;
 use crate::failures::failures;
@@ -13,9 +20,12 @@ use crate::instances::InstancesForm;
 use crate::limits::{CONTROLLERS, DEFAULT_CONTROLLERS, DEFAULT_TIMEOUT, TIMEOUT, VERSION};
 use crate::resources::resources;
 use crate::rules::rules;
-use hx_cluster::Spec;
+use crate::tables::ResourceTable;
+use hx_cluster::{Failure, Rule, Spec};
 use hx_forms::{DescKind, DescRefusal, Object, fault};
-use hx_model_forms::read_models;
+use hx_ids::Names;
+use hx_lists::Seq;
+use hx_model_forms::{ModelTable, read_models};
 use hx_text::cut;
 use serde_json::Value;
 use std::alloc::Global;
@@ -32,6 +42,59 @@ const KEYS: [&str; 8] = [
     "failures",
 ];
 
+/// The rules, the resources and the failures of a description, over its instances and models, for
+/// whatever whole is made of them.
+fn read_over(
+    alloc: Global,
+    object: &Object,
+    instances: &Names,
+    models: &ModelTable,
+) -> Result<(Seq<Rule>, ResourceTable, Seq<Failure>), DescRefusal>
+    requires { AreFew models.now }
+    ensures { (whole : List Rule → ResourceTable → List Failure → Spec) → Reads
+        (at_ok (λ over. whole over.0 over.1 over.2) result)
+        (over_in instances.now models.now whole (members_of object.now)) }
+{
+    let rules = rules(alloc, object, &models.states)?;
+    let table = resources(alloc, object, instances, models)?;
+    let failures = failures(alloc, object, instances, &table)?;
+    Ok((rules, table, failures))
+}
+
+/// What a JSON value describes whose members are read up to the timeout.
+fn describe_rest(
+    alloc: Global,
+    value: &Value,
+    object: &Object,
+    controllers: u8,
+    timeout: u64,
+) -> Result<Spec, DescRefusal>
+    requires object { object_in Desc.keys (view value.now) ≡ Ok (members_of object.now) }
+    requires version { required (codes "version") (number_in 1 1) (members_of object.now) ≡ Ok 1 }
+    requires controllers { optional (codes "controllers") 1 (number_in 1 16)
+        (members_of object.now) ≡ Ok controllers }
+    requires timeout { optional (codes "timeout") 30 (number_in 1 (2 ^ 64 - 1))
+        (members_of object.now) ≡ Ok timeout }
+    ensures { Reads result (Desc.described (view value.now)) }
+{
+    let instances = object.required("instances", InstancesForm)?;
+    let models = read_models(alloc, object)?;
+    let over = read_over(alloc, object, &instances, &models)?;
+    let (rules, table, failures) = over;
+    Ok(Spec {
+        instances,
+        states: models.states,
+        resource_names: table.names,
+        model_names: models.names,
+        models: models.models,
+        controllers,
+        timeout,
+        rules,
+        resources: table.resources,
+        failures,
+    })
+}
+
 /// What a JSON value describes.
 fn describe(alloc: Global, value: &Value) -> Result<Spec, DescRefusal>
     ensures { Reads result (Desc.described (view value.now)) }
@@ -40,23 +103,7 @@ fn describe(alloc: Global, value: &Value) -> Result<Spec, DescRefusal>
     object.required("version", VERSION)?;
     let controllers = object.optional("controllers", DEFAULT_CONTROLLERS, CONTROLLERS)?;
     let timeout = object.optional("timeout", DEFAULT_TIMEOUT, TIMEOUT)?;
-    let instances = object.required("instances", InstancesForm)?;
-    let models = read_models(alloc, &object)?;
-    let rules = rules(alloc, &object, &models.states)?;
-    let table = resources(alloc, &object, &instances, &models)?;
-    let failures = failures(alloc, &object, &instances, &table)?;
-    Ok(Spec {
-        instances,
-        states: models.states,
-        resource_names: table.names,
-        model_names: models.names,
-        models: models.models,
-        controllers: controllers as u8,
-        timeout,
-        rules,
-        resources: table.resources,
-        failures,
-    })
+    describe_rest(alloc, value, &object, controllers as u8, timeout)
 }
 
 /// The JSON value of some bytes.

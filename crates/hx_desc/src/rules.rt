@@ -1,10 +1,13 @@
 //! Throttle rules.
-ghost use Rattle.std.specs.Prelude.{◌≡◌, ◌≤◌, [], length, codes};
+ghost use Rattle.std.specs.Prelude.{◌≡◌, ◌≤◌, List, [], ◌∷◌, ◌++◌, length, Option, codes};
 ghost use Rattle.serde_json.specs.View.{view};
+ghost use Rattle.hx_ids.specs.declared.StateId.{StateId};
+ghost use Rattle.hx_cluster.specs.declared.description.Rule.{Rule};
 ghost use Rattle.hx_forms.specs.Found.{optional};
 ghost use Rattle.hx_forms.specs.Members.{members_of};
-ghost use Rattle.hx_forms.specs.Reading.{Reads};
+ghost use Rattle.hx_forms.specs.Reading.{Reads, at_ok};
 ghost use Rattle.hx_desc.specs.RuleForm as Spec;
+ghost use Rattle.hx_desc.specs.Steps.{transition_in};
 
 use crate::limits::{LIMIT, MOST_RULES};
 use hx_cluster::{Rule, Scope};
@@ -80,6 +83,50 @@ fn transition(
     }
 }
 
+/// The transition that a rule counts, by its ends, for whatever whole is made of it.
+fn read_transition(
+    alloc: Global,
+    object: &Object,
+    states: &Names,
+) -> Result<Option<(StateId, StateId)>, DescRefusal>
+    requires { length states.now ≤ 256 }
+    ensures { (whole : Option (StateId × StateId) → List Rule) →
+        Reads (at_ok whole result) (transition_in states.now whole (members_of object.now)) }
+{
+    let from = EndForm {
+        states,
+        never: DROPPED,
+    };
+    let from = object.optional("from", None, from)?;
+    let to = EndForm {
+        states,
+        never: ERROR,
+    };
+    let to = object.optional("to", None, to)?;
+    let transition = transition(alloc, from, to)?;
+    Ok(transition)
+}
+
+/// The members of a rule.
+const RULE_KEYS: [&str; 4] = ["scope", "limit", "from", "to"];
+
+/// One rule, over the names of all states. It goes behind any others.
+fn rule(alloc: Global, states: &Names, value: &Value) -> Result<Rule, DescRefusal>
+    requires { length states.now ≤ 256 }
+    ensures { (before : List Rule) → Reads (at_ok (λ rule. before ++ rule ∷ []) result)
+        (Spec.rule_in states.now before (view value.now)) }
+{
+    let object = Object::read(alloc, &RULE_KEYS, value)?;
+    let scope = object.required("scope", ScopeForm)?;
+    let limit = object.required("limit", LIMIT)?;
+    let transition = read_transition(alloc, &object, states)?;
+    Ok(Rule {
+        scope,
+        transition,
+        limit,
+    })
+}
+
 /// A rule, or all of them, over the names of all states.
 #[derive(Clone, Copy)]
 struct RuleForm<'a> {
@@ -98,26 +145,8 @@ impl ItemForm for RuleForm<'_> {
         mut rules: Seq<Rule>,
         value: &Value,
     ) -> Result<Seq<Rule>, DescRefusal> {
-        let states = self.states;
-        let object = Object::read(alloc, &["scope", "limit", "from", "to"], value)?;
-        let scope = object.required("scope", ScopeForm)?;
-        let limit = object.required("limit", LIMIT)?;
-        let from = EndForm {
-            states,
-            never: DROPPED,
-        };
-        let from = object.optional("from", None, from)?;
-        let to = EndForm {
-            states,
-            never: ERROR,
-        };
-        let to = object.optional("to", None, to)?;
-        let transition = transition(alloc, from, to)?;
-        rules.push(Rule {
-            scope,
-            transition,
-            limit,
-        })?;
+        let rule = rule(alloc, self.states, value)?;
+        rules.push(rule)?;
         Ok(rules)
     }
 }

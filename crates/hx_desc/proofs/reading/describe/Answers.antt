@@ -1,4 +1,5 @@
 use Rattle.hx_forms.proofs.Chains.{reads_behind, reads_stopped}
+use Rattle.hx_desc.proofs.Room.{only_one}
 use Rattle.hx_desc.proofs.reading.describe.Goals as goal
 
 pub returns-in_err-object : goal.returns-in_err-object
@@ -23,52 +24,6 @@ returns-in_err-timeout c =
     (reads_behind _ _ _ _ c.in_ok-controllers.ensures.read
     (reads_stopped _ _ _ _ c.from_residual-in_err-timeout.ensures.1 c.in_err-timeout.ensures.read)))
 
-pub returns-in_err-instances : goal.returns-in_err-instances
-returns-in_err-instances c =
-    reads_behind _ _ _ _ c.in_ok-object.ensures
-    (reads_behind _ _ _ _ c.in_ok-required.ensures.read
-    (reads_behind _ _ _ _ c.in_ok-controllers.ensures.read
-    (reads_behind _ _ _ _ c.in_ok-timeout.ensures.read
-    (reads_stopped _ _ _ _ c.from_residual-in_err-instances.ensures.1 c.in_err-instances.ensures.read))))
-
-pub returns-in_err-models : goal.returns-in_err-models
-returns-in_err-models c =
-    reads_behind _ _ _ _ c.in_ok-object.ensures
-    (reads_behind _ _ _ _ c.in_ok-required.ensures.read
-    (reads_behind _ _ _ _ c.in_ok-controllers.ensures.read
-    (reads_behind _ _ _ _ c.in_ok-timeout.ensures.read
-    (reads_behind _ _ _ _ c.in_ok-instances.ensures.read
-    (reads_stopped _ _ _ _ c.from_residual-in_err-models.ensures.1 c.in_err-models.ensures.read)))))
-
-pub returns-in_err-rules : goal.returns-in_err-rules
-returns-in_err-rules c =
-    reads_behind _ _ _ _ c.in_ok-object.ensures
-    (reads_behind _ _ _ _ c.in_ok-required.ensures.read
-    (reads_behind _ _ _ _ c.in_ok-controllers.ensures.read
-    (reads_behind _ _ _ _ c.in_ok-timeout.ensures.read
-    (reads_behind _ _ _ _ c.in_ok-instances.ensures.read
-    (reads_behind _ _ _ _ c.in_ok-models.ensures.read
-    (reads_stopped _ _ _ _ c.from_residual-in_err-rules.ensures.1 c.in_err-rules.ensures))))))
-
-pub returns-in_err-table : goal.returns-in_err-table
-returns-in_err-table c =
-    reads_behind _ _ _ _ c.in_ok-object.ensures
-    (reads_behind _ _ _ _ c.in_ok-required.ensures.read
-    (reads_behind _ _ _ _ c.in_ok-controllers.ensures.read
-    (reads_behind _ _ _ _ c.in_ok-timeout.ensures.read
-    (reads_behind _ _ _ _ c.in_ok-instances.ensures.read
-    (reads_behind _ _ _ _ c.in_ok-models.ensures.read
-    (reads_behind _ _ _ _ c.in_ok-rules.ensures
-    (reads_stopped _ _ _ _ c.from_residual-in_err-table.ensures.1 c.in_err-table.ensures)))))))
-
-pub returns-in_err-failures : goal.returns-in_err-failures
-returns-in_err-failures c =
-    reads_behind _ _ _ _ c.in_ok-object.ensures
-    (reads_behind _ _ _ _ c.in_ok-required.ensures.read
-    (reads_behind _ _ _ _ c.in_ok-controllers.ensures.read
-    (reads_behind _ _ _ _ c.in_ok-timeout.ensures.read
-    (reads_behind _ _ _ _ c.in_ok-instances.ensures.read
-    (reads_behind _ _ _ _ c.in_ok-models.ensures.read
-    (reads_behind _ _ _ _ c.in_ok-rules.ensures
-    (reads_behind _ _ _ _ c.in_ok-table.ensures
-    (reads_stopped _ _ _ _ c.from_residual-in_err-failures.ensures.1 c.in_err-failures.ensures))))))))
+pub describe_rest-requires-clause-version : goal.describe_rest-requires-clause-version
+describe_rest-requires-clause-version c =
+    rw (only_one _ c.in_ok-required.ensures.known.0 c.in_ok-required.ensures.known.1) at c.in_ok-required.ensures.read
