@@ -13,5 +13,6 @@ pub mod PlainWords
 pub mod RangesGiven
 pub mod Scripts
 pub mod Shapes
+pub mod Shown
 pub mod TextsAgain
 pub mod WordsAgain

@@ -1,7 +1,7 @@
 -- Words that a pattern took apart, as the list of their texts.
 use Rattle.std.proofs.Common.{◌≡◌, ℕ, ◌<◌, ◌≤◌, List, [], ◌∷◌, Bor, length, map, get_or, drop, Err, ◌⊎◌, inl, inr, refl, arith}
 use Rattle.hx_script.specs.declared.faults.ScriptKind.TheVariants.{WordCount}
-use Rattle.hx_script.specs.Grammar.{three_words}
+use Rattle.hx_script.specs.Grammar.{two_words, three_words, five_words}
 
 -- the text at a place, and the empty one past the end
 abbrev pub text_at : List (Bor (List ℕ)) → ℕ → List ℕ
@@ -39,10 +39,25 @@ words_2_and_more [] least = absurd (omega arith)
 words_2_and_more (a ∷ []) least = absurd (omega arith)
 words_2_and_more (a ∷ b ∷ ws) least = refl
 
--- fewer than three words, or more
+-- fewer words than are asked for, or more
+pub not_two : (ws : List (Bor (List ℕ))) → (length ws < 2) ⊎ (3 ≤ length ws) → two_words (map (λ w. w.now) ws) ≡ Err WordCount
+not_two [] other = refl
+not_two (a ∷ []) other = refl
+not_two (a ∷ b ∷ []) other = absurd (elim other [ inl less ↦ omega arith | inr more ↦ omega arith ])
+not_two (a ∷ b ∷ c ∷ ws) other = refl
+
 pub not_three : (ws : List (Bor (List ℕ))) → (length ws < 3) ⊎ (4 ≤ length ws) → three_words (map (λ w. w.now) ws) ≡ Err WordCount
 not_three [] other = refl
 not_three (a ∷ []) other = refl
 not_three (a ∷ b ∷ []) other = refl
 not_three (a ∷ b ∷ c ∷ []) other = absurd (elim other [ inl less ↦ omega arith | inr more ↦ omega arith ])
 not_three (a ∷ b ∷ c ∷ d ∷ ws) other = refl
+
+pub not_five : (ws : List (Bor (List ℕ))) → (length ws < 5) ⊎ (6 ≤ length ws) → five_words (map (λ w. w.now) ws) ≡ Err WordCount
+not_five [] other = refl
+not_five (a ∷ []) other = refl
+not_five (a ∷ b ∷ []) other = refl
+not_five (a ∷ b ∷ c ∷ []) other = refl
+not_five (a ∷ b ∷ c ∷ d ∷ []) other = refl
+not_five (a ∷ b ∷ c ∷ d ∷ e ∷ []) other = absurd (elim other [ inl less ↦ omega arith | inr more ↦ omega arith ])
+not_five (a ∷ b ∷ c ∷ d ∷ e ∷ f ∷ ws) other = refl

@@ -15,6 +15,44 @@ use hx_ids::{ControllerId, InstanceId, MsgId, StateId};
 use hx_lists::Seq;
 use std::alloc::{AllocError, Global};
 
+/// Two words, and no more.
+#[tactic(auto, using(crate::proofs::Shapes::words_2))]
+pub fn two_words<'a>(words: &[&'a str]) -> Result<(&'a str, &'a str), ScriptKind>
+    ensures { Grammar.map_ok (λ t. (t.0.now, t.1.now)) result
+        ≡ Grammar.two_words (map (λ w. w.now) words.now) }
+{
+    match words {
+        [a, b] => Ok((a, b)),
+        _ => Err(ScriptKind::WordCount),
+    }
+}
+
+/// Three words, and no more.
+#[tactic(auto, using(crate::proofs::Shapes::words_3))]
+pub fn three_words<'a>(words: &[&'a str]) -> Result<(&'a str, &'a str, &'a str), ScriptKind>
+    ensures { Grammar.map_ok (λ t. (t.0.now, t.1.now, t.2.now)) result
+        ≡ Grammar.three_words (map (λ w. w.now) words.now) }
+{
+    match words {
+        [a, b, c] => Ok((a, b, c)),
+        _ => Err(ScriptKind::WordCount),
+    }
+}
+
+/// Five words, and no more.
+#[tactic(auto, using(crate::proofs::Shapes::words_5))]
+pub fn five_words<'a>(
+    words: &[&'a str],
+) -> Result<(&'a str, &'a str, &'a str, &'a str, &'a str), ScriptKind>
+    ensures { Grammar.map_ok (λ t. (t.0.now, t.1.now, t.2.now, t.3.now, t.4.now)) result
+        ≡ Grammar.five_words (map (λ w. w.now) words.now) }
+{
+    match words {
+        [a, b, c, d, e] => Ok((a, b, c, d, e)),
+        _ => Err(ScriptKind::WordCount),
+    }
+}
+
 /// An instance.
 #[tactic(auto, using(crate::proofs::Shapes::words_1))]
 pub fn instance_alone(spec: &Spec, words: &[&str]) -> Result<InstanceId, ScriptKind>
@@ -37,13 +75,10 @@ pub fn controller_alone(spec: &Spec, words: &[&str]) -> Result<ControllerId, Scr
 }
 
 /// An instance and a message.
-#[tactic(auto, using(crate::proofs::Shapes::words_2))]
 fn instance_and_message(spec: &Spec, words: &[&str]) -> Result<(InstanceId, MsgId), ScriptKind>
     ensures { result ≡ Grammar.instance_and_message spec.now (map (λ w. w.now) words.now) }
 {
-    let [instance, message] = words else {
-        return Err(ScriptKind::WordCount);
-    };
+    let (instance, message) = two_words(words)?;
     Ok((instance_word(spec, instance)?, message_word(message)?))
 }
 
@@ -56,14 +91,11 @@ fn tick_line(words: &[&str]) -> Result<What, ScriptKind>
     Ok(What::Tick(number_word(0, u64::MAX, ticks)?))
 }
 
-#[tactic(auto, using(crate::proofs::Shapes::words_5))]
 fn add_line(spec: &Spec, words: &[&str]) -> Result<What, ScriptKind>
     requires { length spec.now.model_names ≤ 256 }
     ensures { result ≡ Grammar.add_line spec.now (map (λ w. w.now) words.now) }
 {
-    let [name, model, replicas, parts, mode] = words else {
-        return Err(ScriptKind::WordCount);
-    };
+    let (name, model, replicas, parts, mode) = five_words(words)?;
     Ok(What::Add {
         name: name_word(spec, name)?,
         model: model_word(spec, model)?,
@@ -83,13 +115,10 @@ fn drop_line(spec: &Spec, words: &[&str]) -> Result<What, ScriptKind>
     Ok(What::Drop(resource_word(spec, name)?))
 }
 
-#[tactic(auto, using(crate::proofs::Shapes::words_3))]
 fn reset_line(spec: &Spec, words: &[&str]) -> Result<What, ScriptKind>
     ensures { result ≡ Grammar.reset_line spec.now (map (λ w. w.now) words.now) }
 {
-    let [instance, name, part] = words else {
-        return Err(ScriptKind::WordCount);
-    };
+    let (instance, name, part) = three_words(words)?;
     let instance = instance_word(spec, instance)?;
     let (name, part) = part_words(spec, name, part)?;
     Ok(What::Reset {
@@ -99,25 +128,19 @@ fn reset_line(spec: &Spec, words: &[&str]) -> Result<What, ScriptKind>
     })
 }
 
-#[tactic(auto, using(crate::proofs::Shapes::words_2))]
 fn read_line(spec: &Spec, words: &[&str]) -> Result<What, ScriptKind>
     ensures { result ≡ Grammar.read_line spec.now (map (λ w. w.now) words.now) }
 {
-    let [controller, kind] = words else {
-        return Err(ScriptKind::WordCount);
-    };
+    let (controller, kind) = two_words(words)?;
     let controller = controller_word(spec, controller)?;
     Ok(What::Read(controller, read_kind_word(kind)?))
 }
 
-#[tactic(auto, using(crate::proofs::Shapes::words_3))]
 fn route_line(spec: &Spec, words: &[&str]) -> Result<What, ScriptKind>
     requires { length spec.now.states ≤ 256 }
     ensures { result ≡ Grammar.route_line spec.now (map (λ w. w.now) words.now) }
 {
-    let [name, part, state] = words else {
-        return Err(ScriptKind::WordCount);
-    };
+    let (name, part, state) = three_words(words)?;
     let (name, part) = part_words(spec, name, part)?;
     let state = state_word(spec, state)?;
     Ok(What::Route { name, part, state })

@@ -12,7 +12,10 @@ mod verbs;
 mod words;
 
 pub use faults::{ScriptFault, ScriptKind, ScriptRefusal};
-pub use forms::{controller_alone, instance_alone, instance_words, pair_words};
+pub use forms::{
+    controller_alone, five_words, instance_alone, instance_words, pair_words, three_words,
+    two_words,
+};
 pub use history::{Printer, logs_grow_by_entries, print_history};
 use hx_ids::{ControllerId, InstanceId, ModelId, MsgId, StateId};
 use hx_lists::Seq;

@@ -1,5 +1,5 @@
 //! Script lines, printed.
-ghost use Rattle.std.specs.Prelude.{◌≡◌, ℕ, List, [], ◌∷◌, decimal, Ok, true};
+ghost use Rattle.std.specs.Prelude.{◌≡◌, ℕ, List, [], ◌∷◌, drop, decimal, Ok, true};
 ghost use Rattle.std.specs.List.{AllByRecursion};
 ghost use Rattle.hx_text.specs.Texts.{Prints};
 ghost use Rattle.hx_print.specs.Texts;
@@ -8,6 +8,7 @@ ghost use Rattle.hx_cluster.specs.declared.description.Spec.{Spec};
 ghost use Rattle.hx_script.specs.declared.Line.{Line};
 ghost use Rattle.hx_script.specs.declared.What.{What};
 ghost use Rattle.hx_script.specs.declared.What.TheVariants as asks;
+ghost use Rattle.hx_script.specs.declared.verbs.Verb.TheVariants as verbs;
 ghost use Rattle.hx_script.specs.Grammar.{verb_name, script_of};
 ghost use Rattle.hx_script.specs.LineTexts;
 
@@ -16,6 +17,7 @@ use crate::verbs::Verb;
 use crate::{Line, ReadKind, What};
 use hx_cluster::Spec;
 use hx_ids::{ControllerId, InstanceId, ModelId, MsgId, StateId};
+use hx_lists::Seq;
 use hx_print::{
     Rest, Token, instance_name, model_name, name_at, print_line as print_short_line,
     print_long_line, state_name,
@@ -43,6 +45,21 @@ fn read_kind_text(kind: ReadKind) -> &'static str
         ReadKind::States => "states",
         ReadKind::Ideals => "ideals",
     }
+}
+
+/// Prints a verb alone.
+fn print_bare(verb: Verb, page: &mut Page) -> Result<(), AllocError>
+    ensures { Prints (Texts.line_of (verb_name verb ∷ [])) page.old result page.new }
+{
+    print_short_line(verb.name(), &[], page)
+}
+
+/// Prints a number of ticks.
+fn print_tick(n: u64, page: &mut Page) -> Result<(), AllocError>
+    ensures { Prints (Texts.line_of (verb_name verbs.Tick ∷ decimal n ∷ []))
+        page.old result page.new }
+{
+    print_short_line(Verb::Tick.name(), &[Token::Number(n)], page)
 }
 
 /// Prints a verb with an instance.
@@ -113,6 +130,14 @@ fn print_add(
     )
 }
 
+/// Prints that a resource is dropped.
+fn print_drop(name: u32, spec: &Spec, page: &mut Page) -> Result<(), AllocError>
+    ensures { Prints (LineTexts.line_text spec.now (asks.Drop name)) page.old result page.new }
+{
+    let name = Token::Text(name_at(&spec.resource_names, name));
+    print_short_line(Verb::Drop.name(), &[name], page)
+}
+
 /// Prints a verb with a part and what stands behind it.
 fn print_with_part(
     verb: Verb,
@@ -132,6 +157,36 @@ fn print_with_part(
     print_long_line(verb.name(), &[name, part], rest, spec, page)
 }
 
+/// Prints a list of a part.
+fn print_list(
+    name: u32,
+    part: u32,
+    list: &Seq<InstanceId>,
+    spec: &Spec,
+    page: &mut Page,
+) -> Result<(), AllocError>
+    ensures { Prints (LineTexts.line_text spec.now (asks.List name part list.now))
+        page.old result page.new }
+{
+    let list = Rest::Instances(list.as_slice());
+    print_with_part(Verb::List, name, part, &list, spec, page)
+}
+
+/// Prints a map of a part.
+fn print_map(
+    name: u32,
+    part: u32,
+    map: &Seq<(InstanceId, StateId)>,
+    spec: &Spec,
+    page: &mut Page,
+) -> Result<(), AllocError>
+    ensures { Prints (LineTexts.line_text spec.now (asks.Map name part map.now))
+        page.old result page.new }
+{
+    let map = Rest::Pairs("=", map.as_slice());
+    print_with_part(Verb::Map, name, part, &map, spec, page)
+}
+
 /// Prints a reset.
 fn print_reset(
     instance: InstanceId,
@@ -147,6 +202,18 @@ fn print_reset(
     let name = Token::Text(name_at(&spec.resource_names, name));
     let part = Token::Number(part as u64);
     print_short_line(Verb::Reset.name(), &[instance, name, part], page)
+}
+
+/// Prints one of a turn's reads.
+fn print_read(controller: ControllerId, kind: ReadKind, page: &mut Page) -> Result<(), AllocError>
+    ensures { Prints
+        (Texts.line_of (verb_name verbs.Read ∷ Texts.controller_name controller ∷
+        LineTexts.read_kind_text kind ∷ []))
+        page.old result page.new }
+{
+    let controller = Token::Controller(controller);
+    let kind = Token::Text(read_kind_text(kind));
+    print_short_line(Verb::Read.name(), &[controller, kind], page)
 }
 
 /// Prints the question who has a part in a state.
@@ -166,19 +233,72 @@ fn print_route(
     print_short_line(Verb::Route.name(), &[name, part, state], page)
 }
 
+/// The verb of a line.
+fn verb_asked(what: &What) -> Verb
+    ensures { (spec : Spec) → LineTexts.what_words spec what.now
+        ≡ verb_name result ∷ drop 1 (LineTexts.what_words spec what.now) }
+{
+    match what {
+        What::Join(_) => Verb::Join,
+        What::Beat(_) => Verb::Beat,
+        What::Drain(_) => Verb::Drain,
+        What::Undrain(_) => Verb::Undrain,
+        What::Tick(_) => Verb::Tick,
+        What::Expire(_) => Verb::Expire,
+        What::Die(_) => Verb::Die,
+        What::Add { .. } => Verb::Add,
+        What::Drop(_) => Verb::Drop,
+        What::List { .. } => Verb::List,
+        What::Map { .. } => Verb::Map,
+        What::Reset { .. } => Verb::Reset,
+        What::Lead(_) => Verb::Lead,
+        What::Stop(_) => Verb::Stop,
+        What::Start(_) => Verb::Start,
+        What::Begin(_) => Verb::Begin,
+        What::Read(_, _) => Verb::Read,
+        What::Send(_) => Verb::Send,
+        What::Post(_) => Verb::Post,
+        What::Pass(_) => Verb::Pass,
+        What::Fetch(_) => Verb::Fetch,
+        What::Deliver(_, _) => Verb::Deliver,
+        What::Take(_, _) => Verb::Take,
+        What::Write(_, _) => Verb::Write,
+        What::Ack(_, _) => Verb::Ack,
+        What::Work(_) => Verb::Work,
+        What::Settle => Verb::Settle,
+        What::View => Verb::View,
+        What::Route { .. } => Verb::Route,
+        What::Summary => Verb::Summary,
+    }
+}
+
 /// Prints a script line, with one space between its words. A name that the description lacks is
 /// empty.
 pub fn print_line(line: &Line, spec: &Spec, page: &mut Page) -> Result<(), AllocError>
     ensures { Prints (LineTexts.line_text spec.now line.now.what) page.old result page.new }
 {
+    let verb = verb_asked(&line.what);
     match &line.what {
-        What::Join(i) => print_with_instance(Verb::Join, *i, spec, page),
-        What::Beat(i) => print_with_instance(Verb::Beat, *i, spec, page),
-        What::Drain(i) => print_with_instance(Verb::Drain, *i, spec, page),
-        What::Undrain(i) => print_with_instance(Verb::Undrain, *i, spec, page),
-        What::Tick(n) => print_short_line(Verb::Tick.name(), &[Token::Number(*n)], page),
-        What::Expire(i) => print_with_instance(Verb::Expire, *i, spec, page),
-        What::Die(i) => print_with_instance(Verb::Die, *i, spec, page),
+        What::Join(i)
+        | What::Beat(i)
+        | What::Drain(i)
+        | What::Undrain(i)
+        | What::Expire(i)
+        | What::Die(i)
+        | What::Fetch(i)
+        | What::Work(i) => print_with_instance(verb, *i, spec, page),
+        What::Lead(k)
+        | What::Stop(k)
+        | What::Start(k)
+        | What::Begin(k)
+        | What::Send(k)
+        | What::Post(k)
+        | What::Pass(k) => print_with_controller(verb, *k, page),
+        What::Deliver(i, m) | What::Take(i, m) | What::Write(i, m) | What::Ack(i, m) => {
+            print_with_message(verb, *i, *m, spec, page)
+        }
+        What::Settle | What::View | What::Summary => print_bare(verb, page),
+        What::Tick(n) => print_tick(*n, page),
         What::Add {
             name,
             model,
@@ -186,44 +306,16 @@ pub fn print_line(line: &Line, spec: &Spec, page: &mut Page) -> Result<(), Alloc
             parts,
             mode,
         } => print_add(*name, *model, *replicas, *parts, *mode, spec, page),
-        What::Drop(name) => {
-            let name = Token::Text(name_at(&spec.resource_names, *name));
-            print_short_line(Verb::Drop.name(), &[name], page)
-        }
-        What::List { name, part, list } => {
-            let list = Rest::Instances(list.as_slice());
-            print_with_part(Verb::List, *name, *part, &list, spec, page)
-        }
-        What::Map { name, part, map } => {
-            let map = Rest::Pairs("=", map.as_slice());
-            print_with_part(Verb::Map, *name, *part, &map, spec, page)
-        }
+        What::Drop(name) => print_drop(*name, spec, page),
+        What::List { name, part, list } => print_list(*name, *part, list, spec, page),
+        What::Map { name, part, map } => print_map(*name, *part, map, spec, page),
         What::Reset {
             instance,
             name,
             part,
         } => print_reset(*instance, *name, *part, spec, page),
-        What::Lead(k) => print_with_controller(Verb::Lead, *k, page),
-        What::Stop(k) => print_with_controller(Verb::Stop, *k, page),
-        What::Start(k) => print_with_controller(Verb::Start, *k, page),
-        What::Begin(k) => print_with_controller(Verb::Begin, *k, page),
-        What::Read(k, kind) => {
-            let kind = Token::Text(read_kind_text(*kind));
-            print_short_line(Verb::Read.name(), &[Token::Controller(*k), kind], page)
-        }
-        What::Send(k) => print_with_controller(Verb::Send, *k, page),
-        What::Post(k) => print_with_controller(Verb::Post, *k, page),
-        What::Pass(k) => print_with_controller(Verb::Pass, *k, page),
-        What::Fetch(i) => print_with_instance(Verb::Fetch, *i, spec, page),
-        What::Deliver(i, m) => print_with_message(Verb::Deliver, *i, *m, spec, page),
-        What::Take(i, m) => print_with_message(Verb::Take, *i, *m, spec, page),
-        What::Write(i, m) => print_with_message(Verb::Write, *i, *m, spec, page),
-        What::Ack(i, m) => print_with_message(Verb::Ack, *i, *m, spec, page),
-        What::Work(i) => print_with_instance(Verb::Work, *i, spec, page),
-        What::Settle => print_short_line(Verb::Settle.name(), &[], page),
-        What::View => print_short_line(Verb::View.name(), &[], page),
+        What::Read(k, kind) => print_read(*k, *kind, page),
         What::Route { name, part, state } => print_route(*name, *part, *state, spec, page),
-        What::Summary => print_short_line(Verb::Summary.name(), &[], page),
     }
 }
 

@@ -1,8 +1,8 @@
 use Rattle.std.proofs.Common.{rules, tests, inl, inr, refl, arith}
 use Rattle.std.proofs.lemmas.Bool.Decides.{nat_tests}
 use Rattle.hx_script.proofs.Shapes.{not_three}
-use Rattle.hx_script.proofs.forms.route_line.Goals as goal
-use Rattle.hx_script.proofs.forms.route_line.Goals.{in_default-via-then-words-lt3, in_default-via-else-words-lt3+else-words-lt4}
+use Rattle.hx_script.proofs.forms.three_words.Goals as goal
+use Rattle.hx_script.proofs.forms.three_words.Goals.{in_default-via-then-words-lt3, in_default-via-else-words-lt3+else-words-lt4}
 
 pub returns-in_default : goal.returns-in_default
 returns-in_default c =
