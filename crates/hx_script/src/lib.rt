@@ -31,7 +31,7 @@ pub use words::{
 };
 
 /// Which of a turn's reads.
-#[derive(Clone, Copy, Debug, PartialEq, Eq)]
+#[derive(Clone, Copy)]
 pub enum ReadKind {
     Live,
     Mail,

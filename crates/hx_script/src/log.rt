@@ -7,7 +7,7 @@ use hx_lists::Seq;
 
 /// A part as a log writes it: the resource's name and number, and the partition. The name is its
 /// place among the resource names, and None where it isn't among them.
-#[derive(Clone, Copy, Debug, PartialEq, Eq)]
+#[derive(Clone, Copy)]
 pub struct LogPart {
     pub name: Option<u32>,
     pub resource: ResourceId,
@@ -15,7 +15,7 @@ pub struct LogPart {
 }
 
 /// A proposal and what became of it.
-#[derive(Clone, Copy, Debug, PartialEq, Eq)]
+#[derive(Clone, Copy)]
 pub struct LogMove {
     pub session: SessionId,
     pub part: LogPart,
@@ -111,7 +111,7 @@ impl Drop for LogLine {
 }
 
 /// The first word of a line of a log.
-#[derive(Clone, Copy, Debug, PartialEq, Eq)]
+#[derive(Clone, Copy)]
 pub enum LogVerb {
     Line,
     Join,
@@ -142,7 +142,7 @@ pub enum LogVerb {
 }
 
 /// What a line of a log is: passed over, of the entry before it, or an entry's own.
-#[derive(Clone, Copy, Debug, PartialEq, Eq)]
+#[derive(Clone, Copy)]
 pub enum Sort {
     PassedOver,
     Indented,

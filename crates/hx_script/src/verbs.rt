@@ -6,7 +6,7 @@ ghost use Rattle.hx_script.specs.Grammar.{verb_name, is_verb, verb_of};
 use crate::faults::ScriptKind;
 
 /// The first word of a script line.
-#[derive(Clone, Copy, Debug, PartialEq, Eq)]
+#[derive(Clone, Copy)]
 pub enum Verb {
     Join,
     Beat,
