@@ -37,6 +37,3 @@ no_move spec (a ∷ b ∷ c ∷ d ∷ e ∷ f ∷ []) four five seven eight = re
 no_move spec (a ∷ b ∷ c ∷ d ∷ e ∷ f ∷ g ∷ []) four five seven eight = absurd (seven (omega arith))
 no_move spec (a ∷ b ∷ c ∷ d ∷ e ∷ f ∷ g ∷ h ∷ []) four five seven eight = absurd (eight (omega arith))
 no_move spec (a ∷ b ∷ c ∷ d ∷ e ∷ f ∷ g ∷ h ∷ i ∷ ws) four five seven eight = refl
-
--- the lengths that a proposal with its answer has, and those that it has not
-pub ruleset move_shapes = (words_4, words_5, words_7, words_8, no_move)

@@ -1,9 +1,10 @@
 //! The forms of a log's entries: what the words behind a verb tell.
 ghost use Rattle.std.specs.Prelude.{◌≡◌, ℕ, ◌≤◌, [], map, length, IfOk};
 ghost use Rattle.hx_cluster.specs.declared.description.Spec.{Spec};
+ghost use Rattle.hx_ids.specs.Names.{place_after};
 ghost use Rattle.hx_script.specs.declared.log.LogEntry.TheVariants as logs;
 ghost use Rattle.hx_script.specs.declared.log.LogVerb.TheVariants as verbs;
-ghost use Rattle.hx_script.specs.Grammar.{map_ok, then_ok, one_word};
+ghost use Rattle.hx_script.specs.Grammar.{map_ok, then_ok, one_word, model_word, mode_word};
 ghost use Rattle.hx_script.specs.Logs;
 
 use crate::numbers::{
@@ -12,11 +13,12 @@ use crate::numbers::{
 };
 use crate::words::{Reading, name_and_rest, outcome_word, part_named, resource_named};
 use hx_cluster::Spec;
-use hx_ids::{ControllerId, Epoch, InstanceId, MsgId, PassNo, SessionId};
+use hx_ids::{ControllerId, Epoch, InstanceId, MsgId, PassNo, ResourceId, SessionId};
 use hx_lists::Seq;
 use hx_script::{
-    LogEntry, LogVerb, ScriptKind, controller_alone, controller_word, instance_alone,
-    instance_word, instance_words, mode_word, model_word, pair_words, place_after,
+    LogEntry, LogVerb, ScriptKind, controller_alone, controller_word, five_words, instance_alone,
+    instance_word, instance_words, mode_word, model_word, pair_words, place_after, three_words,
+    two_words,
 };
 use std::alloc::Global;
 
@@ -42,95 +44,84 @@ pub fn tick_number(words: &[&str]) -> Result<u64, ScriptKind>
 }
 
 /// An instance and a session.
-#[tactic(auto, using(hx_script::proofs::Shapes::words_2))]
 pub fn instance_and_session(
     spec: &Spec,
     words: &[&str],
 ) -> Result<(InstanceId, SessionId), ScriptKind>
     ensures { result ≡ Logs.instance_and_session spec.now (map (λ w. w.now) words.now) }
 {
-    let [instance, session] = words else {
-        return Err(ScriptKind::WordCount);
-    };
+    let (instance, session) = two_words(words)?;
     Ok((instance_word(spec, instance)?, session_word(session)?))
 }
 
 /// A controller and an epoch.
-#[tactic(auto, using(hx_script::proofs::Shapes::words_2))]
 fn controller_and_epoch(spec: &Spec, words: &[&str]) -> Result<(ControllerId, Epoch), ScriptKind>
     ensures { result ≡ Logs.controller_and_epoch spec.now (map (λ w. w.now) words.now) }
 {
-    let [controller, epoch] = words else {
-        return Err(ScriptKind::WordCount);
-    };
+    let (controller, epoch) = two_words(words)?;
     Ok((controller_word(spec, controller)?, epoch_word(epoch)?))
 }
 
 /// A controller and a pass.
-#[tactic(auto, using(hx_script::proofs::Shapes::words_2))]
 fn controller_and_pass(spec: &Spec, words: &[&str]) -> Result<(ControllerId, PassNo), ScriptKind>
     ensures { result ≡ Logs.controller_and_pass spec.now (map (λ w. w.now) words.now) }
 {
-    let [controller, pass] = words else {
-        return Err(ScriptKind::WordCount);
-    };
+    let (controller, pass) = two_words(words)?;
     Ok((controller_word(spec, controller)?, pass_word(pass)?))
 }
 
 /// A controller, a pass and a session.
-#[tactic(auto, using(hx_script::proofs::Shapes::words_3))]
 fn pass_and_session(
     spec: &Spec,
     words: &[&str],
 ) -> Result<(ControllerId, PassNo, SessionId), ScriptKind>
     ensures { result ≡ Logs.pass_and_session spec.now (map (λ w. w.now) words.now) }
 {
-    let [controller, pass, session] = words else {
-        return Err(ScriptKind::WordCount);
-    };
+    let (controller, pass, session) = three_words(words)?;
     let controller = controller_word(spec, controller)?;
     let pass = pass_word(pass)?;
     Ok((controller, pass, session_word(session)?))
 }
 
 /// A controller, an epoch and a pass.
-#[tactic(auto, using(hx_script::proofs::Shapes::words_3))]
 pub fn epoch_and_pass(
     spec: &Spec,
     words: &[&str],
 ) -> Result<(ControllerId, Epoch, PassNo), ScriptKind>
     ensures { result ≡ Logs.epoch_and_pass spec.now (map (λ w. w.now) words.now) }
 {
-    let [controller, epoch, pass] = words else {
-        return Err(ScriptKind::WordCount);
-    };
+    let (controller, epoch, pass) = three_words(words)?;
     let controller = controller_word(spec, controller)?;
     let epoch = epoch_word(epoch)?;
     Ok((controller, epoch, pass_word(pass)?))
 }
 
 /// A session and a message.
-#[tactic(auto, using(hx_script::proofs::Shapes::words_2))]
 fn session_and_message(words: &[&str]) -> Result<(SessionId, MsgId), ScriptKind>
     ensures { result ≡ Logs.session_and_message (map (λ w. w.now) words.now) }
 {
-    let [session, message] = words else {
-        return Err(ScriptKind::WordCount);
-    };
+    let (session, message) = two_words(words)?;
     Ok((session_word(session)?, message_word(message)?))
 }
 
-/// A new resource.
-#[tactic(auto, using(hx_script::proofs::Shapes::words_5))]
-fn add_entry(spec: &Spec, words: &[&str]) -> Result<LogEntry, ScriptKind>
+/// A new resource of a name and a number, by the other words of its line.
+fn resource_added(
+    spec: &Spec,
+    name: &str,
+    resource: ResourceId,
+    model: &str,
+    replicas: &str,
+    parts: &str,
+    mode: &str,
+) -> Result<LogEntry, ScriptKind>
     requires { length spec.now.model_names ≤ 256 }
-    ensures { result ≡ Logs.add_entry spec.now (map (λ w. w.now) words.now) }
+    ensures { result ≡ then_ok (model_word spec.now model.now) (λ model.
+        then_ok (Logs.short_number replicas.now) (λ replicas.
+        then_ok (Logs.short_number parts.now) (λ parts.
+        map_ok
+        (logs.Add (place_after spec.now.resource_names name.now) resource model replicas parts)
+        (mode_word mode.now)))) }
 {
-    let [named, model, replicas, parts, mode] = words else {
-        return Err(ScriptKind::WordCount);
-    };
-    let (name, number) = name_and_rest(named)?;
-    let resource = resource_number(number)?;
     Ok(LogEntry::Add {
         name: place_after(&spec.resource_names, name),
         resource,
@@ -139,6 +130,17 @@ fn add_entry(spec: &Spec, words: &[&str]) -> Result<LogEntry, ScriptKind>
         parts: short_number(parts)?,
         mode: mode_word(mode)?,
     })
+}
+
+/// A new resource.
+fn add_entry(spec: &Spec, words: &[&str]) -> Result<LogEntry, ScriptKind>
+    requires { length spec.now.model_names ≤ 256 }
+    ensures { result ≡ Logs.add_entry spec.now (map (λ w. w.now) words.now) }
+{
+    let (named, model, replicas, parts, mode) = five_words(words)?;
+    let (name, number) = name_and_rest(named)?;
+    let resource = resource_number(number)?;
+    resource_added(spec, name, resource, model, replicas, parts, mode)
 }
 
 /// A resource that is dropped.
@@ -188,13 +190,10 @@ fn map_entry(alloc: Global, spec: &Spec, words: &[&str]) -> Reading<LogEntry>
 }
 
 /// A reset.
-#[tactic(auto, using(hx_script::proofs::Shapes::words_3))]
 fn reset_entry(spec: &Spec, words: &[&str]) -> Result<LogEntry, ScriptKind>
     ensures { result ≡ Logs.reset_entry spec.now (map (λ w. w.now) words.now) }
 {
-    let [instance, session, named] = words else {
-        return Err(ScriptKind::WordCount);
-    };
+    let (instance, session, named) = three_words(words)?;
     let instance = instance_word(spec, instance)?;
     let session = session_word(session)?;
     let part = part_named(spec, named)?;
@@ -206,13 +205,10 @@ fn reset_entry(spec: &Spec, words: &[&str]) -> Result<LogEntry, ScriptKind>
 }
 
 /// A post, with the number of its rows.
-#[tactic(auto, using(hx_script::proofs::Shapes::words_3))]
 fn post_entry(spec: &Spec, words: &[&str]) -> Result<LogEntry, ScriptKind>
     ensures { result ≡ Logs.post_entry spec.now (map (λ w. w.now) words.now) }
 {
-    let [controller, epoch, rows] = words else {
-        return Err(ScriptKind::WordCount);
-    };
+    let (controller, epoch, rows) = three_words(words)?;
     let c = controller_word(spec, controller)?;
     let epoch = epoch_word(epoch)?;
     let rows = short_number(rows)?;
@@ -220,13 +216,10 @@ fn post_entry(spec: &Spec, words: &[&str]) -> Result<LogEntry, ScriptKind>
 }
 
 /// A fetch, with the number of its messages.
-#[tactic(auto, using(hx_script::proofs::Shapes::words_3))]
 fn fetch_entry(spec: &Spec, words: &[&str]) -> Result<LogEntry, ScriptKind>
     ensures { result ≡ Logs.fetch_entry spec.now (map (λ w. w.now) words.now) }
 {
-    let [instance, session, count] = words else {
-        return Err(ScriptKind::WordCount);
-    };
+    let (instance, session, count) = three_words(words)?;
     let instance = instance_word(spec, instance)?;
     let session = session_or_dash(session)?;
     let count = short_number(count)?;
@@ -238,13 +231,10 @@ fn fetch_entry(spec: &Spec, words: &[&str]) -> Result<LogEntry, ScriptKind>
 }
 
 /// A write, with its outcome.
-#[tactic(auto, using(hx_script::proofs::Shapes::words_3))]
 fn write_entry(words: &[&str]) -> Result<LogEntry, ScriptKind>
     ensures { result ≡ Logs.write_entry (map (λ w. w.now) words.now) }
 {
-    let [session, message, outcome] = words else {
-        return Err(ScriptKind::WordCount);
-    };
+    let (session, message, outcome) = three_words(words)?;
     let session = session_word(session)?;
     let message = message_word(message)?;
     Ok(LogEntry::Write(session, message, outcome_word(outcome)?))

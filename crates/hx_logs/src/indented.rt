@@ -115,31 +115,41 @@ fn move_of(
     })
 }
 
+/// A proposal with its answer, where that is one.
+fn then_move(
+    spec: &Spec,
+    answer: Result<Placed, ScriptKind>,
+    session: &str,
+    part: &str,
+    states: &str,
+) -> Result<LogMove, ScriptKind>
+    requires { length spec.now.states ≤ 256 }
+    ensures { result
+        ≡ Logs.then_move spec.now (session.now ∷ part.now ∷ states.now ∷ []) answer }
+{
+    move_of(spec, answer?, session, part, states)
+}
+
 /// What became of a proposal, by the words of its line.
-#[tactic(auto, using(crate::proofs::Shapes::move_shapes))]
 fn move_words(spec: &Spec, words: &[&str]) -> Result<LogMove, ScriptKind>
     requires { length spec.now.states ≤ 256 }
     ensures { result ≡ Logs.move_words spec.now (map (λ w. w.now) words.now) }
 {
     match words {
         [word, session, part, states] => {
-            move_of(spec, bare_answer(word)?, session, part, states)
+            then_move(spec, bare_answer(word), session, part, states)
         }
         [word, of, session, part, states] => {
-            move_of(spec, answer_with(spec, word, of)?, session, part, states)
+            let answer = answer_with(spec, word, of);
+            then_move(spec, answer, session, part, states)
         }
         [word, count, of, bound, session, part, states] => {
-            move_of(
-                spec,
-                bound_answer(word, count, of, bound)?,
-                session,
-                part,
-                states,
-            )
+            let answer = bound_answer(word, count, of, bound);
+            then_move(spec, answer, session, part, states)
         }
         [word, rule, load, of, limit, session, part, states] => {
-            let answer = throttle_answer(word, rule, load, of, limit)?;
-            move_of(spec, answer, session, part, states)
+            let answer = throttle_answer(word, rule, load, of, limit);
+            then_move(spec, answer, session, part, states)
         }
         _ => Err(ScriptKind::WordCount),
     }
