@@ -52,6 +52,19 @@ kept_placed c qs placed now h = subst IsKept h.after (kept_proposals c (take (le
 pub placed_none : (c : Cluster) (qs : List Proposal) → IsKept c → list_all (is_proposable c) qs ≡ true → IsPlacedFrom c qs [] c
 placed_none c qs kept range = record { kept = kept; range = range; few = omega arith; answers = refl; after = refl }
 
+-- each is placed
+pub placed_each : (c : Cluster) (qs : List Proposal) (placed : List Placed) (now : Cluster) (i : ℕ)
+    → IsPlacedFrom c qs placed now → length placed ≡ i → length qs ≤ i → (placed ≡ placed_all c qs) × (now ≡ after_proposals c qs)
+placed_each c qs placed now i h count all =
+    let whole : take (length placed) qs ≡ qs = ap (λ (n : ℕ). take n qs) (let same : length placed ≡ length qs = omega (arith, h.few, count, all) in same) ∙ take-length qs in
+    (sym h.answers ∙ ap (placed_all c) whole, sym h.after ∙ ap (after_proposals c) whole)
+
+-- the same ones, where the last call changed nothing
+pub placed_still : (c : Cluster) (qs : List Proposal) (placed shown : List Placed) (now new : Cluster)
+    → IsPlacedFrom c qs placed now → shown ≡ placed → new ≡ now → IsPlacedFrom c qs shown new
+placed_still c qs placed shown now new h same is =
+    subst (λ (ps : List Placed). IsPlacedFrom c qs ps new) (sym same) (subst (λ (x : Cluster). IsPlacedFrom c qs placed x) (sym is) h)
+
 -- one more is placed
 pub placed_more : (c : Cluster) (qs : List Proposal) (placed : List Placed) (now new : Cluster) (q : Proposal) (answer : Placed) (d : Proposal) (i : ℕ)
     → IsPlacedFrom c qs placed now → length placed ≡ i → i < length qs → get_or qs i d ≡ q → new ≡ after_proposal now q → answer ≡ placed_of now q

@@ -50,17 +50,21 @@ impl Model for Records {
     ghost invariant = { AreRecords };
 }
 
-// A derived drop is written out, field by field, wherever one is dropped; this is a call.
+// A derived drop is written out, field by field, wherever one is dropped; this is a call, and so are
+// those in it that would be long.
 impl Drop for Records {
     fn drop(self) {
         let Records {
             rest: _,
-            sessions: _,
+            sessions,
             live: _,
             seats: _,
-            slots: _,
-            counts: _,
+            slots,
+            counts,
         } = self;
+        drop(sessions);
+        drop(slots);
+        drop(counts);
     }
 }
 
