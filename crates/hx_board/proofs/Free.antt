@@ -1,5 +1,5 @@
 -- What is known of a call that nothing refuses.
-use Rattle.std.proofs.Common.{◌≡◌, ℕ, ◌+◌, ◌*◌, ◌≤◌, ◌==◌, not, Bool, true, false, List, length, Option, None, Some, refl, sym, subst, arith}
+use Rattle.std.proofs.Common.{◌≡◌, ℕ, ◌+◌, ◌*◌, ◌≤◌, ◌==◌, not, Bool, true, false, List, length, Option, None, Some, refl, sym, ap, subst, arith}
 use Rattle.std.specs.Prelude.{◌<◌, ◌^◌, if◌then◌else◌, nat_lt, option_map}
 use Rattle.std.specs.Option.{option_or}
 use Rattle.std.proofs.lemmas.Bool.Decides.{nat_tests}
@@ -29,6 +29,14 @@ full_free {E} b n fault e = one (nat_lt b.limit (weight_at b + n)) refl e
     one : (t : Bool) → nat_lt b.limit (weight_at b + n) ≡ t → (if t then Some (fault (weight_at b)) else None) ≡ None → weight_at b + n ≤ b.limit
     one true is e = cc
     one false is e = let no : weight_at b + n ≤ b.limit = grind (arith, nat_tests, is) in no
+
+-- a fault tells the weight
+pub full_told : {E : Type 0} (b : Held) (n : ℕ) (fault : ℕ → E) (w : ℕ) → full b n (λ weight. weight) ≡ Some w → full b n fault ≡ Some (fault w)
+full_told {E} b n fault w e = one (nat_lt b.limit (weight_at b + n)) e
+  where
+    one : (t : Bool) → (if t then Some (weight_at b) else None) ≡ Some w → (if t then Some (fault (weight_at b)) else None) ≡ Some (fault w)
+    one true e = let same : weight_at b ≡ w = cc in ap (λ (k : ℕ). Some (fault k)) same
+    one false e = cc
 
 -- what doesn't fit 64 bits has no room
 pub full_past : {E : Type 0} (b : Held) (n : ℕ) (fault : ℕ → E) → b.limit ≤ most → 2 ^ 64 ≤ n → full b n fault ≡ Some (fault (weight_at b))

@@ -381,6 +381,48 @@ IsRecorded made past e = record {
   spare : past.entries.spare + 1 ≡ made.entries.spare;
 }
 
+-- room that was made for nothing changes no board
+pub roomy : (a : Inside) (made : History) → IsBoard a → made.entries.items ≡ a.history.entries.items → a.history.entries.spare ≤ made.entries.spare
+    → IsBoard (record a { history = made })
+roomy a made h items spare = record {
+  valid = h.valid;
+  legal = subst (λ (es : List Event). IsLegal (opening a.spec) es) (sym items) h.legal;
+  replays = ap (λ (es : List Event). replay (opening a.spec) es) items ∙ h.replays;
+  taken = ap (λ (es : List Event). length (lines_in es)) items ∙ h.taken;
+  front = ap lines_in items ∙ h.front;
+  later = h.later;
+  rising = h.rising;
+  weighs = ap (λ (es : List Event). weight_of_all es + a.charges) items ∙ h.weighs;
+  within = h.within;
+  limited = h.limited;
+  owed = h.owed;
+  few = h.few;
+  room = omega (arith, h.room, spare);
+}
+
+-- nor does a call that is refused after it
+pub still : (a : Inside) (after : Cluster) (made : History) → IsBoard a → after ≡ a.records → made.entries.items ≡ a.history.entries.items → a.history.entries.spare ≤ made.entries.spare
+    → IsBoard (record a { records = after; history = made })
+still a after made h same items spare = subst (λ (c : Cluster). IsBoard (record a { records = c; history = made })) (sym same) (roomy a made h items spare)
+
+-- a charge adds to the weight alone
+pub charged_more : (a : Inside) (n : ℕ) → IsBoard a → weight_at (held a) + n ≤ a.limit → IsBoard (record a { charges = a.charges + n; weight = a.weight + n })
+charged_more a n h fits = record {
+  valid = h.valid;
+  legal = h.legal;
+  replays = h.replays;
+  taken = h.taken;
+  front = h.front;
+  later = h.later;
+  rising = h.rising;
+  weighs = omega (arith, h.weighs);
+  within = omega (arith, h.weighs, fits);
+  limited = h.limited;
+  owed = h.owed;
+  few = omega (arith, h.few);
+  room = h.room;
+}
+
 -- an event that owes nothing more is recorded in room that was made for it
 pub recorded : (a : Inside) (seen : Held) (after : Cluster) (made past : History) (weight : ℕ) (x e : Event) → IsBoard a → held a ≡ seen → IsStep seen.cluster e → lines_in (e ∷ []) ≡ [] → after ≡ next a.records e
     → owed_of (next a.records e) ≡ owed_of a.records → weight ≡ a.weight + weight_of e → weight_at seen + weight_of e ≤ seen.limit → IsRoomy a.owed 1 a.history made → IsRecorded made past x → x ≡ e

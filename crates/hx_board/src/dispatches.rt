@@ -1,5 +1,5 @@
 //! What controllers send.
-ghost use Rattle.std.specs.Prelude.{◌≡◌, ◌+◌, ◌*◌, true, length, IfOk, OnErr};
+ghost use Rattle.std.specs.Prelude.{◌≡◌, ◌+◌, ◌*◌, ◌≤◌, [], true, length, vec_capacity, IfOk, OnErr};
 ghost use Rattle.std.specs.List.{list_all};
 ghost use Rattle.hx_lists.specs.Answers.{RefusedAs, RefusedBy};
 ghost use Rattle.hx_cluster.specs.Steps.{has_controller};
@@ -9,9 +9,10 @@ ghost use Rattle.hx_board.specs.Refusals.{dispatch_refusal};
 
 use crate::board::{Board, make_room, record};
 use crate::faults::DispatchRefusal;
-use hx_cluster::{Dispatched, Event, Proposal};
+use hx_cluster::{Dispatched, Event, Placed, Proposal};
 use hx_ids::{ControllerId, Epoch, PassNo};
 use hx_lists::Seq;
+use std::alloc::{AllocError, Global};
 
 /// What a dispatch of so many proposals weighs, where that is a number of 64 bits.
 fn dispatch_weight(proposals: usize) -> Option<u64>
@@ -19,6 +20,55 @@ fn dispatch_weight(proposals: usize) -> Option<u64>
 {
     let four = (proposals as u64).checked_mul(4)?;
     four.checked_add(1)
+}
+
+/// The event of a dispatch, but for its answer: a copy of the proposals, and space for what becomes
+/// of each. It is made before the dispatch.
+struct Unanswered {
+    proposals: Seq<Proposal>,
+    space: Vec<Placed>,
+}
+
+// A derived drop is written out, field by field, wherever one is dropped; this is a call.
+impl Drop for Unanswered {
+    fn drop(self) {
+        let Unanswered {
+            proposals: _,
+            space: _,
+        } = self;
+    }
+}
+
+impl Unanswered {
+    fn new(alloc: Global, proposals: &[Proposal]) -> Result<Unanswered, AllocError>
+        ensures proposals { IfOk result (λ event. event.proposals ≡ proposals.now) }
+        ensures empty { IfOk result (λ event. event.space.items ≡ []) }
+        ensures space { IfOk result (λ event. length proposals.now ≤ vec_capacity event.space) }
+    {
+        let copy = Seq::from_slice(alloc, proposals)?;
+        let space = Vec::with_capacity(alloc, proposals.len())?;
+        Ok(Unanswered {
+            proposals: copy,
+            space,
+        })
+    }
+
+    /// The event with its answer. It takes no memory.
+    fn answered(self, c: ControllerId, epoch: Epoch, pass: PassNo, answer: &Dispatched) -> Event
+        requires empty { self.space.items ≡ [] }
+        requires space { length answer.now.placed ≤ vec_capacity self.space }
+        ensures { result ≡ Event.Dispatch c epoch pass self.proposals answer.now }
+    {
+        let Unanswered { proposals, space } = self;
+        let answer = answer.copied_into(space);
+        Event::Dispatch {
+            c,
+            epoch,
+            pass,
+            proposals,
+            answer,
+        }
+    }
 }
 
 impl Board {
@@ -71,23 +121,12 @@ impl Board {
         ensures err { OnErr result (self.new ≡ self.old) }
     {
         let weight = self.sendable(c, epoch, pass, proposals)?;
-        let count = proposals.len();
-        let coming = weight as usize - 1 - count;
-        let copy = Seq::from_slice(*self.lines.allocator(), proposals)?;
-        let space = Vec::with_capacity(*self.lines.allocator(), count)?;
+        let coming = weight as usize - 1 - proposals.len();
+        let event = Unanswered::new(*self.lines.allocator(), proposals)?;
         make_room(&mut self.history, self.owed, 1 + coming)?;
         let answer = self.records.dispatch(c, proposals)?;
-        let told = answer.copied_into(space);
-        record(
-            &mut self.history,
-            Event::Dispatch {
-                c,
-                epoch,
-                pass,
-                proposals: copy,
-                answer: told,
-            },
-        );
+        let told = event.answered(c, epoch, pass, &answer);
+        record(&mut self.history, told);
         self.weight += weight;
         self.owed += coming;
         Ok(answer)

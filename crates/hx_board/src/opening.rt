@@ -1,5 +1,5 @@
 //! How a board opens.
-ghost use Rattle.std.specs.Prelude.{◌≡◌, ◌≤◌, true, nat_lt, IfOk};
+ghost use Rattle.std.specs.Prelude.{◌≡◌, ◌≤◌, true, nat_lt, IfOk, OnOk};
 ghost use Rattle.hx_cluster.specs.Valid.{IsValid};
 ghost use Rattle.hx_safe.specs.Ordered.{rises};
 ghost use Rattle.hx_board.specs.Board.{most, new_board};
@@ -8,6 +8,7 @@ use crate::board::Board;
 use hx_cluster::Spec;
 use hx_history::{Entries, History};
 use hx_ids::Names;
+use hx_lists::Seq;
 use hx_records::Records;
 use std::alloc::{AllocError, Global};
 
@@ -22,22 +23,61 @@ fn names_of(alloc: Global, names: &Names) -> Result<Names, AllocError>
     Ok(copy)
 }
 
+/// Copies the names of a description over another's.
+fn copy_names(alloc: Global, spec: &Spec, copy: &mut Spec) -> Result<(), AllocError>
+    ensures { OnOk result (
+        copy.new
+        ≡ record copy.old {
+          instances = spec.now.instances;
+          states = spec.now.states;
+          resource_names = spec.now.resource_names;
+          model_names = spec.now.model_names;
+        }) }
+{
+    copy.instances = names_of(alloc, &spec.instances)?;
+    copy.states = names_of(alloc, &spec.states)?;
+    copy.resource_names = names_of(alloc, &spec.resource_names)?;
+    copy.model_names = names_of(alloc, &spec.model_names)?;
+    Ok(())
+}
+
+/// Copies the models, the rules, the resources and the failures of a description over another's.
+fn copy_lists(spec: &Spec, copy: &mut Spec) -> Result<(), AllocError>
+    ensures { OnOk result (
+        copy.new
+        ≡ record copy.old {
+          models = spec.now.models;
+          rules = spec.now.rules;
+          resources = spec.now.resources;
+          failures = spec.now.failures;
+        }) }
+{
+    copy.models = spec.models.clone()?;
+    copy.rules = spec.rules.clone()?;
+    copy.resources = spec.resources.clone()?;
+    copy.failures = spec.failures.clone()?;
+    Ok(())
+}
+
 /// The same description again.
 fn spec_of(alloc: Global, spec: &Spec) -> Result<Spec, AllocError>
     ensures { IfOk result (λ copy. copy ≡ spec.now) }
 {
-    Ok(Spec {
-        instances: names_of(alloc, &spec.instances)?,
-        states: names_of(alloc, &spec.states)?,
-        resource_names: names_of(alloc, &spec.resource_names)?,
-        model_names: names_of(alloc, &spec.model_names)?,
-        models: spec.models.clone()?,
+    let mut copy = Spec {
+        instances: Names::new(alloc),
+        states: Names::new(alloc),
+        resource_names: Names::new(alloc),
+        model_names: Names::new(alloc),
+        models: Seq::new(alloc),
         controllers: spec.controllers,
         timeout: spec.timeout,
-        rules: spec.rules.clone()?,
-        resources: spec.resources.clone()?,
-        failures: spec.failures.clone()?,
-    })
+        rules: Seq::new(alloc),
+        resources: Seq::new(alloc),
+        failures: Seq::new(alloc),
+    };
+    copy_names(alloc, spec, &mut copy)?;
+    copy_lists(spec, &mut copy)?;
+    Ok(copy)
 }
 
 impl Board {

@@ -43,8 +43,8 @@ impl Board {
         if let Some(fault) = self.post_fault(epoch, rows) {
             return Err(fault);
         }
-        let copy = Seq::from_slice(*self.lines.allocator(), rows)?;
         make_room(&mut self.history, self.owed, 1)?;
+        let copy = Seq::from_slice(*self.lines.allocator(), rows)?;
         self.records.publish(rows)?;
         record(
             &mut self.history,

@@ -3,11 +3,14 @@ use Rattle.hx_cluster.specs.declared.happenings.Event.TheVariants as events
 use Rattle.hx_cluster.specs.Events.{begun_of}
 use Rattle.hx_board.specs.Board.{Held}
 use Rattle.hx_board.proofs.Free.{begin_free}
-use Rattle.hx_board.proofs.Growing.{room_of, owed_raised, recorded}
+use Rattle.hx_board.proofs.Growing.{roomy, room_of, owed_raised, recorded}
 use Rattle.hx_board.proofs.board.Board.begin.Goals as goal
 
 pub begin-begun-requires : goal.begin-begun-requires
 begin-begun-requires c = room_of c.self.inside c.self.invariant
+
+pub invariant_of-self : goal.invariant_of-self
+invariant_of-self c = roomy c.self.inside c.make_room.new.history c.self.invariant c.in_err-make_room.ensures.items c.in_err-make_room.ensures.spare
 
 pub invariant_of-self-2 : goal.invariant_of-self-2
 invariant_of-self-2 c =

@@ -3,12 +3,28 @@ use Rattle.std.specs.List.{list_all}
 use Rattle.hx_cluster.specs.declared.happenings.Event.TheVariants as events
 use Rattle.hx_cluster.specs.Steps.{has_controller}
 use Rattle.hx_cluster.specs.Events.{is_proposable, is_pass, dispatched_of}
-use Rattle.hx_board.specs.Board.{Held, held}
+use Rattle.hx_cluster.specs.declared.happenings.Event.{Event}
+use Rattle.hx_board.specs.Board.{Held, held, happened}
 use Rattle.hx_board.specs.Refusals.{dispatch_refusal}
-use Rattle.hx_board.proofs.Free.{dispatch_free}
-use Rattle.hx_board.proofs.Growing.{room_of, owed_dispatch, grown}
+use Rattle.hx_board.proofs.Free.{IsFreeDispatch, dispatch_free}
+use Rattle.hx_board.proofs.Growing.{roomy, still, room_of, owed_dispatch, grown}
 use Rattle.hx_board.proofs.Reaching.{reached_of}
 use Rattle.hx_board.proofs.board.Board.dispatch.Goals as goal
+use Rattle.hx_board.proofs.board.Board.dispatch.Goals.{In_ok-weight, After-record}
+
+-- nothing refuses the dispatch
+free : (c : In_ok-weight) → IsFreeDispatch (held c.self.inside) c.args.c c.args.epoch c.args.pass c.args.proposals.now
+free c =
+    let Q : Held → Type 0 = λ v. dispatch_refusal v c.args.c c.args.epoch c.args.pass c.args.proposals.now ≡ None in
+    dispatch_free (held c.self.inside) c.args.c c.args.epoch c.args.pass c.args.proposals.now (subst Q (sym c.self.view_is) c.in_ok-weight.ensures.refused)
+
+-- its event is recorded
+told : (c : After-record) → c.record.new.history.entries.items
+    ≡ c.self.inside.history.entries.items ++ events.Dispatch c.args.c c.args.epoch c.args.pass c.args.proposals.now (dispatched_of c.self.inside.records c.args.c c.args.proposals.now) ∷ []
+told c =
+    let event : c.answered-told.result ≡ events.Dispatch c.args.c c.args.epoch c.args.pass c.args.proposals.now (dispatched_of c.self.inside.records c.args.c c.args.proposals.now) =
+    c.answered-told.ensures ∙ (λ i. events.Dispatch c.args.c c.args.epoch c.args.pass (c.in_ok-event.ensures.proposals i) (c.in_ok-answer.ensures.answer i)) in
+    c.record.ensures.items ∙ (λ i. c.in_ok-make_room.ensures.items i ++ event i ∷ [])
 
 pub dispatch-requires : goal.dispatch-requires
 dispatch-requires c =
@@ -19,6 +35,20 @@ dispatch-requires c =
       room = room_of c.self.inside c.self.invariant;
     }
 
+pub invariant_of-self : goal.invariant_of-self
+invariant_of-self c = roomy c.self.inside c.make_room.new.history c.self.invariant c.in_err-make_room.ensures.items c.in_err-make_room.ensures.spare
+
+pub invariant_of-self-in_err-answer : goal.invariant_of-self-in_err-answer
+invariant_of-self-in_err-answer c = still c.self.inside c.dispatch.new.self c.make_room.new.history c.self.invariant c.in_err-answer.ensures.err c.in_ok-make_room.ensures.items c.in_ok-make_room.ensures.spare
+
+pub overflow_add-self : goal.overflow_add-self
+overflow_add-self c =
+    omega (arith, (free (goal.at.overflow_add-self c).In_ok-weight).fits, c.self.invariant.weighs, c.self.invariant.limited, c.in_ok-weight.ensures.weight)
+
+pub overflow_add-self-2 : goal.overflow_add-self-2
+overflow_add-self-2 c =
+    omega (arith, (free (goal.at.overflow_add-self-2 c).In_ok-weight).fits, c.self.invariant.weighs, c.self.invariant.limited, c.self.invariant.few, c.in_ok-weight.ensures.weight)
+
 pub invariant_of-self-2 : goal.invariant_of-self-2
 invariant_of-self-2 c =
     let a = c.self.inside in
@@ -28,23 +58,37 @@ invariant_of-self-2 c =
     let qs = c.args.proposals.now in
     let P : Held → Type 0 = λ v. has_controller v.cluster k ≡ true in
     let R : Held → Type 0 = λ v. list_all (is_proposable v.cluster) qs ≡ true in
-    let Q : Held → Type 0 = λ v. dispatch_refusal v k epoch pass qs ≡ None in
     let there : has_controller a.records k ≡ true = subst P (sym c.self.view_is) c.requires.controller in
     let each : list_all (is_proposable a.records) qs ≡ true = subst R (sym c.self.view_is) c.requires.proposals in
-    let free = dispatch_free (held a) k epoch pass qs (subst Q (sym c.self.view_is) c.in_ok-weight.ensures.refused) in
-    let now : is_pass a.records k pass ≡ true = grind (arith, there, free.passes) in
-    let answer : c.copied_into-told.result ≡ dispatched_of a.records k qs = c.copied_into-told.ensures ∙ c.in_ok-answer.ensures.answer in
-    let event : events.Dispatch k epoch pass c.in_ok-copy.copy c.copied_into-told.result ≡ events.Dispatch k epoch pass qs (dispatched_of a.records k qs) =
-    (λ i. events.Dispatch k epoch pass (c.in_ok-copy.ensures i) (answer i)) in
+    let may = free (goal.at.invariant_of-self-2 c).In_ok-weight in
+    let now : is_pass a.records k pass ≡ true = grind (arith, there, may.passes) in
     grown a _ _ _ _ (events.Dispatch k epoch pass qs (dispatched_of a.records k qs)) c.self.invariant
     (record {
-      step = (each, free.stands, now, refl);
+      step = (each, may.stands, now, refl);
       other = refl;
       records = c.in_ok-answer.ensures.after;
-      history = c.record.ensures.items ∙ (λ i. c.in_ok-make_room.ensures.items i ++ event i ∷ []);
+      history = told (goal.at.invariant_of-self-2 c).After-record;
       weighs = ap (λ (n : ℕ). a.weight + n) c.in_ok-weight.ensures.weight;
-      within = omega (arith, free.fits, c.self.invariant.weighs, c.in_ok-weight.ensures.weight);
+      within = omega (arith, may.fits, c.self.invariant.weighs, c.in_ok-weight.ensures.weight);
       pays = omega (arith, owed_dispatch a.records k qs, c.self.invariant.owed, c.in_ok-weight.ensures.weight);
       few = omega (arith, c.self.invariant.few, c.in_ok-weight.ensures.weight);
       room = omega (arith, c.in_ok-make_room.ensures.room, c.record.ensures.spare, c.in_ok-weight.ensures.weight);
     })
+
+pub returns : goal.returns
+returns c =
+    let a = c.self.inside in
+    let k = c.args.c in
+    let epoch = c.args.epoch in
+    let pass = c.args.pass in
+    let qs = c.args.proposals.now in
+    let history = told (goal.at.returns c).After-record in
+    let event : Event = events.Dispatch k epoch pass qs (dispatched_of a.records k qs) in
+    let made : held (record a { records = c.dispatch.new.self; history = c.record.new.history }) ≡ happened (held a) event =
+    (λ i. record { cluster = c.in_ok-answer.ensures.after i; history = history i; charges = a.charges; spec = a.spec; lines = a.lines.items; limit = a.limit }) in
+    record {
+      refused = c.in_ok-weight.ensures.refused;
+      answer = c.in_ok-answer.ensures.answer ∙ ap (λ (v : Held). dispatched_of v.cluster k qs) c.self.view_is;
+      ok = made ∙ (λ i. happened (c.self.view_is i) (events.Dispatch k epoch pass qs (sym c.in_ok-answer.ensures.answer i)));
+      err = tt;
+    }

@@ -1,12 +1,22 @@
-use Rattle.std.proofs.Common.{◌≡◌, refl, sym, ap, ◌∙◌, length, arith}
+use Rattle.std.proofs.Common.{◌≡◌, inr, refl, sym, ap, ◌∙◌, length, arith}
 use Rattle.hx_cluster.specs.declared.happenings.Event.TheVariants as events
 use Rattle.hx_cluster.specs.declared.happenings.Mail.{Mail}
 use Rattle.hx_cluster.specs.Steps.{session_of}
 use Rattle.hx_cluster.specs.Reads.{messages_for, fetched}
 use Rattle.hx_board.specs.Board.{Held}
-use Rattle.hx_board.proofs.Free.{full_free}
-use Rattle.hx_board.proofs.Growing.{recorded}
+use Rattle.hx_board.specs.declared.faults.RoomFault.TheVariants as rooms
+use Rattle.hx_board.proofs.Free.{full_free, full_told}
+use Rattle.hx_board.proofs.Growing.{roomy, recorded}
 use Rattle.hx_board.proofs.board.Board.fetch.Goals as goal
+
+pub invariant_of-self : goal.invariant_of-self
+invariant_of-self c = roomy c.self.inside c.make_room.new.history c.self.invariant c.in_err-make_room.ensures.items c.in_err-make_room.ensures.spare
+
+pub invariant_of-self-in_err-mail : goal.invariant_of-self-in_err-mail
+invariant_of-self-in_err-mail c = roomy c.self.inside c.make_room.new.history c.self.invariant c.in_ok-make_room.ensures.items c.in_ok-make_room.ensures.spare
+
+pub invariant_of-self-in_default-try_from : goal.invariant_of-self-in_default-try_from
+invariant_of-self-in_default-try_from c = roomy c.self.inside c.make_room.new.history c.self.invariant c.in_ok-make_room.ensures.items c.in_ok-make_room.ensures.spare
 
 pub invariant_of-self-2 : goal.invariant_of-self-2
 invariant_of-self-2 c =
@@ -20,3 +30,6 @@ invariant_of-self-2 c =
     let fits = full_free v 1 (λ weight. weight) (sym c.full.ensures ∙ c.in_default.is) in
     recorded c.self.inside _ _ _ _ _ _ (events.Fetch i mail.session c.in-Ok.count) c.self.invariant c.self.view_is (c.requires, session, count) refl refl refl refl fits
     c.in_ok-make_room.ensures c.record.ensures refl
+
+pub returns-in-Some-clause-refused : goal.returns-in-Some-clause-refused
+returns-in-Some-clause-refused c = inr (full_told c.args.self.now 1 rooms.HistoryFull c.in-Some.weight (sym c.full.ensures ∙ c.in-Some.is))

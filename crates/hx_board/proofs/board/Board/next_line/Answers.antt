@@ -5,8 +5,11 @@ use Rattle.hx_cluster.specs.declared.happenings.Event.TheVariants as events
 use Rattle.hx_board.specs.Board.{Held, held, next_line_of}
 use Rattle.hx_board.specs.Refusals.{line_refusal}
 use Rattle.hx_board.proofs.Free.{line_free}
-use Rattle.hx_board.proofs.Growing.{lined}
+use Rattle.hx_board.proofs.Growing.{roomy, lined}
 use Rattle.hx_board.proofs.board.Board.next_line.Goals as goal
+
+pub invariant_of-self : goal.invariant_of-self
+invariant_of-self c = roomy c.self.inside c.make_room.new.history c.self.invariant c.in_err-make_room.ensures.items c.in_err-make_room.ensures.spare
 
 pub invariant_of-self-2 : goal.invariant_of-self-2
 invariant_of-self-2 c =
