@@ -6,20 +6,20 @@ use hx_ids::{ControllerId, Epoch, PassNo};
 use std::alloc::AllocError;
 
 /// The history has no room: it weighs as much as `weight` says.
-#[derive(Clone, Copy, Debug, PartialEq, Eq)]
+#[derive(Clone, Copy)]
 pub struct HistoryFull {
     pub weight: u64,
 }
 
 /// Why a call that nothing else refuses isn't made.
-#[derive(Clone, Copy, Debug, PartialEq, Eq)]
+#[derive(Clone, Copy)]
 pub enum RoomFault {
     HistoryFull { weight: u64 },
     OutOfMemory,
 }
 
 /// Why a step isn't made. The step's own fault is never want of memory.
-#[derive(Clone, Copy, Debug, PartialEq, Eq)]
+#[derive(Clone, Copy)]
 pub enum BoardFault {
     Step(StepFault),
     HistoryFull { weight: u64 },
@@ -27,7 +27,7 @@ pub enum BoardFault {
 }
 
 /// Why a pass doesn't begin.
-#[derive(Clone, Copy, Debug, PartialEq, Eq)]
+#[derive(Clone, Copy)]
 pub enum BeginFault {
     NotLeader { led_by: Option<ControllerId> },
     HistoryFull { weight: u64 },
@@ -35,7 +35,7 @@ pub enum BeginFault {
 }
 
 /// Why a read shows nothing.
-#[derive(Clone, Copy, Debug, PartialEq, Eq)]
+#[derive(Clone, Copy)]
 pub enum ReadRefusal {
     /// The pass is over: the controller is in this one.
     OldPass { now: PassNo },
@@ -44,7 +44,7 @@ pub enum ReadRefusal {
 }
 
 /// Why a dispatch is refused whole.
-#[derive(Clone, Copy, Debug, PartialEq, Eq)]
+#[derive(Clone, Copy)]
 pub enum DispatchRefusal {
     /// Another epoch stands.
     Fenced { now: Epoch },
@@ -54,7 +54,7 @@ pub enum DispatchRefusal {
 }
 
 /// Why a post is refused.
-#[derive(Clone, Copy, Debug, PartialEq, Eq)]
+#[derive(Clone, Copy)]
 pub enum PostRefusal {
     Fenced { now: Epoch },
     HistoryFull { weight: u64 },

@@ -1,4 +1,4 @@
-use Rattle.std.proofs.Common.{◌≡◌, ℕ, ◌+◌, ◌≤◌, sym, ◌∙◌, subst, arith}
+use Rattle.std.proofs.Common.{ℕ, ◌+◌, ◌≤◌, sym, ◌∙◌, subst, arith}
 use Rattle.hx_board.specs.Board.{Held, held, weight_at}
 use Rattle.hx_board.specs.declared.faults.HistoryFull.{HistoryFull}
 use Rattle.hx_board.proofs.Free.{full_free, full_told}
