@@ -1,10 +1,9 @@
 //! The steps of an operator, a session or a leader; the script's lines; and charges.
-ghost use Rattle.std.specs.Prelude.{◌≡◌, ℕ, ◌+◌, ◌≤◌, [], ◌∷◌, ◌++◌, true, false, None};
+ghost use Rattle.std.specs.Prelude.{◌≡◌, true, false, None};
 ghost use Rattle.std.specs.Prelude.{IfOk, OnOk, OnErr, IsErrOf};
 ghost use Rattle.hx_lists.specs.Answers.{RefusedAs, RefusedBy};
-ghost use Rattle.hx_cluster.specs.Steps.{did_of, is_in_range, refusal_of};
+ghost use Rattle.hx_cluster.specs.Steps.{did_of, is_in_range};
 ghost use Rattle.hx_cluster.specs.Numbered.{is_end};
-ghost use Rattle.hx_cluster.specs.Room.{HasRoom};
 ghost use Rattle.hx_cluster.specs.Weight.{step_weight as step_weight_of};
 ghost use Rattle.hx_board.specs.Board.{happened, charged, next_line_of, line_taken};
 ghost use Rattle.hx_board.specs.Board.{opens as opens_of, IsNumber};
@@ -13,8 +12,6 @@ ghost use Rattle.hx_board.specs.Refusals.{charge_refusal, line_refusal, step_ref
 use crate::board::{Board, make_room, record};
 use crate::faults::{BoardFault, HistoryFull, RoomFault};
 use hx_cluster::{Admin, Did, Event};
-use hx_history::History;
-use hx_records::Records;
 use std::alloc::AllocError;
 
 /// What a step weighs, where that is a number of 64 bits.
@@ -53,48 +50,13 @@ fn answer_copied(did: &Did) -> Result<Did, AllocError>
     did.clone()
 }
 
-/// What a step answers, with its event. Both are made before the step.
-struct Answered {
-    event: Event,
-    did: Did,
-}
-
-// A derived drop is written out, field by field, wherever one is dropped; this is a call.
-impl Drop for Answered {
-    fn drop(self) {
-        let Answered { event: _, did: _ } = self;
-    }
-}
-
-impl Answered {
-    /// The answer to a step that nothing refuses.
-    fn new(records: &Records, step: &Admin) -> Result<Answered, AllocError>
-        requires may { refusal_of records.now step.now ≡ None }
-        requires room { HasRoom records.now }
-        ensures event { IfOk result (λ answered.
-            answered.event ≡ Event.Admin step.now (did_of records.now step.now)) }
-        ensures did { IfOk result (λ answered. answered.did ≡ did_of records.now step.now) }
-    {
-        let told = records.answer_to(step)?;
-        let did = answer_copied(&told)?;
-        let copy = copied(step)?;
-        Ok(Answered {
-            event: Event::Admin(copy, told),
-            did,
-        })
-    }
-
-    /// Records the event in room that was made, and gives the answer.
-    fn record(self, history: &mut History) -> Did
-        requires { 1 ≤ history.old.entries.spare }
-        ensures did { result ≡ self.did }
-        ensures items { history.new.entries.items ≡ history.old.entries.items ++ self.event ∷ [] }
-        ensures spare { history.new.entries.spare + 1 ≡ history.old.entries.spare }
-    {
-        let Answered { event, did } = self;
-        record(history, event);
-        did
-    }
+/// The event of a step, with what it answers.
+fn event_of(step: &Admin, did: &Did) -> Result<Event, AllocError>
+    ensures { IfOk result (λ event. event ≡ Event.Admin step.now did.now) }
+{
+    let step = copied(step)?;
+    let did = answer_copied(did)?;
+    Ok(Event::Admin(step, did))
 }
 
 impl Board {
@@ -149,10 +111,11 @@ impl Board {
             });
             return Ok(Did::Done);
         }
-        let answered = Answered::new(&self.records, step)?;
+        let did = self.records.answer_to(step)?;
+        let event = event_of(step, &did)?;
         make_room(&mut self.history, self.owed, 2)?;
-        self.records.make(step, &answered.did)?;
-        let did = answered.record(&mut self.history);
+        self.records.make(step, &did)?;
+        record(&mut self.history, event);
         self.weight += weight;
         self.owed += opens(step);
         Ok(did)

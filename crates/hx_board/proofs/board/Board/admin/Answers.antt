@@ -1,4 +1,5 @@
 use Rattle.std.proofs.Common.{◌≡◌, ℕ, ◌+◌, true, refl, sym, ap, ◌∙◌, ◌∷◌, [], ◌++◌, subst, arith}
+use Rattle.hx_cluster.specs.declared.happenings.Did.{Did}
 use Rattle.hx_cluster.specs.declared.happenings.Event.TheVariants as events
 use Rattle.hx_cluster.specs.Steps.{did_of, is_in_range}
 use Rattle.hx_board.specs.Board.{Held, held, happened}
@@ -7,8 +8,8 @@ use Rattle.hx_board.proofs.Growing.{room_of, opens_paid, opens_one, owed_step, g
 use Rattle.hx_board.proofs.Reaching.{reached_of}
 use Rattle.hx_board.proofs.board.Board.admin.Goals as goal
 
-pub new-requires : goal.new-requires
-new-requires c =
+pub answer_to-requires : goal.answer_to-requires
+answer_to-requires c =
     let free = step_free _ _ c.args.step.now c.self.view_is c.in_ok-weight.ensures.refused in
     record { may = free.free; room = room_of c.self.inside c.self.invariant }
 
@@ -16,7 +17,7 @@ pub make-requires : goal.make-requires
 make-requires c =
     let P : Held → Type 0 = λ v. is_in_range v.cluster c.args.step.now ≡ true in
     let free = step_free _ _ c.args.step.now c.self.view_is c.in_ok-weight.ensures.refused in
-    record { may = free.free; did = c.in_ok-answered.ensures.did; range = subst P (sym c.self.view_is) c.requires; reached = reached_of c.self.inside c.self.invariant; room = room_of c.self.inside c.self.invariant }
+    record { may = free.free; did = c.in_ok-did.ensures.did; range = subst P (sym c.self.view_is) c.requires; reached = reached_of c.self.inside c.self.invariant; room = room_of c.self.inside c.self.invariant }
 
 pub overflow_add-self : goal.overflow_add-self
 overflow_add-self c =
@@ -31,18 +32,18 @@ invariant_of-self-2 c =
     let range : is_in_range a.records step ≡ true = subst P (sym c.self.view_is) c.requires in
     let free = step_free _ _ step c.self.view_is c.in_ok-weight.ensures.refused in
     let did = did_of a.records step in
-    let event : c.in_ok-answered.answered.event ≡ events.Admin step did = c.in_ok-answered.ensures.event in
+    let event : c.in_ok-event.event ≡ events.Admin step did = c.in_ok-event.ensures ∙ ap (λ (d : Did). events.Admin step d) c.in_ok-did.ensures.did in
     grown a _ _ _ _ (events.Admin step did) c.self.invariant
     (record {
       step = (range, free.free, refl);
       other = refl;
       records = c.in_ok-make.ensures.ok;
-      history = c.record-did.ensures.items ∙ (λ i. c.in_ok-make_room.ensures.items i ++ event i ∷ []);
+      history = c.record.ensures.items ∙ (λ i. c.in_ok-make_room.ensures.items i ++ event i ∷ []);
       weighs = ap (λ (n : ℕ). a.weight + n) c.in_ok-weight.ensures.weight;
       within = omega (arith, free.fits, c.self.invariant.weighs, c.in_ok-weight.ensures.weight);
       pays = omega (arith, owed_step a.records step, c.opens.ensures, c.self.invariant.owed);
       few = omega (arith, c.self.invariant.few, opens_paid step, c.opens.ensures, c.in_ok-weight.ensures.weight);
-      room = omega (arith, c.in_ok-make_room.ensures.room, c.record-did.ensures.spare, opens_one step, c.opens.ensures);
+      room = omega (arith, c.in_ok-make_room.ensures.room, c.record.ensures.spare, opens_one step, c.opens.ensures);
     })
 
 pub returns : goal.returns
@@ -50,14 +51,14 @@ returns c =
     let a = c.self.inside in
     let step = c.args.step.now in
     let did = did_of a.records step in
-    let event : c.in_ok-answered.answered.event ≡ events.Admin step did = c.in_ok-answered.ensures.event in
-    let history = c.record-did.ensures.items ∙ (λ i. c.in_ok-make_room.ensures.items i ++ event i ∷ []) in
-    let P : Held → Type 0 = λ v. c.record-did.result ≡ did_of v.cluster step in
-    let made : held (record a { records = c.make.new.self; history = c.record-did.new.history }) ≡ happened (held a) (events.Admin step did) =
+    let event : c.in_ok-event.event ≡ events.Admin step did = c.in_ok-event.ensures ∙ ap (λ (d : Did). events.Admin step d) c.in_ok-did.ensures.did in
+    let history = c.record.ensures.items ∙ (λ i. c.in_ok-make_room.ensures.items i ++ event i ∷ []) in
+    let P : Held → Type 0 = λ v. c.in_ok-did.did ≡ did_of v.cluster step in
+    let made : held (record a { records = c.make.new.self; history = c.record.new.history }) ≡ happened (held a) (events.Admin step did) =
     (λ i. record { cluster = c.in_ok-make.ensures.ok i; history = history i; charges = a.charges; spec = a.spec; lines = a.lines.items; limit = a.limit }) in
     record {
       refused = c.in_ok-weight.ensures.refused;
-      did = subst P c.self.view_is (c.record-did.ensures.did ∙ c.in_ok-answered.ensures.did);
+      did = subst P c.self.view_is c.in_ok-did.ensures.did;
       ok = made ∙ (λ i. happened (c.self.view_is i) (events.Admin step (did_of (c.self.view_is i).cluster step)));
       err = tt;
       memory = λ e. cc;
