@@ -1,9 +1,10 @@
 -- An instance's session dies in a scene, and its participant stops: the scene stays one, and what is done is the operation.
 use Rattle.std.proofs.Common.{◌≡◌, ℕ, ◌⊎◌, inl, inr, true, List, [], ◌∷◌, ◌++◌, None, Some, refl, sym, ap, subst, ◌∙◌}
-use Rattle.std.specs.Prelude.{Option, Result, Ok, Err, IsErrAnd}
+use Rattle.std.specs.Prelude.{Option, Result, Ok, Err, IfErr}
 use Rattle.std.specs.List.{All}
 use Rattle.hx_ids.specs.declared.InstanceId.{InstanceId}
 use Rattle.hx_cluster.specs.declared.happenings.Admin.TheVariants as steps
+use Rattle.hx_cluster.specs.declared.happenings.Did.{Did}
 use Rattle.hx_cluster.specs.declared.happenings.Did.TheVariants as dids
 use Rattle.hx_cluster.specs.declared.happenings.StepFault.{StepFault}
 use Rattle.hx_cluster.specs.declared.happenings.Event.{Event}
@@ -73,14 +74,6 @@ scene_died {s} v i b later after is history has free made adopts kept =
       listed = subst (λ l. All (IsListed l) later) (sym kept.lists) (kept.listed (lists_of s) is.listed);
     }
 
-pub died_printed : {T E : Type 0} {roll : Roll} (v : Voice) (i : InstanceId) (s : SceneState) (b : Held) (later : List OpenState) (after : List ParticipantState) (p q : List ℕ) (t : T)
-    → step_refusal s.board (steps.End i) ≡ None → b ≡ on_board s.board (ended i) → Adopts i None s.jobs later s.staff after → KeepsParts s.jobs later s.staff after → roll ≡ step_roll s.board.cluster (steps.End i)
-    → ((h : List Event) (d : Event) → b.history ≡ h ++ d ∷ [] → Prints {E = E} (event_text s.spec roll d) p (Ok t) q)
-    → Ends (λ x. do_die v i x) s p tt (record s { board = b; jobs = later; staff = after }) q
-died_printed {T} {E} {roll} v i s b later after p q t free made adopts kept same printed =
-    printed_after p q (died_ends v i s b later after free made adopts kept)
-    ((printed s.board.history (ended i) (ap (λ c. c.history) made)).ok ∙ ap (λ text. p ++ text) (same_roll s (steps.End i) dids.Done same))
-
 died_cut : (v : Voice) (i : InstanceId) (s : SceneState) (b : Held) (later : List OpenState) (after : List ParticipantState) (p q : List ℕ) → step_refusal s.board (steps.End i) ≡ None
     → b ≡ on_board s.board (ended i) → KeepsParts s.jobs later s.staff after → PutsFront (entry_text s.spec s.board.cluster (ended i)) p q
     → IsCut (λ x. do_die v i x) s p (record s { board = b; jobs = later; staff = after }) q
@@ -92,15 +85,18 @@ died_cut v i s b later after p q free made kept front =
     (cut_as (λ a. ap (λ (o : Option StepFault). died v i o (at s a)) f.none)
     (happens_and_cut (ended i) (λ x. done (adopt_in i None x)) [] s w p q f.room refl refl (parts_kept s c later after refl kept) front))
 
-pub died_front : {R T E : Type 0} {roll : Roll} (v : Voice) (i : InstanceId) (s : SceneState) (b : Held) (later : List OpenState) (after : List ParticipantState) (p q : List ℕ) (fault : E)
+-- its end is printed, or memory is wanted for that
+pub died_given : {R : Type 0} {roll : Roll} (v : Voice) (i : InstanceId) (did : Did) (s : SceneState) (b : Held) (later : List OpenState) (after : List ParticipantState) (p q : List ℕ)
     (result : Result R RoomFault) → step_refusal s.board (steps.End i) ≡ None → b ≡ on_board s.board (ended i) → Adopts i None s.jobs later s.staff after → KeepsParts s.jobs later s.staff after
-    → roll ≡ step_roll s.board.cluster (steps.End i) → ((h : List Event) (d : Event) → b.history ≡ h ++ d ∷ [] → Prints {T = T} (event_text s.spec roll d) p (Err fault) q)
-    → IsErrAnd result (λ x. x ≡ rooms.OutOfMemory) → DoesDeed (λ x. do_die v i x) s p (record s { board = b; jobs = later; staff = after }) q result
-died_front v i s b later after p q fault (Ok x) free made adopts kept same printed failed = absurd failed
-died_front {R} {T} {E} {roll} v i s b later after p q fault (Err x) free made adopts kept same printed failed =
-    subst (λ y. Fails (λ z. do_die v i z) s p y (record s { board = b; jobs = later; staff = after }) q) (sym failed)
-    (died_cut v i s b later after p q free made kept
-    (subst (λ text. PutsFront text p q) (same_roll s (steps.End i) dids.Done same) (printed s.board.history (ended i) (ap (λ c. c.history) made)).err))
+    → did ≡ dids.Done → roll ≡ step_roll s.board.cluster (steps.End i) → Prints (event_text s.spec roll (events.Admin (steps.End i) did)) p result q → IfErr result (λ x. x ≡ rooms.OutOfMemory)
+    → DoesDeed (λ x. do_die v i x) s p (record s { board = b; jobs = later; staff = after }) q result
+died_given {R} {roll} v i did s b later after p q (Ok t) free made adopts kept answer same printed memory =
+    let told : Prints {T = R} {E = RoomFault} (event_text s.spec roll (ended i)) p (Ok t) q = subst (λ d. Prints {T = R} {E = RoomFault} (event_text s.spec roll (events.Admin (steps.End i) d)) p (Ok t) q) answer printed in
+    printed_after p q (died_ends v i s b later after free made adopts kept) (told.ok ∙ ap (λ text. p ++ text) (same_roll s (steps.End i) dids.Done same))
+died_given {R} {roll} v i did s b later after p q (Err fault) free made adopts kept answer same printed memory =
+    let told : Prints {T = R} {E = RoomFault} (event_text s.spec roll (ended i)) p (Err fault) q = subst (λ d. Prints {T = R} {E = RoomFault} (event_text s.spec roll (events.Admin (steps.End i) d)) p (Err fault) q) answer printed in
+    subst (λ y. Fails (λ z. do_die v i z) s p y (record s { board = b; jobs = later; staff = after }) q) (sym memory)
+    (died_cut v i s b later after p q free made kept (subst (λ text. PutsFront text p q) (same_roll s (steps.End i) dids.Done same) told.err))
 
 -- it is refused
 pub die_noted : {R : Type 0} (v : Voice) (i : InstanceId) (fault : StepFault) (s u : SceneState) (b : Held) (p q : List ℕ) (result : Result R RoomFault)

@@ -247,22 +247,18 @@ pub same_roll : {roll : Roll} (s : SceneState) (step : Admin) (did : Did) → ro
     → event_text s.spec roll (events.Admin step did) ≡ entry_text s.spec s.board.cluster (events.Admin step did)
 same_roll s step did is = ap (λ r. event_text s.spec r (events.Admin step did)) is ∙ serves s.spec s.board.cluster step did
 
-pub step_printed : {T E : Type 0} {roll : Roll} (v : Voice) (step : Admin) (s : SceneState) (b : Held) (p q : List ℕ) (t : T) → step_refusal s.board step ≡ None
-    → b ≡ on_board s.board (events.Admin step (did_of s.board.cluster step)) → roll ≡ step_roll s.board.cluster step
-    → ((h : List Event) (d : Event) → b.history ≡ h ++ d ∷ [] → Prints {E = E} (event_text s.spec roll d) p (Ok t) q) → Ends (λ x. do_step v step x) s p tt (record s { board = b }) q
-step_printed {T} {E} {roll} v step s b p q t free made is printed =
+-- it is printed, or memory is wanted for that
+pub step_given : {R : Type 0} {roll : Roll} (v : Voice) (step : Admin) (did : Did) (s : SceneState) (b : Held) (p q : List ℕ) (result : Result R RoomFault) → step_refusal s.board step ≡ None
+    → b ≡ on_board s.board (events.Admin step (did_of s.board.cluster step)) → did ≡ did_of s.board.cluster step → roll ≡ step_roll s.board.cluster step
+    → Prints (event_text s.spec roll (events.Admin step did)) p result q → IfErr result (λ x. x ≡ rooms.OutOfMemory) → DoesDeed (λ x. do_step v step x) s p (record s { board = b }) q result
+step_given {R} {roll} v step did s b p q (Ok t) free made answer is printed memory =
     let e = events.Admin step (did_of s.board.cluster step) in
     printed_event (λ x. do_step v step x) e s b roll p q t (λ a. step_made s v step a free) made (same_roll s step (did_of s.board.cluster step) is)
-    (printed s.board.history e (ap (λ c. c.history) made))
-
-pub step_front : {R T E : Type 0} {roll : Roll} (v : Voice) (step : Admin) (s : SceneState) (b : Held) (p q : List ℕ) (fault : E) (result : Result R RoomFault) → step_refusal s.board step ≡ None
-    → b ≡ on_board s.board (events.Admin step (did_of s.board.cluster step)) → roll ≡ step_roll s.board.cluster step
-    → ((h : List Event) (d : Event) → b.history ≡ h ++ d ∷ [] → Prints {T = T} (event_text s.spec roll d) p (Err fault) q) → IsErrAnd result (λ x. x ≡ rooms.OutOfMemory)
-    → DoesDeed (λ x. do_step v step x) s p (record s { board = b }) q result
-step_front {R} {T} {E} {roll} v step s b p q fault result free made is printed failed =
+    (subst (λ d. Prints {T = R} {E = RoomFault} (event_text s.spec roll (events.Admin step d)) p (Ok t) q) answer printed)
+step_given {R} {roll} v step did s b p q (Err fault) free made answer is printed memory =
     let e = events.Admin step (did_of s.board.cluster step) in
-    printed_front (λ x. do_step v step x) e s b roll p q fault result (λ a. step_made s v step a free) made (same_roll s step (did_of s.board.cluster step) is)
-    (printed s.board.history e (ap (λ c. c.history) made)) failed
+    printed_front {R = R} (λ x. do_step v step x) e s b roll p q fault (Err fault) (λ a. step_made s v step a free) made (same_roll s step (did_of s.board.cluster step) is)
+    (subst (λ d. Prints {T = R} {E = RoomFault} (event_text s.spec roll (events.Admin step d)) p (Err fault) q) answer printed) memory
 
 pub scene_of_step : {s : SceneState} (b : Held) (v : Voice) (step : Admin) → IsScene s → HasHistory b → is_in_range s.board.cluster step ≡ true → step_refusal s.board step ≡ None
     → b ≡ on_board s.board (events.Admin step (did_of s.board.cluster step)) → IsScene (record s { board = b })

@@ -2,6 +2,7 @@
 
 ghost use Rattle.std.specs.Prelude.{◌≡◌, [], ◌∷◌, ◌++◌, List, length, IfOk, IfErr};
 ghost use Rattle.hx_cluster.specs.declared.happenings.Event.{Event as Happening};
+ghost use Rattle.hx_cluster.specs.declared.happenings.Event.TheVariants as events;
 ghost use Rattle.hx_text.specs.Texts.{Prints};
 ghost use Rattle.hx_print.specs.Texts.{event_text, names_of, roll_of};
 ghost use Rattle.hx_scene.specs.Advances.{no_roll};
@@ -9,10 +10,10 @@ ghost use Rattle.hx_scene.specs.Rolls.{names_resources, names_sessions, step_rol
 
 use crate::{Deed, Scene};
 use hx_board::RoomFault;
-use hx_cluster::{Admin, Event, Resource};
+use hx_cluster::{Admin, Did, Event, Resource};
 use hx_handler::Factory;
 use hx_lists::Seq;
-use hx_print::{Roll, print_event};
+use hx_print::{Roll, print_event, print_step};
 use hx_text::Page;
 use std::alloc::{AllocError, Global};
 
@@ -96,6 +97,17 @@ impl<F: Factory> Scene<F> {
         ensures memory { IfErr result (λ fault. fault ≡ RoomFault.OutOfMemory) }
     {
         print_event(event, &self.no_roll(), &self.spec, out)?;
+        Ok(())
+    }
+
+    /// Prints a step that was made, with what it answered and the roll before it.
+    pub(crate) fn print_made(&self, step: &Admin, did: &Did, roll: &Roll, out: &mut Page) -> Deed
+        ensures prints { Prints
+            (event_text self.now.spec roll.now (events.Admin step.now did.now))
+            out.old result out.new }
+        ensures memory { IfErr result (λ fault. fault ≡ RoomFault.OutOfMemory) }
+    {
+        print_step(step, did, roll, &self.spec, out)?;
         Ok(())
     }
 

@@ -47,10 +47,9 @@ impl<F: Factory> Scene<F> {
         ensures { DoesDeed (do_step voice step.now) self.old out.old self.new out.new result }
     {
         match self.board.admin(step) {
-            Ok(_) => {
+            Ok(did) => {
                 self.board.history();
-                self.print_last(roll, out)?;
-                Ok(())
+                self.print_made(step, &did, roll, out)
             }
             Err(BoardFault::Step(fault)) => self.note(voice, &Note::Step(fault), out),
             Err(BoardFault::HistoryFull { weight }) => Err(RoomFault::HistoryFull { weight }),
@@ -76,7 +75,7 @@ impl<F: Factory> Scene<F> {
     {
         let open = self.open_jobs(instance)?;
         match self.board.admin(&Admin::End { instance }) {
-            Ok(_) => {
+            Ok(did) => {
                 self.board.history();
                 adopt(
                     &mut self.jobs,
@@ -85,8 +84,7 @@ impl<F: Factory> Scene<F> {
                     None,
                     &open,
                 );
-                self.print_last(roll, out)?;
-                Ok(())
+                self.print_made(&Admin::End { instance }, &did, roll, out)
             }
             Err(fault) => match fault {
                 BoardFault::Step(fault) => self.note(voice, &Note::Step(fault), out),

@@ -1,6 +1,6 @@
 use Rattle.hx_scene.proofs.Standing.{has_staff}
 use Rattle.hx_scene.proofs.Happening.{memory_wanted, no_memory}
-use Rattle.hx_scene.proofs.Dying.{scene_died, died_printed, died_front, die_noted, die_none}
+use Rattle.hx_scene.proofs.Dying.{scene_died, died_given, die_noted, die_none}
 use Rattle.hx_scene.proofs.scene.Scene.end.Goals as goal
 
 pub returns-in_err-open : goal.returns-in_err-open
@@ -16,18 +16,12 @@ invariant_of-self g c = (
   c.self.invariant.1,
 )
 
-pub returns-in_err-print_last-in-Ok : goal.returns-in_err-print_last-in-Ok
-returns-in_err-print_last-in-Ok g c =
-    rw (← c.self.view_is)
-    (died_front c.args.voice c.args.instance _ c.admin.new.self c.adopt.new.jobs.items c.adopt.new.participants.items c.args.out.now c.print_last.new.out c.in_err-print_last-in-Ok.field-0.0
-    c.from_residual-in_err-print_last-in-Ok.result c.in-Ok.ensures.refused c.in-Ok.ensures.ok c.adopt.ensures.adopts c.adopt.ensures.kept (rw (← c.self.view_is) at c.requires.roll)
-    c.in_err-print_last-in-Ok.ensures c.from_residual-in_err-print_last-in-Ok.ensures.1)
-
 pub returns-in-Ok : goal.returns-in-Ok
 returns-in-Ok g c =
     rw (← c.self.view_is)
-    (died_printed c.args.voice c.args.instance _ c.admin.new.self c.adopt.new.jobs.items c.adopt.new.participants.items c.args.out.now c.print_last.new.out c.in_ok-print_last-in-Ok.field-0
-    c.in-Ok.ensures.refused c.in-Ok.ensures.ok c.adopt.ensures.adopts c.adopt.ensures.kept (rw (← c.self.view_is) at c.requires.roll) c.in_ok-print_last-in-Ok.ensures)
+    (died_given c.args.voice c.args.instance c.in-Ok.did _ c.admin.new.self c.adopt.new.jobs.items c.adopt.new.participants.items c.args.out.now c.print_made.new.out c.print_made.result
+    c.in-Ok.ensures.refused c.in-Ok.ensures.ok c.adopt.ensures.adopts c.adopt.ensures.kept c.in-Ok.ensures.did (rw (← c.self.view_is) at c.requires.roll) c.print_made.ensures.prints
+    c.print_made.ensures.memory)
 
 pub returns-in-Step : goal.returns-in-Step
 returns-in-Step g c =

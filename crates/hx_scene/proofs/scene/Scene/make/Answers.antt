@@ -1,6 +1,5 @@
-use Rattle.hx_scene.proofs.Happening.{no_memory, step_printed, step_front, step_noted, step_none, scene_of_step}
+use Rattle.hx_scene.proofs.Happening.{no_memory, step_given, step_noted, step_none, scene_of_step}
 use Rattle.hx_scene.proofs.scene.Scene.make.Goals as goal
-use Rattle.hx_scene.proofs.scene.Scene.make.Goals.{in-Ok+in_ok-print_last-in-Ok, in-Err-Step, in-Err-HistoryFull, in-Err-OutOfMemory}
 
 pub invariant_of-self : goal.invariant_of-self
 invariant_of-self g c = (
@@ -8,31 +7,23 @@ invariant_of-self g c = (
   c.self.invariant.1,
 )
 
-pub returns-in_err-print_last-in-Ok : goal.returns-in_err-print_last-in-Ok
-returns-in_err-print_last-in-Ok g c =
+pub returns-in-Ok : goal.returns-in-Ok
+returns-in-Ok g c =
     rw (← c.self.view_is)
-    (step_front c.args.voice c.args.step.now _ c.admin.new.self c.args.out.now c.print_last.new.out c.in_err-print_last-in-Ok.field-0.0 c.from_residual.result c.in-Ok.ensures.refused
-    c.in-Ok.ensures.ok (rw (← c.self.view_is) at c.requires.roll) c.in_err-print_last-in-Ok.ensures c.from_residual.ensures.1)
+    (step_given c.args.voice c.args.step.now c.in-Ok.did _ c.admin.new.self c.args.out.now c.print_made.new.out c.print_made.result c.in-Ok.ensures.refused c.in-Ok.ensures.ok
+    c.in-Ok.ensures.did (rw (← c.self.view_is) at c.requires.roll) c.print_made.ensures.prints c.print_made.ensures.memory)
 
-pub returns : goal.returns
-returns g c =
-    elim c.match-admin.branch [
-      | in-Ok+in_ok-print_last-in-Ok w ↦
-          rw (w.self-is, w.out-is, w.result-is)
-          (rw (← c.self.view_is)
-          (step_printed c.args.voice c.args.step.now _ c.admin.new.self c.args.out.now w.print_last.new.out w.in_ok-print_last-in-Ok.field-0 w.in-Ok.ensures.refused w.in-Ok.ensures.ok
-          (rw (← c.self.view_is) at c.requires.roll) w.in_ok-print_last-in-Ok.ensures))
-      | in-Err-Step w ↦
-          rw (w.self-is, w.out-is, w.result-is)
-          (rw (← c.self.view_is)
-          (step_noted c.args.voice c.args.step.now w.in-Err-Step.fault _ w.note.new.self c.admin.new.self c.args.out.now w.note.new.out w.note.result
-          (rw w.in-Err-Step.field-0-is at w.in-Err-Step.ensures.refused) w.in-Err-Step.ensures.err w.note.ensures.does))
-      | in-Err-HistoryFull w ↦
-          rw (w.self-is, w.out-is, w.result-is)
-          (rw (← c.self.view_is)
-          (step_none c.args.voice c.args.step.now _ c.admin.new.self c.args.out.now w.in-Err-HistoryFull.weight (rw w.in-Err-HistoryFull.field-0-is at w.in-Err-HistoryFull.ensures.refused)
-          w.in-Err-HistoryFull.ensures.err))
-      | in-Err-OutOfMemory w ↦
-          rw (w.self-is, w.out-is, w.result-is)
-          (rw (← c.self.view_is) (no_memory _ _ c.admin.new.self c.args.out.now w.in-Err-OutOfMemory.ensures.err))
-    ]
+pub returns-in-Err-Step : goal.returns-in-Err-Step
+returns-in-Err-Step g c =
+    rw (← c.self.view_is)
+    (step_noted c.args.voice c.args.step.now c.in-Err-Step.fault _ c.note.new.self c.admin.new.self c.args.out.now c.note.new.out c.note.result
+    (rw c.in-Err-Step.field-0-is at c.in-Err-Step.ensures.refused) c.in-Err-Step.ensures.err c.note.ensures.does)
+
+pub returns-in-Err-HistoryFull : goal.returns-in-Err-HistoryFull
+returns-in-Err-HistoryFull g c =
+    rw (← c.self.view_is)
+    (step_none c.args.voice c.args.step.now _ c.admin.new.self c.args.out.now c.in-Err-HistoryFull.weight (rw c.in-Err-HistoryFull.field-0-is at c.in-Err-HistoryFull.ensures.refused)
+    c.in-Err-HistoryFull.ensures.err)
+
+pub returns-in-Err-OutOfMemory : goal.returns-in-Err-OutOfMemory
+returns-in-Err-OutOfMemory g c = rw (← c.self.view_is) (no_memory _ _ c.admin.new.self c.args.out.now c.in-Err-OutOfMemory.ensures.err)
