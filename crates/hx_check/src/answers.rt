@@ -20,7 +20,7 @@ use hx_script::{LogMove, LogPart, mode_numbered};
 use std::alloc::{AllocError, Global};
 
 /// What a log tells of a step: whether the rest of its text agrees, or what it answers.
-#[derive(Clone, Copy, Debug, PartialEq, Eq)]
+#[derive(Clone, Copy)]
 pub(crate) enum Told {
     Agrees(bool),
     Session(SessionId),

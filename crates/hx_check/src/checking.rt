@@ -59,7 +59,7 @@ fn add_names(alloc: Global, spec: &mut Spec, lines: &Lines, from: u32) -> Result
 }
 
 /// The verdict on the lines of a log that were read, and the first that wasn't.
-#[derive(Clone, Copy, Debug, PartialEq, Eq)]
+#[derive(Clone, Copy)]
 struct Stop {
     verdict: Verdict,
     next: u32,

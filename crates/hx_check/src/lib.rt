@@ -12,7 +12,7 @@ mod turns;
 pub use checking::check;
 
 /// Why a line of a log isn't lawful: the first of these that fits.
-#[derive(Clone, Copy, Debug, PartialEq, Eq)]
+#[derive(Clone, Copy)]
 pub enum Cause {
     /// It is no line of a log.
     Grammar,
@@ -27,7 +27,7 @@ pub enum Cause {
 }
 
 /// What a log is found to be.
-#[derive(Clone, Copy, Debug, PartialEq, Eq)]
+#[derive(Clone, Copy)]
 pub enum Verdict {
     Lawful { entries: u64 },
     /// The first line at fault.

@@ -15,7 +15,7 @@ use std::marker::Model;
 use std::mem;
 
 /// A read of a turn.
-#[derive(Clone, Copy, Debug, PartialEq, Eq)]
+#[derive(Clone, Copy)]
 pub(crate) enum Read {
     Live,
     Mail(SessionId),
@@ -24,7 +24,7 @@ pub(crate) enum Read {
 }
 
 /// A call of a turn that has begun.
-#[derive(Clone, Copy, Debug, PartialEq, Eq)]
+#[derive(Clone, Copy)]
 pub(crate) enum Call {
     Read(Read),
     Send,

@@ -23,7 +23,7 @@ use hx_worlds::Voice;
 use std::alloc::AllocError;
 
 /// What happened in a history, in numbers.
-#[derive(Clone, Copy, Debug, PartialEq, Eq)]
+#[derive(Clone, Copy)]
 pub struct Summary {
     /// Messages that were sent.
     pub sent: u64,
@@ -50,7 +50,7 @@ pub fn print_counts(summary: &Summary, out: &mut Page) -> Result<(), AllocError>
 }
 
 /// What is said in one line, without the names of the description.
-#[derive(Clone, Copy, Debug)]
+#[derive(Clone, Copy)]
 enum Line {
     Sent(ControllerId, u32),
     Waiting(ControllerId, u32),

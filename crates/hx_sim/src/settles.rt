@@ -20,7 +20,7 @@ use hx_worlds::{Settled, Voice};
 use std::alloc::AllocError;
 
 /// What a settle came to.
-#[derive(Debug, PartialEq, Drop)]
+#[derive(Drop)]
 pub enum Settle {
     /// Nobody leads.
     NoLeader,
