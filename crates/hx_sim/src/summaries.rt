@@ -12,7 +12,7 @@ use crate::World;
 use hx_agree::{joined_in, sent_in};
 use hx_cluster::{Admin, Did, Event, Outcome};
 use hx_handler::Factory;
-use hx_history::Entries;
+use hx_history::{Counted, Entries};
 use hx_scene::{Deed, Summary};
 use hx_text::Page;
 use std::alloc::AllocError;
@@ -73,15 +73,16 @@ fn counted(summary: &Summary, event: &Event) -> Option<Summary>
 pub fn summary_of(entries: &Entries) -> Result<Summary, AllocError>
     ensures { IfOk result (λ summary. text_of summary ≡ summary_of entries.now.items) }
 {
+    let Counted { kept, ok, failed } = entries.counted();
     let mut summary = Summary {
         sent: 0,
-        ok: 0,
-        failed: 0,
+        ok: ok as u64,
+        failed: failed as u64,
         joined: 0,
         ended: 0,
     };
-    for told in entries {
-        summary = counted(&summary, told.event()).ok_or(AllocError)?;
+    for event in kept {
+        summary = counted(&summary, event).ok_or(AllocError)?;
     }
     Ok(summary)
 }
