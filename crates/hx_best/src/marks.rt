@@ -157,6 +157,7 @@ impl Shown<'_> {
 
     /// Marks the instances of a list, each where it stands first. A list whose places don't fit
     /// their type is want of memory.
+    #[inline(always)]
     fn mark_list(&self, list: &[InstanceId], visits: &mut Visits) -> Result<u32, AllocError>
         requires { visits.old ≡ [] }
         ensures { IfOk result (λ past.
@@ -196,6 +197,7 @@ impl Shown<'_> {
     }
 
     /// Visits the sessions of an instance, with a mark.
+    #[inline(always)]
     fn mark_on(
         &self,
         instance: InstanceId,

@@ -71,6 +71,7 @@ impl Shown<'_> {
 
     /// Whether the replica that is wanted on an instance is where it is to go. If so it answers
     /// whether the instance can take a state, and notes the place of the replica's row.
+    #[inline(always)]
     fn entry(&self, instance: InstanceId, wanted: StateId, met: &mut u64) -> Option<bool>
         requires { length (rows_at self.now.0 self.now.1) < 64 }
         ensures stands { MatchOption result (Unit {0}) (λ eligible.

@@ -59,6 +59,7 @@ impl Visits {
     }
 
     /// Adds a visit. Where its session is visited already, the mark stays that it has.
+    #[inline(always)]
     pub fn add(&mut self, visit: Visit) -> Result<(), AllocError>
         ensures { (n : ℕ) → visit.number < n
             → OnOk result (Adds n (λ k. k == visit.number) visit.mark self.old self.new) }

@@ -66,6 +66,7 @@ impl Board {
 }
 
 /// Makes room in a history for so many events more than are owed.
+#[inline(always)]
 pub(crate) fn make_room(history: &mut History, owed: usize, more: usize) -> Result<(), AllocError>
     ensures items { history.new.entries.items ≡ history.old.entries.items }
     ensures spare { history.old.entries.spare ≤ history.new.entries.spare }
@@ -76,6 +77,7 @@ pub(crate) fn make_room(history: &mut History, owed: usize, more: usize) -> Resu
 }
 
 /// Records an event in room that was made.
+#[inline(always)]
 pub(crate) fn record(history: &mut History, event: Event)
     requires { 1 ≤ history.old.entries.spare }
     ensures items { history.new.entries.items ≡ history.old.entries.items ++ event ∷ [] }

@@ -107,6 +107,7 @@ impl Counts {
 }
 
 // The number of a key: 0 where there is none.
+#[inline(always)]
 fn number<K: Eq + Hash>(numbers: &HashMap<K, u32>, key: &K) -> u32
     ensures { result ≡ unwrap_or (get K.eq numbers.now key.now) 0 }
 {

@@ -17,7 +17,7 @@ pub(crate) struct Brief {
 
 impl Brief {
     /// The words that tell an event.
-    #[inline]
+    #[inline(always)]
     pub(crate) fn words(&self) -> &[u32]
         ensures words { result.now ≡ take (words_of self.now.kind) self.now.words }
         ensures many { length result.now ≡ words_of self.now.kind }
@@ -27,7 +27,7 @@ impl Brief {
 }
 
 /// A number in one word.
-#[inline]
+#[inline(always)]
 fn word(number: u64) -> Option<u32>
     ensures { IfSome result (λ word. word ≡ number) }
 {
@@ -39,7 +39,7 @@ fn word(number: u64) -> Option<u32>
 }
 
 /// A kind with numbers, where each of them fits a word.
-#[inline]
+#[inline(always)]
 fn in_words(kind: Kind, numbers: [u64; 4]) -> Option<Brief>
     ensures { IfSome result (λ brief. brief ≡ record { kind = kind; words = numbers }) }
 {
@@ -49,7 +49,7 @@ fn in_words(kind: Kind, numbers: [u64; 4]) -> Option<Brief>
 }
 
 /// What tells a fetch in words alone, where they are enough.
-#[inline]
+#[inline(always)]
 fn fetch_in_words(instance: InstanceId, session: Option<SessionId>, count: u32) -> Option<Brief>
     ensures { IfSome result (λ brief. Tells brief (events.Fetch instance session count)) }
 {
@@ -61,7 +61,7 @@ fn fetch_in_words(instance: InstanceId, session: Option<SessionId>, count: u32) 
 }
 
 /// What tells an event in words alone, where they are enough.
-#[inline]
+#[inline(always)]
 pub(crate) fn brief_of(event: &Event) -> Option<Brief>
     ensures { IfSome result (λ brief. Tells brief event.now) }
 {

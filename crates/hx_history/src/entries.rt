@@ -63,7 +63,7 @@ impl Model for Entries {
 }
 
 /// Adds words at the end. It takes no memory.
-#[inline]
+#[inline(always)]
 fn push_words(words: &mut Log<u32>, added: &[u32])
     requires { length added.now ≤ words.old.spare }
     ensures items { words.new.items ≡ words.old.items ++ added.now }
@@ -133,6 +133,7 @@ impl Entries {
     }
 
     /// Adds an item at the end. It takes no memory.
+    #[inline(always)]
     pub fn push_reserved(&mut self, value: Event)
         requires { 0 < self.old.spare }
         ensures items { self.new.items ≡ self.old.items ++ value ∷ [] }

@@ -27,7 +27,7 @@ pub(crate) enum Kind {
 
 impl Kind {
     /// How many words tell an event.
-    #[inline]
+    #[inline(always)]
     pub(crate) fn words(self) -> usize
         ensures { result ≡ words_of self }
     {

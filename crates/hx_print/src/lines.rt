@@ -84,6 +84,7 @@ fn print_token(word: &Token, page: &mut Page) -> Result<(), AllocError>
 }
 
 /// Prints a word, with a space before it.
+#[inline(always)]
 pub fn print_word(word: &Token, page: &mut Page) -> Result<(), AllocError>
     ensures { Prints (codes " " ++ Tokens.token_word word.now) page.old result page.new }
 {
@@ -102,6 +103,7 @@ pub fn print_words(words: &[Token], page: &mut Page) -> Result<(), AllocError>
 }
 
 /// Prints a line: its first word, and the others.
+#[inline(always)]
 pub fn print_line(first: &str, others: &[Token], page: &mut Page) -> Result<(), AllocError>
     ensures { Prints (Texts.line_of (first.now ∷ Tokens.words_of others.now))
         page.old result page.new }

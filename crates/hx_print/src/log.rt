@@ -494,6 +494,7 @@ fn print_answered(
 }
 
 /// Prints that a line of the script begins.
+#[inline(always)]
 fn print_number_of_line(n: u32, page: &mut Page) -> Result<(), AllocError>
     ensures { Prints (Texts.line_of (codes "line" ∷ decimal n ∷ [])) page.old result page.new }
 {
@@ -537,6 +538,7 @@ fn print_read(
 }
 
 /// Prints that a turn read what is there for each session.
+#[inline(always)]
 fn print_read_of(
     word: &str,
     controller: ControllerId,
@@ -596,6 +598,7 @@ fn print_fetch(
 }
 
 /// Prints a step on a message.
+#[inline(always)]
 fn print_message(
     word: &str,
     session: SessionId,
@@ -630,6 +633,7 @@ fn print_write(
 }
 
 /// Prints an event. The roll is the one before it.
+#[inline(always)]
 pub fn print_event(
     event: &Event,
     roll: &Roll,

@@ -85,6 +85,7 @@ impl<H> Indexed<H> {
     }
 
     /// The place of a part's slot.
+    #[inline(always)]
     pub fn place_of(&self, part: PartId) -> Option<usize>
         requires { IsIndexed self.now }
         ensures { result ≡ position (has_part part) self.now.items.items }

@@ -91,6 +91,7 @@ impl<F: Factory> Scene<F> {
     }
 
     /// Prints an event whose log line needs nothing of the cluster.
+    #[inline(always)]
     pub(crate) fn print_given(&self, event: &Event, out: &mut Page) -> Deed
         ensures prints { Prints (event_text self.now.spec no_roll event.now)
             out.old result out.new }
@@ -101,6 +102,7 @@ impl<F: Factory> Scene<F> {
     }
 
     /// Prints a step that was made, with what it answered and the roll before it.
+    #[inline(always)]
     pub(crate) fn print_made(&self, step: &Admin, did: &Did, roll: &Roll, out: &mut Page) -> Deed
         ensures prints { Prints
             (event_text self.now.spec roll.now (events.Admin step.now did.now))

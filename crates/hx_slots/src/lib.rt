@@ -71,6 +71,7 @@ impl Slots {
     }
 
     /// The state of a session's replica, if it has a row. It takes no memory.
+    #[inline(always)]
     pub fn state(&self, session: SessionId, part: PartId) -> Option<StateId>
         ensures { result ≡ state_of self.now.rows session part }
     {

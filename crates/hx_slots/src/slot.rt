@@ -63,6 +63,7 @@ fn key_of(session: SessionId, part: PartId) -> Option<u64>
 }
 
 /// The slot of a session's part, if there is one. It takes no memory.
+#[inline(always)]
 pub(crate) fn slot_of(slots: &Store<Slot>, session: SessionId, part: PartId) -> Option<&Slot>
     ensures { MatchOption result
         (IsPlaced session part → record_at slots.now (slot_key session part) ≡ None)
@@ -198,6 +199,7 @@ pub(crate) fn add_message(mail: &mut Store<Message>, message: Message) -> Result
 }
 
 /// Puts a changed message in place of the one of its number, which is there. It takes no memory.
+#[inline(always)]
 pub(crate) fn mark(mail: &mut Store<Message>, message: Message)
     requires there { IsSome (record_at mail.old message.id.0) }
     requires room { CanChange (record_at mail.old message.id.0) }

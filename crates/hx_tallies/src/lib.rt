@@ -89,6 +89,7 @@ fn stands_at(has: Option<StateId>, state: StateId) -> bool
 }
 
 // Counts an end of a replica, unless it stands there.
+#[inline(always)]
 fn raise_end(
     cluster: &Cluster,
     counts: &mut Counts,
@@ -110,6 +111,7 @@ fn raise_end(
 }
 
 // Counts it no longer.
+#[inline(always)]
 fn lower_end(
     cluster: &Cluster,
     counts: &mut Counts,

@@ -49,6 +49,7 @@ fn lengthen(bytes: &mut Vec<u8>, additional: usize) -> Result<(), AllocError>
 }
 
 /// Makes room for so many bytes more behind the first ones, which stay.
+#[inline(always)]
 fn make_room(bytes: &mut Vec<u8>, len: usize, additional: usize) -> Result<(), AllocError>
     requires { len ≤ length bytes.old.items }
     ensures ok { OnOk result (len + additional ≤ length bytes.new.items) }
@@ -97,6 +98,7 @@ impl Page {
     }
 
     /// Puts one byte at the end.
+    #[inline(always)]
     pub fn push_byte(&mut self, byte: u8) -> Result<(), AllocError>
         ensures ok { OnOk result (self.new ≡ self.old ++ byte ∷ []) }
         ensures err { OnErr result (self.new ≡ self.old) }
@@ -108,6 +110,7 @@ impl Page {
     }
 
     /// Puts a text at the end.
+    #[inline(always)]
     pub fn push_str(&mut self, text: &str) -> Result<(), AllocError>
         ensures ok { OnOk result (self.new ≡ self.old ++ text.now) }
         ensures err { OnErr result (self.new ≡ self.old) }
@@ -118,6 +121,7 @@ impl Page {
     }
 
     /// Puts a number's decimal digits at the end.
+    #[inline(always)]
     pub fn push_u64(&mut self, n: u64) -> Result<(), AllocError>
         ensures ok { OnOk result (self.new ≡ self.old ++ decimal n) }
         ensures err { OnErr result (self.new ≡ self.old) }
@@ -128,6 +132,7 @@ impl Page {
     }
 
     /// Puts a sign at the end, and a number's decimal digits behind it.
+    #[inline(always)]
     pub fn push_numbered(&mut self, sign: u8, n: u64) -> Result<(), AllocError>
         ensures ok { OnOk result (self.new ≡ self.old ++ sign ∷ decimal n) }
         ensures err { OnErr result (self.new ≡ self.old) }

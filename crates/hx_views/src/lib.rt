@@ -142,6 +142,7 @@ impl<'a> ViewIndex<'a> {
     }
 
     /// How many live sessions have a state among the ends of a part.
+    #[inline(always)]
     pub fn count_of(&self, part: PartId, state: StateId) -> u32
         ensures { result ≡ count_in self.now part state }
     {
