@@ -1,16 +1,18 @@
-//! What stands on a board. No reader takes memory, but those that answer a list of their own.
-ghost use Rattle.std.specs.Prelude.{◌≡◌, option_copied, IfOk};
+//! What stands on a board. No reader takes memory, but those that answer a list of their own or add
+//! to one.
+ghost use Rattle.std.specs.Prelude.{◌≡◌, ◌++◌, option_copied, IfOk, OnOk, OnErr};
 ghost use Rattle.hx_cluster.specs.Ends.{state_of, message_of, resource_at, shown_of};
-ghost use Rattle.hx_cluster.specs.Reads.{live_shown};
+ghost use Rattle.hx_cluster.specs.Reads.{live_shown, states_shown};
 ghost use Rattle.hx_cluster.specs.Steps.{opening, session_of, is_drained, newest, refusal_of};
 ghost use Rattle.hx_cluster.specs.Safe.{SafeAlong};
 ghost use Rattle.hx_cluster.specs.Runs.{IsOneRunEach};
 ghost use Rattle.hx_board.specs.Board.{weight_at, HasHistory};
 
 use crate::board::Board;
-use hx_cluster::{Admin, Message, Resource, Seen, StepFault};
+use hx_cluster::{Admin, Message, Resource, Row, Seen, StepFault};
 use hx_history::History;
 use hx_ids::{ControllerId, InstanceId, PartId, ResourceId, SessionId, StateId};
+use hx_lists::Seq;
 use std::alloc::AllocError;
 
 impl Board {
@@ -47,6 +49,14 @@ impl Board {
         ensures { result ≡ state_of self.now.cluster.rows session part }
     {
         self.records.row(session, part)
+    }
+
+    /// Adds a session's rows, by part, to some.
+    pub fn push_rows_of(&self, session: SessionId, rows: &mut Seq<Row>) -> Result<(), AllocError>
+        ensures ok { OnOk result (rows.new ≡ rows.old ++ states_shown self.now.cluster session) }
+        ensures err { OnErr result (rows.new ≡ rows.old) }
+    {
+        self.records.read_states_into(session, rows)
     }
 
     /// The pending message of a session's part.
