@@ -2,13 +2,13 @@
 ghost use Rattle.std.specs.Prelude.{◌≡◌, ℕ, ◌≤◌, map, length, IfOk};
 ghost use Rattle.hx_script.specs.Grammar;
 
-use crate::What;
 use crate::faults::ScriptKind;
 use crate::verbs::Verb;
 use crate::words::{
     controller_word, instance_word, message_word, mode_word, model_word, name_word, number_word,
     pair_word, part_words, read_kind_word, resource_word, small_number_word, state_word,
 };
+use crate::{Apart, What};
 use hx_cluster::Spec;
 use hx_ideal::{MOST_PARTS, MOST_REPLICAS};
 use hx_ids::{ControllerId, InstanceId, MsgId, StateId};
@@ -209,7 +209,10 @@ fn list_line(
         Err(kind) => return Ok(Err(kind)),
     };
     match instance_words(alloc, spec, rest)? {
-        Ok(list) => Ok(Ok(What::List { name, part, list })),
+        Ok(list) => {
+            let list = Apart::new(alloc, list)?;
+            Ok(Ok(What::List { name, part, list }))
+        }
         Err(kind) => Ok(Err(kind)),
     }
 }
@@ -230,7 +233,10 @@ fn map_line(
         Err(kind) => return Ok(Err(kind)),
     };
     match pair_words(alloc, spec, rest)? {
-        Ok(map) => Ok(Ok(What::Map { name, part, map })),
+        Ok(map) => {
+            let map = Apart::new(alloc, map)?;
+            Ok(Ok(What::Map { name, part, map }))
+        }
         Err(kind) => Ok(Err(kind)),
     }
 }

@@ -1,6 +1,7 @@
 //! Scripts: what their lines ask for.
 #![tactic(auto)]
 
+mod apart;
 mod faults;
 mod forms;
 mod history;
@@ -11,6 +12,7 @@ mod printing;
 mod verbs;
 mod words;
 
+pub use apart::Apart;
 pub use faults::{ScriptFault, ScriptKind, ScriptRefusal};
 pub use forms::{
     controller_alone, five_words, instance_alone, instance_words, pair_words, three_words,
@@ -18,7 +20,6 @@ pub use forms::{
 };
 pub use history::{Printer, logs_grow_by_entries, print_history};
 use hx_ids::{ControllerId, InstanceId, ModelId, MsgId, StateId};
-use hx_lists::Seq;
 pub use hx_print::{Note, Word};
 pub use log::{LogEntry, LogLine, LogMove, LogPart, LogVerb, Sort};
 pub use modes::{mode_number, mode_numbered};
@@ -61,12 +62,12 @@ pub enum What {
     List {
         name: u32,
         part: u32,
-        list: Seq<InstanceId>,
+        list: Apart<InstanceId>,
     },
     Map {
         name: u32,
         part: u32,
-        map: Seq<(InstanceId, StateId)>,
+        map: Apart<(InstanceId, StateId)>,
     },
     Reset {
         instance: InstanceId,

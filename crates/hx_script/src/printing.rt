@@ -14,10 +14,9 @@ ghost use Rattle.hx_script.specs.LineTexts;
 
 use crate::modes::mode_numbered;
 use crate::verbs::Verb;
-use crate::{Line, ReadKind, What};
+use crate::{Apart, Line, ReadKind, What};
 use hx_cluster::Spec;
 use hx_ids::{ControllerId, InstanceId, ModelId, MsgId, StateId};
-use hx_lists::Seq;
 use hx_print::{
     Rest, Token, instance_name, model_name, name_at, print_line as print_short_line,
     print_long_line, state_name,
@@ -161,7 +160,7 @@ fn print_with_part(
 fn print_list(
     name: u32,
     part: u32,
-    list: &Seq<InstanceId>,
+    list: &Apart<InstanceId>,
     spec: &Spec,
     page: &mut Page,
 ) -> Result<(), AllocError>
@@ -176,7 +175,7 @@ fn print_list(
 fn print_map(
     name: u32,
     part: u32,
-    map: &Seq<(InstanceId, StateId)>,
+    map: &Apart<(InstanceId, StateId)>,
     spec: &Spec,
     page: &mut Page,
 ) -> Result<(), AllocError>
