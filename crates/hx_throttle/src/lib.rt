@@ -40,7 +40,7 @@ pub fn throttle_on(
 ) -> Result<Throttled, AllocError>
     ensures { IfOk result (λ all. all ≡ throttled rules.now view.now accepted.now) }
 {
-    let shown = Shown::new(view.live.as_slice());
+    let shown = Shown::new(alloc, view.live.as_slice())?;
     let mut loads = shown_loads(alloc, rules, &shown, view.mail.as_slice())?;
     let mut sent = Seq::new(alloc);
     let mut held = Seq::new(alloc);
@@ -66,7 +66,7 @@ pub fn sent_on(
 ) -> Result<Seq<Candidate>, AllocError>
     ensures { IfOk result (λ sent. sent ≡ sent_of rules.now view.now accepted.now) }
 {
-    let shown = Shown::new(view.live.as_slice());
+    let shown = Shown::new(alloc, view.live.as_slice())?;
     let mut loads = shown_loads(alloc, rules, &shown, view.mail.as_slice())?;
     let mut sent = Seq::new(alloc);
     for candidate in accepted {

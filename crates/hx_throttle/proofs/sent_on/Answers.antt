@@ -12,7 +12,7 @@ loop-candidate-preserved c =
     let accepted = c.args.accepted.now in
     let at = c.loop-candidate in
     let i = at.candidate-index in
-    let shown = c.new-shown.ensures ∙ c.as_slice.ensures in
+    let shown = c.in_ok-shown.ensures ∙ c.as_slice.ensures in
     let is = keyed_is view _ _ (get_or accepted i no_candidate) _ shown c.transition.ensures c.keyed-keyed.ensures in
     let found = sent_where_none rules view at.sent _ c.is_none.result (sym (ap is_some (c.in_ok-held_by.ensures view at.sent is at.invariant.loaded)) ∙ c.is_none.ensures) in
     elim c.if-is_none.branch [
