@@ -19,7 +19,7 @@ use hx_hops::Hops;
 use hx_lists::Seq;
 use hx_model::Model;
 use hx_select::accepted_on;
-use hx_throttle::throttle;
+use hx_throttle::sent_on;
 use plans::plan_on;
 pub use posts::{instance_or_first, posted};
 use std::alloc::{AllocError, Global};
@@ -83,10 +83,9 @@ pub fn draft_of_accepted(
     requires { accepted.now ≡ (selection_of spec.now.models view.now).accepted }
     ensures { IfOk result (λ draft. draft ≡ draft_of spec.now.models spec.now.rules view.now) }
 {
-    let throttled = throttle(alloc, spec, view, accepted)?;
     Ok(Draft {
         models: spec.models.clone()?,
         rules: spec.rules.clone()?,
-        sent: throttled.sent,
+        sent: sent_on(alloc, spec.rules.as_slice(), view, accepted)?,
     })
 }

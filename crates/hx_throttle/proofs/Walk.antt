@@ -1,6 +1,6 @@
 -- The walk over the accepted candidates.
 use Rattle.std.proofs.Common.{◌≡◌, ℕ, ◌+◌, ◌<◌, Bool, true, false, List, [], ◌∷◌, ◌++◌, length, drop, get_or, append_assoc, refl, sym, ap, subst, ◌∙◌, arith}
-use Rattle.std.specs.Prelude.{slice_get, None, Some, if◌then◌else◌}
+use Rattle.std.specs.Prelude.{slice_get, Option, None, Some, is_some, not, if◌then◌else◌}
 use Rattle.std.specs.List.{fold}
 use Rattle.std.specs.Option.{option_to_list}
 use Rattle.std.proofs.lemmas.List.{at_drop_more}
@@ -15,19 +15,29 @@ use Rattle.hx_cluster.specs.declared.happenings.Proposal.{Proposal}
 use Rattle.hx_cluster.specs.declared.planning.View.{View}
 use Rattle.hx_cluster.specs.declared.planning.Candidate.{Candidate}
 use Rattle.hx_cluster.specs.declared.planning.Held.{Held}
-use Rattle.hx_cluster.specs.Ends.{key_of}
+use Rattle.hx_cluster.specs.Ends.{matches}
+use Rattle.hx_throttle.specs.declared.shown.Keyed.{Keyed}
 use Rattle.hx_throttle.specs.Throttle.{key_for, counts_too, loading, holds_back, is_sent, held_by, sent_of, held_of}
-use Rattle.hx_throttle.specs.Loads.{AreLoads, counts_under, transition_of}
-use Rattle.hx_throttle.proofs.Counting.{count-push}
+use Rattle.hx_throttle.specs.Loads.{AreLoads, keyed_of, key_in, counts_under, transition_of}
+use Rattle.hx_throttle.proofs.Counting.{count-push, key_found, counted_found}
 
 -- what the table says is a rule's load under a candidate's key
-pub load_found : (rules : List Rule) (view : View) (sent : List Candidate) (table : Numbers) (live : List (SessionId × InstanceId)) (c : Candidate) (place m key load : ℕ) (rule : Rule)
-    → live ≡ view.live → AreLoads rules (loading view sent) table → slice_get rules place ≡ Some rule
-    → m ≡ place → key ≡ key_of rule.scope live c.session c.part → load ≡ loads_of table m key → load ≡ loading view sent rule (key_for view rule c)
-load_found rules view sent table live c place m key load rule shown loads here m_is key_is is =
+pub load_found : (rules : List Rule) (view : View) (sent : List Candidate) (table : Numbers) (k : Keyed) (c : Candidate) (place m key load : ℕ) (rule : Rule)
+    → k ≡ keyed_of view.live (transition_of c) → AreLoads rules (loading view sent) table → slice_get rules place ≡ Some rule
+    → m ≡ place → key ≡ key_in rule.scope k → load ≡ loads_of table m key → load ≡ loading view sent rule (key_for view rule c)
+load_found rules view sent table k c place m key load rule k_is loads here m_is key_is is =
     let at : slice_get rules m ≡ Some rule = ap (slice_get rules) m_is ∙ here in
-    let for : key ≡ key_for view rule c = key_is ∙ ap (λ (l : List (SessionId × InstanceId)). key_of rule.scope l c.session c.part) shown in
+    let for : key ≡ key_for view rule c = key_is ∙ ap (key_in rule.scope) k_is ∙ key_found rule.scope view.live (transition_of c) in
     is ∙ loads m rule key at ∙ ap (loading view sent rule) for
+
+-- what is found of a candidate's transition
+pub keyed_is : (view : View) (live : List (SessionId × InstanceId)) (q : Proposal) (c : Candidate) (k : Keyed)
+    → live ≡ view.live → q ≡ transition_of c → k ≡ keyed_of live q → k ≡ keyed_of view.live (transition_of c)
+keyed_is view live q c k shown is_its is = is ∙ ap (λ (l : List (SessionId × InstanceId)). keyed_of l q) shown ∙ ap (keyed_of view.live) is_its
+
+pub matches_found : (view : View) (k : Keyed) (c : Candidate) (rule : Rule) (b : Bool)
+    → k ≡ keyed_of view.live (transition_of c) → b ≡ matches rule k.from k.to → matches rule c.from c.to ≡ b
+matches_found view k c rule b k_is is = sym (is ∙ ap (λ (x : Keyed). matches rule x.from x.to) k_is)
 
 -- a rule that doesn't hold the candidate back is passed, and the first that does answers
 pub rule_passed : (rules : List Rule) (view : View) (sent : List Candidate) (c : Candidate) (place : ℕ) (d : Rule) → place < length rules
@@ -63,37 +73,73 @@ held_where_not (r ∷ rules) n view sent c h some = one (holds_back view sent c 
     one true e i rest = grind (arith, e)
     one false e i rest = grind (arith, e, rest i)
 
+pub sent_where_none : (rules : List Rule) (view : View) (sent : List Candidate) (c : Candidate) (b : Bool) → is_some (held_by rules 0 view sent c) ≡ not b → is_sent rules view sent c ≡ b
+sent_where_none rules view sent c b is = one (held_by rules 0 view sent c) refl b is
+  where
+    one : (o : Option Held) → held_by rules 0 view sent c ≡ o → (b : Bool) → is_some o ≡ not b → is_sent rules view sent c ≡ b
+    one None e true h = sent_where_free rules 0 view sent c e
+    one None e false h = cc
+    one (Some x) e true h = cc
+    one (Some x) e false h = held_where_not rules 0 view sent c x e
+
 -- what is said of a candidate that is held back
 abbrev pub said : List Rule → View → List Candidate → Candidate → List Held
 said rules view sent c = option_to_list (held_by rules 0 view sent c)
 
--- so many of the accepted are sent or held
-pub record IsWalked (rules : List Rule) (view : View) (accepted : List Candidate) (i : ℕ) (sent : List Candidate) (held : List Held) (table : Numbers) : Type 0 where
+-- so many of the accepted are sent or not
+pub record IsSifted (rules : List Rule) (view : View) (accepted : List Candidate) (i : ℕ) (sent : List Candidate) (table : Numbers) : Type 0 where
   pub sending : fold (with_chosen (is_sent rules view)) sent (drop i accepted) ≡ sent_of rules view accepted
-  pub holding : held ++ left_after (is_sent rules view) (said rules view) sent (drop i accepted) ≡ held_of rules view accepted
   pub loaded : AreLoads rules (loading view sent) table
 
+-- and those that are held are listed
+pub record IsWalked (rules : List Rule) (view : View) (accepted : List Candidate) (i : ℕ) (sent : List Candidate) (held : List Held) (table : Numbers) : Type 0 where
+  pub sifted : IsSifted rules view accepted i sent table
+  pub holding : held ++ left_after (is_sent rules view) (said rules view) sent (drop i accepted) ≡ held_of rules view accepted
+
 -- one more is sent
-pub walked_sent : (rules : List Rule) (view : View) (accepted : List Candidate) (i : ℕ) (sent : List Candidate) (held : List Held) (old new : Numbers) (d : Candidate) (q : Proposal) (live : List (SessionId × InstanceId))
-    → q ≡ transition_of (get_or accepted i d) → i < length accepted → live ≡ view.live → held_by rules 0 view sent (get_or accepted i d) ≡ None
-    → ((n : ℕ) (r : Rule) (key : ℕ) → slice_get rules n ≡ Some r → loads_of new n key ≡ loads_of old n key + (if counts_under live r key q then 1 else 0))
+pub sifted_sent : (rules : List Rule) (view : View) (accepted : List Candidate) (i : ℕ) (sent : List Candidate) (old new : Numbers) (d : Candidate) (k : Keyed)
+    → k ≡ keyed_of view.live (transition_of (get_or accepted i d)) → i < length accepted → is_sent rules view sent (get_or accepted i d) ≡ true
+    → ((n : ℕ) (r : Rule) (key : ℕ) → slice_get rules n ≡ Some r → loads_of new n key ≡ loads_of old n key + (if counts_under r key k then 1 else 0))
+    → IsSifted rules view accepted i sent old → IsSifted rules view accepted (i + 1) (sent ++ get_or accepted i d ∷ []) new
+sifted_sent rules view accepted i sent old new d k is_its lt is more w =
+    let c = get_or accepted i d in
+    let rest = drop (i + 1) accepted in
+    record {
+      sending = sym (at_drop_more (fold (with_chosen (is_sent rules view)) sent) accepted i d lt ∙ chosen_more (is_sent rules view) sent c rest is) ∙ w.sending;
+      loaded = λ n r key at.
+          more n r key at
+          ∙ ap (λ (m : ℕ). m + (if counts_under r key k then 1 else 0)) (w.loaded n r key at)
+          ∙ ap (λ (x : Keyed). loading view sent r key + (if counts_under r key x then 1 else 0)) is_its
+          ∙ ap (λ (b : Bool). loading view sent r key + (if b then 1 else 0)) (counted_found view.live r key (transition_of c))
+          ∙ omega (arith, count-push (counts_too view r key) sent c);
+    }
+
+-- one more isn't
+pub sifted_held : (rules : List Rule) (view : View) (accepted : List Candidate) (i : ℕ) (sent : List Candidate) (table : Numbers) (d : Candidate)
+    → i < length accepted → is_sent rules view sent (get_or accepted i d) ≡ false
+    → IsSifted rules view accepted i sent table → IsSifted rules view accepted (i + 1) sent table
+sifted_held rules view accepted i sent table d lt is w =
+    let c = get_or accepted i d in
+    let rest = drop (i + 1) accepted in
+    record {
+      sending = sym (at_drop_more (fold (with_chosen (is_sent rules view)) sent) accepted i d lt ∙ chosen_same (is_sent rules view) sent c rest is) ∙ w.sending;
+      loaded = w.loaded;
+    }
+
+-- the same where those that are held are listed
+pub walked_sent : (rules : List Rule) (view : View) (accepted : List Candidate) (i : ℕ) (sent : List Candidate) (held : List Held) (old new : Numbers) (d : Candidate) (k : Keyed)
+    → k ≡ keyed_of view.live (transition_of (get_or accepted i d)) → i < length accepted → held_by rules 0 view sent (get_or accepted i d) ≡ None
+    → ((n : ℕ) (r : Rule) (key : ℕ) → slice_get rules n ≡ Some r → loads_of new n key ≡ loads_of old n key + (if counts_under r key k then 1 else 0))
     → IsWalked rules view accepted i sent held old → IsWalked rules view accepted (i + 1) (sent ++ get_or accepted i d ∷ []) held new
-walked_sent rules view accepted i sent held old new d q live is_its lt shown free more w =
+walked_sent rules view accepted i sent held old new d k is_its lt free more w =
     let c = get_or accepted i d in
     let is = sent_where_free rules 0 view sent c free in
     let rest = drop (i + 1) accepted in
     record {
-      sending = sym (at_drop_more (fold (with_chosen (is_sent rules view)) sent) accepted i d lt ∙ chosen_more (is_sent rules view) sent c rest is) ∙ w.sending;
+      sifted = sifted_sent rules view accepted i sent old new d k is_its lt is more w.sifted;
       holding = sym (ap (λ (xs : List Held). held ++ xs) (at_drop_more (left_after (is_sent rules view) (said rules view) sent) accepted i d lt ∙ left_more (is_sent rules view) (said rules view) sent c rest is)) ∙ w.holding;
-      loaded = λ n r key at.
-          more n r key at
-          ∙ ap (λ (k : ℕ). k + (if counts_under live r key q then 1 else 0)) (w.loaded n r key at)
-          ∙ ap (λ (x : Proposal). loading view sent r key + (if counts_under live r key x then 1 else 0)) is_its
-          ∙ ap (λ (l : List (SessionId × InstanceId)). loading view sent r key + (if counts_under l r key (transition_of c) then 1 else 0)) shown
-          ∙ omega (arith, count-push (counts_too view r key) sent c);
     }
 
--- one more is held
 pub walked_held : (rules : List Rule) (view : View) (accepted : List Candidate) (i : ℕ) (sent : List Candidate) (held : List Held) (table : Numbers) (d : Candidate) (h : Held)
     → i < length accepted → held_by rules 0 view sent (get_or accepted i d) ≡ Some h
     → IsWalked rules view accepted i sent held table → IsWalked rules view accepted (i + 1) sent (held ++ h ∷ []) table
@@ -103,13 +149,12 @@ walked_held rules view accepted i sent held table d h lt some w =
     let rest = drop (i + 1) accepted in
     let says : said rules view sent c ≡ h ∷ [] = ap option_to_list some in
     record {
-      sending = sym (at_drop_more (fold (with_chosen (is_sent rules view)) sent) accepted i d lt ∙ chosen_same (is_sent rules view) sent c rest is) ∙ w.sending;
+      sifted = sifted_held rules view accepted i sent table d lt is w.sifted;
       holding =
           append_assoc held (h ∷ []) (left_after (is_sent rules view) (said rules view) sent rest)
           ∙ ap (λ (xs : List Held). held ++ (xs ++ left_after (is_sent rules view) (said rules view) sent rest)) (sym says)
           ∙ sym (ap (λ (xs : List Held). held ++ xs) (at_drop_more (left_after (is_sent rules view) (said rules view) sent) accepted i d lt ∙ left_same (is_sent rules view) (said rules view) sent c rest is))
           ∙ w.holding;
-      loaded = w.loaded;
     }
 
 -- what a look-up past the end of a list gives
@@ -117,6 +162,13 @@ abbrev pub no_rule : Rule
 no_rule = record { scope = scopes.Cluster; transition = None; limit = 0 }
 
 -- the same under other names
+pub sifted_same : (rules : List Rule) (view : View) (accepted : List Candidate) (i : ℕ) (sent other_sent : List Candidate) (table other_table : Numbers)
+    → sent ≡ other_sent → table ≡ other_table → IsSifted rules view accepted i sent table → IsSifted rules view accepted i other_sent other_table
+sifted_same rules view accepted i sent other_sent table other_table a b w =
+    let P : List Candidate → Type 0 = λ x. IsSifted rules view accepted i x other_table in
+    let Q : Numbers → Type 0 = λ x. IsSifted rules view accepted i sent x in
+    subst P a (subst Q b w)
+
 pub walked_same : (rules : List Rule) (view : View) (accepted : List Candidate) (i : ℕ) (sent other_sent : List Candidate) (held other_held : List Held) (table other_table : Numbers)
     → sent ≡ other_sent → held ≡ other_held → table ≡ other_table → IsWalked rules view accepted i sent held table → IsWalked rules view accepted i other_sent other_held other_table
 walked_same rules view accepted i sent other_sent held other_held table other_table a b c w =

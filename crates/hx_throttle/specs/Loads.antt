@@ -1,20 +1,34 @@
 -- The loads of rules, in a table.
 use Rattle.std.specs.Prelude.{◌≡◌, ℕ, Bool, ◌==◌, ◌&&◌, List, Some, slice_get}
+use Rattle.std.specs.Option.{option_map_or}
 use Rattle.hx_ids.specs.declared.InstanceId.{InstanceId}
 use Rattle.hx_ids.specs.declared.SessionId.{SessionId}
 use Rattle.hx_counts.specs.Tally.{Numbers, loads_of}
 use Rattle.hx_cluster.specs.declared.description.Rule.{Rule}
+use Rattle.hx_cluster.specs.declared.description.Scope.{Scope}
+use Rattle.hx_cluster.specs.declared.description.Scope.TheVariants as scopes
 use Rattle.hx_cluster.specs.declared.happenings.Proposal.{Proposal}
 use Rattle.hx_cluster.specs.declared.planning.Candidate.{Candidate}
-use Rattle.hx_cluster.specs.Ends.{matches, key_of}
+use Rattle.hx_cluster.specs.Ends.{matches, instance_in}
+use Rattle.hx_throttle.specs.declared.shown.Keyed.{Keyed}
 
 -- the table has the load of each rule, by its place, under each key
 abbrev pub AreLoads : List Rule → (Rule → ℕ → ℕ) → Numbers → Type 0
 AreLoads rules load table = (n : ℕ) (r : Rule) (key : ℕ) → slice_get rules n ≡ Some r → loads_of table n key ≡ load r key
 
--- whether a rule counts a transition of a live session's part under a key
-abbrev pub counts_under : List (SessionId × InstanceId) → Rule → ℕ → Proposal → Bool
-counts_under live r key q = matches r q.from q.to && (key_of r.scope live q.session q.part == key)
+-- a transition, with the instance of its session, if the session is live
+abbrev pub keyed_of : List (SessionId × InstanceId) → Proposal → Keyed
+keyed_of live q = record { from = q.from; to = q.to; part = q.part; instance = instance_in live q.session }
+
+-- the key under which a scope counts it
+abbrev pub key_in : Scope → Keyed → ℕ
+key_in scopes.Cluster k = 0
+key_in scopes.Instance k = option_map_or (λ i. i.0) k.instance 0
+key_in scopes.Resource k = k.part.resource.0
+
+-- whether a rule counts it under a key
+abbrev pub counts_under : Rule → ℕ → Keyed → Bool
+counts_under r key k = matches r k.from k.to && (key_in r.scope k == key)
 
 -- the transition of a candidate
 abbrev pub transition_of : Candidate → Proposal

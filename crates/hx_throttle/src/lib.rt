@@ -45,15 +45,38 @@ pub fn throttle_on(
     let mut sent = Seq::new(alloc);
     let mut held = Seq::new(alloc);
     for candidate in accepted {
-        match held_by(&loads, rules, &shown, candidate)? {
+        let keyed = shown.keyed(&transition(candidate));
+        match held_by(&loads, rules, keyed, candidate)? {
             Some(entry) => held.push(entry)?,
             None => {
-                count(&mut loads, rules, &shown, &transition(candidate))?;
+                count(&mut loads, rules, keyed)?;
                 sent.push(*candidate)?;
             }
         }
     }
     Ok(Throttled { sent, held })
+}
+
+/// The accepted candidates that the throttles allow, with no list of those that they hold back.
+pub fn sent_on(
+    alloc: Global,
+    rules: &[Rule],
+    view: &View,
+    accepted: &[Candidate],
+) -> Result<Seq<Candidate>, AllocError>
+    ensures { IfOk result (λ sent. sent ≡ sent_of rules.now view.now accepted.now) }
+{
+    let shown = Shown::new(alloc, view.live.as_slice())?;
+    let mut loads = shown_loads(alloc, rules, &shown, view.mail.as_slice())?;
+    let mut sent = Seq::new(alloc);
+    for candidate in accepted {
+        let keyed = shown.keyed(&transition(candidate));
+        if held_by(&loads, rules, keyed, candidate)?.is_none() {
+            count(&mut loads, rules, keyed)?;
+            sent.push(*candidate)?;
+        }
+    }
+    Ok(sent)
 }
 
 fn transition(candidate: &Candidate) -> Proposal

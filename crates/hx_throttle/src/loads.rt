@@ -5,10 +5,10 @@ ghost use Rattle.hx_cluster.specs.declared.description.Rule.{Rule};
 ghost use Rattle.hx_cluster.specs.declared.planning.View.{View};
 ghost use Rattle.hx_cluster.specs.declared.planning.Candidate.{Candidate};
 ghost use Rattle.hx_cluster.specs.Ends.{load_over};
-ghost use Rattle.hx_throttle.specs.Loads.{AreLoads, counts_under};
+ghost use Rattle.hx_throttle.specs.Loads.{AreLoads, counts_under, keyed_of, transition_of};
 ghost use Rattle.hx_throttle.specs.Throttle.{loading, held_by};
 
-use crate::shown::Shown;
+use crate::shown::{Keyed, Shown};
 use hx_cluster::{Candidate, Held, Message, Proposal, Rule};
 use hx_counts::Counts;
 use std::alloc::{AllocError, Global};
@@ -33,22 +33,16 @@ fn raise(loads: &mut Counts, rule: usize, key: u32) -> Result<(), AllocError>
 }
 
 /// Counts a transition under each rule that matches it.
-pub fn count(
-    loads: &mut Counts,
-    rules: &[Rule],
-    shown: &Shown,
-    transition: &Proposal,
-) -> Result<(), AllocError>
+pub fn count(loads: &mut Counts, rules: &[Rule], keyed: Keyed) -> Result<(), AllocError>
     ensures { OnOk result ((n : ℕ) (r : Rule) (key : ℕ)
         → slice_get rules.now n ≡ Some r
         → loads_of loads.new n key
         ≡ loads_of loads.old n key
-        + (if counts_under shown.now r key transition.now then 1 else 0)) }
+        + (if counts_under r key keyed then 1 else 0)) }
 {
     for (place, rule) in rules.iter().enumerate() {
-        if rule.matches(transition.from, transition.to) {
-            let key = shown.key_of(rule.scope, transition.session, transition.part);
-            raise(loads, place, key)?;
+        if rule.matches(keyed.from, keyed.to) {
+            raise(loads, place, keyed.key(rule.scope))?;
         }
     }
     Ok(())
@@ -65,14 +59,14 @@ pub fn shown_loads(
 {
     let mut loads = Counts::new(alloc);
     for message in mail {
-        if shown.has(message.session) {
-            let transition = Proposal {
-                session: message.session,
-                part: message.part,
-                from: message.from,
-                to: message.to,
-            };
-            count(&mut loads, rules, shown, &transition)?;
+        let keyed = shown.keyed(&Proposal {
+            session: message.session,
+            part: message.part,
+            from: message.from,
+            to: message.to,
+        });
+        if keyed.instance.is_some() {
+            count(&mut loads, rules, keyed)?;
         }
     }
     Ok(loads)
@@ -82,19 +76,18 @@ pub fn shown_loads(
 pub fn held_by(
     loads: &Counts,
     rules: &[Rule],
-    shown: &Shown,
+    keyed: Keyed,
     candidate: &Candidate,
 ) -> Result<Option<Held>, AllocError>
     ensures { (view : View) (sent : List Candidate)
-        → shown.now ≡ view.live
+        → keyed ≡ keyed_of view.live (transition_of candidate.now)
         → AreLoads rules.now (loading view sent) loads.now
         → IfOk result (λ held. held ≡ held_by rules.now 0 view sent candidate.now) }
 {
     for (place, rule) in rules.iter().enumerate() {
-        if rule.matches(candidate.from, candidate.to) {
+        if rule.matches(keyed.from, keyed.to) {
             let number = number(place)?;
-            let key = shown.key_of(rule.scope, candidate.session, candidate.part);
-            let load = loads.load(place, key);
+            let load = loads.load(place, keyed.key(rule.scope));
             if rule.limit <= load {
                 return Ok(Some(Held {
                     candidate: *candidate,

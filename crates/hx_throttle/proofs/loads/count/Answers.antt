@@ -11,11 +11,11 @@ loop-place-preserved c = λ n r key at.
     elim c.if-matches.branch [
       | then-matches+in_ok-raise w ↦
           ap (λ (t : Numbers). loads_of t n key) w.loads-is
-          ∙ counted_more c.args.shown.now c.args.rules.now c.args.transition.now c.loop-place.place _ _ _ n r key _ _ _ refl here at (sym c.matches.ensures ∙ w.if-matches.true) w.key_of-key.ensures (c.loop-place.invariant n r key at) (w.in_ok-raise.ensures n key)
+          ∙ counted_more c.args.rules.now c.args.keyed c.loop-place.place _ _ _ n r key _ _ _ refl here at (sym c.matches.ensures ∙ w.if-matches.true) w.key.ensures (c.loop-place.invariant n r key at) (w.in_ok-raise.ensures n key)
       | else-matches w ↦
           ap (λ (t : Numbers). loads_of t n key) w.loads-is
-          ∙ counted_same c.args.shown.now c.args.rules.now c.args.transition.now c.loop-place.place _ n r key _ _ here at (sym c.matches.ensures ∙ w.if-matches.false) (c.loop-place.invariant n r key at)
+          ∙ counted_same c.args.rules.now c.args.keyed c.loop-place.place _ n r key _ _ here at (sym c.matches.ensures ∙ w.if-matches.false) (c.loop-place.invariant n r key at)
     ]
 
 pub returns : goal.returns
-returns c = λ n r key at. counted_all c.args.shown.now c.args.rules.now c.args.transition.now c.loop-place.place n r key _ _ (omega arith) at (c.loop-place.invariant n r key at)
+returns c = λ n r key at. counted_all c.args.rules.now c.args.keyed c.loop-place.place n r key _ _ (omega arith) at (c.loop-place.invariant n r key at)

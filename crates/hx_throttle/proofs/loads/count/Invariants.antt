@@ -8,4 +8,4 @@ use Rattle.hx_throttle.proofs.loads.count.Given as goal
 -- the rules so far have counted it
 abbrev pub invariant-loop-place : goal.invariant-loop-place
 invariant-loop-place l = (n : ℕ) (r : Rule) (key : ℕ) → slice_get l.rules n ≡ Some r
-    → loads_of l.loads n key ≡ loads_of l.fn.loads n key + (if nat_lt n l.place && counts_under l.shown r key l.transition then 1 else 0)
+    → loads_of l.loads n key ≡ loads_of l.fn.loads n key + (if nat_lt n l.place && counts_under r key l.keyed then 1 else 0)
