@@ -1,6 +1,6 @@
 -- How a kept turn makes its plan, sends it and posts.
-use Rattle.std.proofs.Common.{◌≡◌, ℕ, suc, ◌+◌, ◌⊎◌, inr, ◌&&◌, not, Bool, true, false, List, [], ◌∷◌, ◌++◌, map, length, drop, Option, None, Some, refl, sym, ap, ap₂, ◌∙◌, subst, append_assoc, arith}
-use Rattle.std.specs.Prelude.{◌==◌, Ok, Err, MatchOption, option_map, nat_lt, if◌then◌else◌}
+use Rattle.std.proofs.Common.{◌≡◌, ℕ, suc, ◌+◌, ◌⊎◌, inl, inr, ◌&&◌, not, Bool, true, false, List, [], ◌∷◌, ◌++◌, map, length, drop, Option, None, Some, refl, sym, ap, ap₂, ◌∙◌, subst, append_assoc, arith}
+use Rattle.std.specs.Prelude.{◌*◌, ◌==◌, Ok, Err, IfSome, MatchOption, option_map, nat_lt, if◌then◌else◌}
 use Rattle.std.proofs.lemmas.Bool.Decides.{nat_tests}
 use Rattle.hx_ids.specs.declared.SessionId.{SessionId}
 use Rattle.hx_ids.specs.declared.InstanceId.{InstanceId}
@@ -15,14 +15,18 @@ use Rattle.hx_cluster.specs.declared.happenings.Dispatched.{Dispatched}
 use Rattle.hx_cluster.specs.declared.happenings.Seen.{Seen}
 use Rattle.hx_cluster.specs.declared.happenings.Event.{Event}
 use Rattle.hx_cluster.specs.declared.happenings.Event.TheVariants as events
+use Rattle.hx_cluster.specs.Steps.{has_controller}
 use Rattle.hx_cluster.specs.Reads.{pass_of}
 use Rattle.hx_cluster.specs.Events.{dispatched_of, is_epoch, is_pass}
 use Rattle.hx_lists.specs.Lists.{count}
+use Rattle.hx_formed.specs.Formed.{Setting, IsFound}
 use Rattle.hx_pass.specs.Plans.{plan}
 use Rattle.hx_pass.specs.Drafts.{Draft, draft, finished}
 use Rattle.hx_pass.specs.Turns.{Call, Mail, States, Ideals, Turn, Send, Post, idle_turn, is_due, is_of_epoch, if_due, gone_on, turn_after, posted_of}
 use Rattle.hx_board.specs.Board.{Held, happened}
-use Rattle.hx_board.specs.Refusals.{full, post_refusal}
+use Rattle.hx_board.specs.Refusals.{full, dispatch_refusal, post_refusal}
+use Rattle.hx_board.specs.declared.faults.DispatchRefusal.{DispatchRefusal}
+use Rattle.hx_board.specs.declared.faults.DispatchRefusal.TheVariants as dispatches
 use Rattle.hx_board.specs.declared.faults.PostRefusal.{PostRefusal}
 use Rattle.hx_board.specs.declared.faults.PostRefusal.TheVariants as posts
 use Rattle.hx_board.proofs.Free.{post_free}
@@ -38,9 +42,9 @@ use Rattle.hx_control.specs.Steps.{Step, Calls, Plans, Refuses, is_sent, is_of_c
 use Rattle.hx_control.specs.OfBoard.{IsPlanOf}
 use Rattle.hx_control.specs.Turning.{left_of, controller, with_plan, IsTurn}
 use Rattle.hx_control.specs.Drafted.{IsToSend, IsDispatched}
-use Rattle.hx_control.specs.Faults.{of_post}
+use Rattle.hx_control.specs.Faults.{of_dispatch, of_post}
 use Rattle.hx_control.specs.Made.{step_fault, Tries}
-use Rattle.hx_control.proofs.Making.{if_true, own, with_turn, call_made, full_same, tried_in_vain, tried_well, due, next_step}
+use Rattle.hx_control.proofs.Making.{if_true, own, with_turn, call_made, full_same, refused_so, tried_in_vain, tried_well, due, next_step}
 
 -- a turn whose plan was made has that plan
 pub planned_as : (a : Inside) (x : Controller) (d : Draft) → controller a ≡ x → a.draft ≡ Some d → with_plan x (finished x.turn.view d) ≡ x
@@ -67,6 +71,10 @@ plan_done spec b a x d seen left none of is =
     subst (λ (v : Controller). v.turn.left ≡ Send ∷ Post ∷ [] → v.plan ≡ None → Tries (step_of spec b.cluster v) b b v (controller (record a { draft = Some d })) (Ok None)) seen
     (λ left none. plan_made spec b (controller a) (controller (record a { draft = Some d })) (finished a.view d) left none of (ap (finished a.view) is) refl) left none
 
+-- a plan for which memory is wanting
+pub plan_wants : (spec : Spec) (b : Held) (a : Inside) (x : Controller) → controller a ≡ x → Tries (step_of spec b.cluster x) b b x (controller a) (Err faults.OutOfMemory)
+plan_wants spec b a x seen = record { refused = inl refl; made = tt; kept = (refl, seen) }
+
 -- a plan that isn't made, of a view that isn't of the board
 pub plan_refused : (spec : Spec) (b : Held) (a : Inside) (x : Controller) → controller a ≡ x → x.turn.left ≡ Send ∷ Post ∷ [] → is_of_cluster spec b.cluster a.view ≡ false
     → Tries (step_of spec b.cluster x) b b x (controller a) (Err faults.OtherBoard)
@@ -75,6 +83,27 @@ plan_refused spec b a x seen left of =
     let step : step_of spec b.cluster x ≡ Refuses faults.OtherBoard =
     next_step spec b.cluster x (Send ∷ Post ∷ []) left ∙ ap (λ (t : Bool). of_cluster t (planned_step spec b.cluster x x.plan)) is in
     record { refused = inr (ap (step_fault b) step); made = tt; kept = (refl, seen) }
+
+-- a turn without a plan is one whatever was planned, and with what was found of its view
+no_draft : (view : View) (o : Option Draft) → option_map (finished view) o ≡ None → o ≡ None
+no_draft view None is = refl
+no_draft view (Some d) is = cc
+
+pub still_turn : (a : Inside) (x : Controller) (found : Option Setting) (planned : Option View) → controller a ≡ x → x.turn.left ≡ Send ∷ Post ∷ [] → x.plan ≡ None
+    → IsTurn a → IsFound found a.view → IsTurn (record a { formed = found; planner = planned })
+still_turn a x found planned seen left none turn finds =
+    let free : a.draft ≡ None = no_draft a.view a.draft (ap (λ (v : Controller). v.plan) seen ∙ none) in
+    record {
+      left = turn.left;
+      few = turn.few;
+      formed = finds;
+      modelled = turn.modelled;
+      drafted = subst (λ (o : Option Draft). IfSome o (λ d. planned ≡ Some a.view)) (sym free) tt;
+      posts = λ is. absurd (unposted a.next a.view.live is (ap (λ (v : Controller). v.turn.left) seen ∙ left));
+    }
+  where
+    unposted : (next : Next) (live : List (SessionId × InstanceId)) → next ≡ nexts.Post → left_of next live ≡ Send ∷ Post ∷ [] → ⊥
+    unposted next live is sends = let e : Post ∷ [] ≡ Send ∷ Post ∷ [] = sym (ap (λ (n : Next). left_of n live) is) ∙ sends in cc
 
 -- how a dispatch ends is the same by a plan without the report that it can't tell
 both_first : {A : Type 0} (t : Bool) (x y z : A) → t ≡ true → (if t then x else y) ≡ (if t then x else z)
@@ -135,6 +164,62 @@ fault_of_draft spec b x p q left proposals =
     ap (step_fault b) (step p)
     ∙ same_fault b (is_of_cluster spec b.cluster x.turn.view) x p q _ _ proposals (ap (dispatched_of b.cluster x.id) proposals)
     ∙ sym (ap (step_fault b) (step q))
+
+-- the board refuses the dispatch of a plan as its step does
+dispatch_same : (b : Held) (x : Controller) (p : Plan) → has_controller b.cluster x.id ≡ true
+    → option_map of_dispatch (dispatch_refusal b x.id x.turn.begun.epoch x.turn.begun.pass p.proposals) ≡ step_fault b (dispatch_step b.cluster x p (dispatched_of b.cluster x.id p.proposals))
+dispatch_same b x p there =
+    one (is_epoch b.cluster x.turn.begun.epoch) ((pass_of b.cluster x.id).0 == x.turn.begun.pass.0)
+    ∙ ap (λ (t : Bool). step_fault b (step (is_epoch b.cluster x.turn.begun.epoch) (t && ((pass_of b.cluster x.id).0 == x.turn.begun.pass.0)))) (sym there)
+  where
+    step : Bool → Bool → Step
+    step epoch pass =
+        if not epoch then Refuses (faults.Fenced b.cluster.epoch)
+        else if not pass then Refuses (faults.OldPass (pass_of b.cluster x.id))
+        else Calls (events.Dispatch x.id x.turn.begun.epoch x.turn.begun.pass p.proposals (dispatched_of b.cluster x.id p.proposals)) (Some (outcome_of x.turn p (dispatched_of b.cluster x.id p.proposals)))
+
+    one : (epoch pass : Bool)
+        → option_map of_dispatch (if not epoch then Some (dispatches.Fenced b.cluster.epoch) else if not pass then Some (dispatches.OldPass (pass_of b.cluster x.id)) else full b (1 + 4 * length p.proposals) dispatches.HistoryFull)
+        ≡ step_fault b (step epoch pass)
+    one true true = full_same b (1 + 4 * length p.proposals) dispatches.HistoryFull of_dispatch (λ w. refl)
+    one true false = refl
+    one false pass = refl
+
+module _ (spec : Spec) (b : Held) (a : Inside) (x : Controller) (p : Plan) (seen : controller a ≡ x) (left : x.turn.left ≡ Send ∷ Post ∷ []) where
+  dispatch_is : (of : Bool) → is_of_cluster spec b.cluster a.view ≡ of
+      → step_of spec b.cluster (with_plan x p) ≡ of_cluster of (dispatch_step b.cluster (with_plan x p) p (dispatched_of b.cluster x.id p.proposals))
+  dispatch_is of is =
+      next_step spec b.cluster (with_plan x p) (Send ∷ Post ∷ []) left
+      ∙ ap (λ (t : Bool). of_cluster t (dispatch_step b.cluster (with_plan x p) p (dispatched_of b.cluster x.id p.proposals)))
+      (ap (λ (v : Controller). is_of_cluster spec b.cluster v.turn.view) (sym seen) ∙ is)
+
+  pub dispatch_of_other : is_of_cluster spec b.cluster a.view ≡ false → step_fault b (step_of spec b.cluster (with_plan x p)) ≡ Some faults.OtherBoard
+  dispatch_of_other is = ap (step_fault b) (dispatch_is false is)
+
+  module _ (there : has_controller b.cluster x.id ≡ true) (of : is_of_cluster spec b.cluster a.view ≡ true) (ps : List Proposal) (are : ps ≡ p.proposals) where
+    fault_is : option_map of_dispatch (dispatch_refusal b a.id a.begun.epoch a.begun.pass ps) ≡ step_fault b (step_of spec b.cluster (with_plan x p))
+    fault_is =
+        ap (λ (v : Controller). option_map of_dispatch (dispatch_refusal b v.id v.turn.begun.epoch v.turn.begun.pass ps)) seen
+        ∙ ap (λ (qs : List Proposal). option_map of_dispatch (dispatch_refusal b x.id x.turn.begun.epoch x.turn.begun.pass qs)) are
+        ∙ dispatch_same b (with_plan x p) p there
+        ∙ ap (step_fault b) (sym (dispatch_is true of))
+
+    pub dispatch_refused : (r : DispatchRefusal) → (r ≡ dispatches.OutOfMemory) ⊎ (dispatch_refusal b a.id a.begun.epoch a.begun.pass ps ≡ Some r)
+        → (of_dispatch r ≡ faults.OutOfMemory) ⊎ (step_fault b (step_of spec b.cluster (with_plan x p)) ≡ Some (of_dispatch r))
+    dispatch_refused r why =
+        refused_so of_dispatch dispatches.OutOfMemory (dispatch_refusal b a.id a.begun.epoch a.begun.pass ps) (step_fault b (step_of spec b.cluster (with_plan x p))) fault_is refl r why
+
+    pub dispatch_made : dispatch_refusal b a.id a.begun.epoch a.begun.pass ps ≡ None → step_fault b (step_of spec b.cluster (with_plan x p)) ≡ None
+    dispatch_made none = sym fault_is ∙ ap (option_map of_dispatch) none
+
+    pub dispatch_answered : (answer : Dispatched) → answer ≡ dispatched_of b.cluster a.id ps → answer ≡ dispatched_of b.cluster x.id p.proposals
+    dispatch_answered answer is = is ∙ ap (λ (v : Controller). dispatched_of b.cluster v.id ps) seen ∙ ap (dispatched_of b.cluster x.id) are
+
+    pub dispatch_done : (d : Held) (answer : Dispatched) → d ≡ happened b (events.Dispatch a.id a.begun.epoch a.begun.pass ps answer)
+        → d ≡ happened b (events.Dispatch x.id x.turn.begun.epoch x.turn.begun.pass p.proposals answer)
+    dispatch_done d answer done =
+        done ∙ ap (λ (v : Controller). happened b (events.Dispatch v.id v.turn.begun.epoch v.turn.begun.pass ps answer)) seen
+        ∙ ap (λ (qs : List Proposal). happened b (events.Dispatch x.id x.turn.begun.epoch x.turn.begun.pass qs answer)) are
 
 -- the dispatch
 opened : (b : Held) (of epoch pass : Bool) (e : Event) (outcome : Option PassOutcome) (f g : ControlFault)

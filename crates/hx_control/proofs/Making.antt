@@ -51,7 +51,7 @@ full_same b n made of same = one (nat_lt b.limit (weight_at b + n))
     one true = ap Some (same (weight_at b))
     one false = refl
 
-refused_so : {E : Type 0} (of : E → ControlFault) (memory : E) (refusal : Option E) (fault : Option ControlFault) → option_map of refusal ≡ fault
+pub refused_so : {E : Type 0} (of : E → ControlFault) (memory : E) (refusal : Option E) (fault : Option ControlFault) → option_map of refusal ≡ fault
     → of memory ≡ faults.OutOfMemory → (e : E) → (e ≡ memory) ⊎ (refusal ≡ Some e) → (of e ≡ faults.OutOfMemory) ⊎ (fault ≡ Some (of e))
 refused_so of memory refusal fault same wants e (inl is) = inl (ap of is ∙ wants)
 refused_so of memory refusal fault same wants e (inr is) = inr (sym same ∙ ap (option_map of) is)

@@ -23,7 +23,7 @@ use hx_cluster::Report;
 use hx_ids::{ControllerId, Epoch, PassNo};
 
 /// Where a controller's turn is: what its next step does.
-#[derive(Clone, Copy, Debug, PartialEq, Eq)]
+#[derive(Clone, Copy, PartialEq, Eq)]
 pub enum Stage {
     /// No turn is under way: the next step begins one.
     Idle,
@@ -39,7 +39,7 @@ pub enum Stage {
 }
 
 /// How the dispatch of a turn ended.
-#[derive(Debug, PartialEq, Drop)]
+#[derive(PartialEq, Drop)]
 pub enum PassOutcome {
     /// Proposals were dispatched, and that many became messages.
     Sent(u32),
@@ -52,7 +52,7 @@ pub enum PassOutcome {
 }
 
 /// Why a step was not made.
-#[derive(Clone, Copy, Debug, PartialEq, Eq)]
+#[derive(Clone, Copy, PartialEq, Eq)]
 pub enum ControlFault {
     NotLeader { led_by: Option<ControllerId> },
     /// Another epoch stands.

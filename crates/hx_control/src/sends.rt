@@ -66,7 +66,6 @@ impl Controller {
     }
 
     /// Drafts the plan of what was shown.
-    #[tactic(auto, using(crate::proofs::Sending::view_modelled))]
     pub(crate) fn make_plan(
         &mut self,
         spec: &Spec,
@@ -122,7 +121,6 @@ impl Controller {
 
     /// Dispatches what a plan proposes. More than 4,294,967,295 proposals or messages are want of
     /// memory.
-    #[tactic(auto, using(crate::proofs::Sending::proposals_fit, crate::proofs::Sending::placed_each))]
     fn dispatch(
         &self,
         spec: &Spec,

@@ -1,11 +1,13 @@
-use Rattle.std.proofs.Common.{◌≡◌, true, false, length, Option, None, Some, subst, arith}
+use Rattle.std.proofs.Common.{◌≡◌, true, false, length, Option, None, Some, sym, subst, arith}
 use Rattle.std.specs.Prelude.{MatchOption}
+use Rattle.std.proofs.lemmas.Result.{err_from_is_err_and}
 use Rattle.hx_cluster.specs.Views.{is_well_formed}
+use Rattle.hx_formed.specs.Formed.{Setting, IsFound}
 use Rattle.hx_gen.proofs.Modelled.{well_formed-modelled}
 use Rattle.hx_pass.specs.Drafts.{Draft, draft}
 use Rattle.hx_control.specs.Steps.{is_of_cluster}
 use Rattle.hx_control.proofs.Sending.{drafted_modelled, view_unformed}
-use Rattle.hx_control.proofs.Ending.{plan_done, plan_refused}
+use Rattle.hx_control.proofs.Ending.{plan_done, plan_refused, plan_wants, still_turn}
 use Rattle.hx_control.proofs.controller.Controller.make_plan.Goals as goal
 use Rattle.hx_control.proofs.controller.Controller.make_plan.Goals.{In-Some}
 
@@ -20,6 +22,22 @@ found c =
 last : (c : In-Some) → c.draft.new.self ≡ Some c.self.inside.view
 last c = subst (λ (o : Option Draft). MatchOption o (c.draft.new.self ≡ None) (λ _. c.draft.new.self ≡ Some c.self.inside.view)) c.in-Some.is c.in_ok-draft.ensures.planned
 
+pub draft-requires : goal.draft-requires
+draft-requires c = c.requires.hops
+
+pub invariant_of-self : goal.invariant_of-self
+invariant_of-self c =
+    still_turn c.self.inside c.args.self.now c.self.inside.formed c.draft.new.self c.self.view_is c.requires.next c.requires.none c.self.invariant c.self.invariant.formed
+
+pub returns-in_err-draft : goal.returns-in_err-draft
+returns-in_err-draft c =
+    let p = err_from_is_err_and c.from_residual.result c.from_residual.ensures.1 in
+    rw (p.1, p.2) (plan_wants c.args.spec.now c.args.board.now c.self.inside c.args.self.now c.self.view_is)
+
+pub invariant_of-self-in_default : goal.invariant_of-self-in_default
+invariant_of-self-in_default c =
+    still_turn c.self.inside c.args.self.now c.self.inside.formed c.draft.new.self c.self.view_is c.requires.next c.requires.none c.self.invariant c.self.invariant.formed
+
 pub keep-requires : goal.keep-requires
 keep-requires c = rw (c.as_slice.ensures, c.len-instances.ensures.len) (found (goal.at.keep-requires c).In-Some).0
 
@@ -31,6 +49,37 @@ returns-in_default c =
     c.in_default.is c.in_ok-draft.ensures.made in
     let of : is_of_cluster c.args.spec.now c.args.board.now.cluster c.self.inside.view ≡ false =
     view_unformed c.args.spec.now c.args.board.now c.self.inside.view c.history.ensures.history c.requires.board bad in
+    plan_refused c.args.spec.now c.args.board.now c.self.inside c.args.self.now c.self.view_is c.requires.next of
+
+pub invariant_of-self-in_err-keep : goal.invariant_of-self-in_err-keep
+invariant_of-self-in_err-keep c =
+    still_turn c.self.inside c.args.self.now c.keep.new.self c.draft.new.self c.self.view_is c.requires.next c.requires.none c.self.invariant
+    (subst (λ (o : Option Setting). IsFound o c.self.inside.view) (sym c.in_err-keep.ensures.err) c.self.invariant.formed)
+
+pub returns-in_err-keep : goal.returns-in_err-keep
+returns-in_err-keep c =
+    let p = err_from_is_err_and c.from_residual-in_err-keep.result c.from_residual-in_err-keep.ensures.1 in
+    rw (p.1, p.2) (plan_wants c.args.spec.now c.args.board.now c.self.inside c.args.self.now c.self.view_is)
+
+pub is_of_board-requires : goal.is_of_board-requires
+is_of_board-requires c = record { board = c.requires.board; formed = c.in_ok-keep.ensures.found }
+
+pub invariant_of-self-in_err-is_of_board : goal.invariant_of-self-in_err-is_of_board
+invariant_of-self-in_err-is_of_board c =
+    still_turn c.self.inside c.args.self.now c.keep.new.self c.draft.new.self c.self.view_is c.requires.next c.requires.none c.self.invariant c.in_ok-keep.ensures.found
+
+pub returns-in_err-is_of_board : goal.returns-in_err-is_of_board
+returns-in_err-is_of_board c =
+    let p = err_from_is_err_and c.from_residual-in_err-is_of_board.result c.from_residual-in_err-is_of_board.ensures.1 in
+    rw (p.1, p.2) (plan_wants c.args.spec.now c.args.board.now c.self.inside c.args.self.now c.self.view_is)
+
+pub invariant_of-self-then-not-branch : goal.invariant_of-self-then-not-branch
+invariant_of-self-then-not-branch c =
+    still_turn c.self.inside c.args.self.now c.keep.new.self c.draft.new.self c.self.view_is c.requires.next c.requires.none c.self.invariant c.in_ok-keep.ensures.found
+
+pub returns-then-not-branch : goal.returns-then-not-branch
+returns-then-not-branch c =
+    let of : is_of_cluster c.args.spec.now c.args.board.now.cluster c.self.inside.view ≡ false = grind (arith, c.in_ok-is_of_board.ensures.is, c.if-not-branch.true) in
     plan_refused c.args.spec.now c.args.board.now c.self.inside c.args.self.now c.self.view_is c.requires.next of
 
 pub invariant_of-self-2 : goal.invariant_of-self-2
