@@ -24,7 +24,7 @@ use std::alloc::{AllocError, Global};
 use std::collections::HashMap;
 
 /// Which slots have accepted a number: the one in a place, or several.
-#[derive(Clone, Copy, Debug, PartialEq, Eq)]
+#[derive(Clone, Copy)]
 pub enum Found {
     Alone(usize),
     Several,

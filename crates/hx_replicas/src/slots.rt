@@ -28,7 +28,7 @@ use std::mem;
 
 /// What a slot holds: no message, one that was accepted, or one that is out in a job, with a
 /// handler or without.
-#[derive(Clone, Copy, Debug, PartialEq, Eq)]
+#[derive(Clone, Copy)]
 pub enum Work {
     Idle,
     Accepted(Message),
