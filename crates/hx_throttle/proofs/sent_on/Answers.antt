@@ -7,11 +7,11 @@ use Rattle.hx_cluster.proofs.Absent.{no_candidate}
 
 pub loop-candidate-preserved : goal.loop-candidate-preserved
 loop-candidate-preserved c =
-    let rules = c.args.rules.now in
-    let view = c.args.view.now in
-    let accepted = c.args.accepted.now in
     let at = c.loop-candidate in
     let i = at.candidate-index in
+    let accepted = c.args.accepted.now in
+    let rules = c.args.rules.now in
+    let view = c.args.view.now in
     let shown = c.in_ok-shown.ensures ∙ c.as_slice.ensures in
     let is = keyed_is view _ _ (get_or accepted i no_candidate) _ shown c.transition.ensures c.keyed-keyed.ensures in
     let found = sent_where_none rules view at.sent _ c.is_none.result (sym (ap is_some (c.in_ok-held_by.ensures view at.sent is at.invariant.loaded)) ∙ c.is_none.ensures) in
