@@ -16,7 +16,7 @@ ghost use Rattle.hx_control.specs.Drafted.{IsToSend, IsDispatched};
 ghost use Rattle.hx_control.specs.Made.{Tries, step_fault};
 
 use crate::controller::Next;
-use crate::views::is_of_board;
+use crate::views::{is_of_board, keep_of_board};
 use crate::{ControlFault, Controller, PassOutcome};
 use hx_board::Board;
 use hx_cluster::{Dispatched, Placed, Plan, Proposal, Report, Spec};
@@ -85,10 +85,7 @@ impl Controller {
         let Some(draft) = self.planner.draft(alloc, spec, hops, &self.view)? else {
             return Err(ControlFault::OtherBoard);
         };
-        let instances = spec.instances.len() as usize;
-        self.formed
-            .keep(spec.models.as_slice(), instances, &self.view)?;
-        if !is_of_board(alloc, spec, board, &self.view, &self.formed)? {
+        if !keep_of_board(alloc, spec, board, &self.view, &mut self.formed)? {
             return Err(ControlFault::OtherBoard);
         }
         self.draft = Some(draft);

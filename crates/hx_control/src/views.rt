@@ -1,7 +1,8 @@
 //! What a turn was shown: whether it is of a board.
-ghost use Rattle.std.specs.Prelude.{◌≡◌, ◌≤◌, length, IfOk};
+ghost use Rattle.std.specs.Prelude.{◌≡◌, ◌≤◌, true, length, IfOk};
 ghost use Rattle.std.specs.List.{list_all};
 ghost use Rattle.hx_lists.specs.Lists.{numbers_below};
+ghost use Rattle.hx_cluster.specs.Views.{is_well_formed};
 ghost use Rattle.hx_board.specs.Board.{HasHistory};
 ghost use Rattle.hx_formed.specs.Formed.{IsFound};
 ghost use Rattle.hx_control.specs.Steps.{has_parts_of, is_of_cluster};
@@ -64,4 +65,22 @@ pub(crate) fn is_of_board(
         return Ok(false);
     }
     Ok(has_parts(board, view))
+}
+
+/// Keeps that a view is well formed, and tells whether it is of a board.
+pub(crate) fn keep_of_board(
+    alloc: Global,
+    spec: &Spec,
+    board: &Board,
+    view: &View,
+    formed: &mut Formed,
+) -> Result<bool, AllocError>
+    requires board { board.now.spec ≡ spec.now }
+    requires formed { is_well_formed spec.now.models (length spec.now.instances) view.now ≡ true }
+    ensures is { IfOk result (λ is. is ≡ is_of_cluster spec.now board.now.cluster view.now) }
+    ensures found { IsFound formed.old view.now → IsFound formed.new view.now }
+{
+    let instances = spec.instances.len() as usize;
+    formed.keep(spec.models.as_slice(), instances, view)?;
+    is_of_board(alloc, spec, board, view, formed)
 }

@@ -1,8 +1,7 @@
-use Rattle.std.proofs.Common.{◌≡◌, true, false, length, Option, None, Some, sym, subst, arith}
+use Rattle.std.proofs.Common.{◌≡◌, true, false, length, Option, None, Some, subst, arith}
 use Rattle.std.specs.Prelude.{MatchOption}
 use Rattle.std.proofs.lemmas.Result.{err_from_is_err_and}
 use Rattle.hx_cluster.specs.Views.{is_well_formed}
-use Rattle.hx_formed.specs.Formed.{Setting, IsFound}
 use Rattle.hx_gen.proofs.Modelled.{well_formed-modelled}
 use Rattle.hx_pass.specs.Drafts.{Draft, draft}
 use Rattle.hx_control.specs.Steps.{is_of_cluster}
@@ -38,8 +37,8 @@ pub invariant_of-self-in_default : goal.invariant_of-self-in_default
 invariant_of-self-in_default c =
     still_turn c.self.inside c.args.self.now c.self.inside.formed c.draft.new.self c.self.view_is c.requires.next c.requires.none c.self.invariant c.self.invariant.formed
 
-pub keep-requires : goal.keep-requires
-keep-requires c = rw (c.as_slice.ensures, c.len-instances.ensures.len) (found (goal.at.keep-requires c).In-Some).0
+pub keep_of_board-requires : goal.keep_of_board-requires
+keep_of_board-requires c = record { board = c.requires.board; formed = (found (goal.at.keep_of_board-requires c).In-Some).0 }
 
 pub returns-in_default : goal.returns-in_default
 returns-in_default c =
@@ -51,35 +50,24 @@ returns-in_default c =
     view_unformed c.args.spec.now c.args.board.now c.self.inside.view c.history.ensures.history c.requires.board bad in
     plan_refused c.args.spec.now c.args.board.now c.self.inside c.args.self.now c.self.view_is c.requires.next of
 
-pub invariant_of-self-in_err-keep : goal.invariant_of-self-in_err-keep
-invariant_of-self-in_err-keep c =
-    still_turn c.self.inside c.args.self.now c.keep.new.self c.draft.new.self c.self.view_is c.requires.next c.requires.none c.self.invariant
-    (subst (λ (o : Option Setting). IsFound o c.self.inside.view) (sym c.in_err-keep.ensures.err) c.self.invariant.formed)
+pub invariant_of-self-in_err-keep_of_board : goal.invariant_of-self-in_err-keep_of_board
+invariant_of-self-in_err-keep_of_board c =
+    still_turn c.self.inside c.args.self.now c.keep_of_board.new.formed c.draft.new.self c.self.view_is c.requires.next c.requires.none c.self.invariant
+    (c.in_err-keep_of_board.ensures.found c.self.invariant.formed)
 
-pub returns-in_err-keep : goal.returns-in_err-keep
-returns-in_err-keep c =
-    let p = err_from_is_err_and c.from_residual-in_err-keep.result c.from_residual-in_err-keep.ensures.1 in
-    rw (p.1, p.2) (plan_wants c.args.spec.now c.args.board.now c.self.inside c.args.self.now c.self.view_is)
-
-pub is_of_board-requires : goal.is_of_board-requires
-is_of_board-requires c = record { board = c.requires.board; formed = c.in_ok-keep.ensures.found }
-
-pub invariant_of-self-in_err-is_of_board : goal.invariant_of-self-in_err-is_of_board
-invariant_of-self-in_err-is_of_board c =
-    still_turn c.self.inside c.args.self.now c.keep.new.self c.draft.new.self c.self.view_is c.requires.next c.requires.none c.self.invariant c.in_ok-keep.ensures.found
-
-pub returns-in_err-is_of_board : goal.returns-in_err-is_of_board
-returns-in_err-is_of_board c =
-    let p = err_from_is_err_and c.from_residual-in_err-is_of_board.result c.from_residual-in_err-is_of_board.ensures.1 in
+pub returns-in_err-keep_of_board : goal.returns-in_err-keep_of_board
+returns-in_err-keep_of_board c =
+    let p = err_from_is_err_and c.from_residual-in_err-keep_of_board.result c.from_residual-in_err-keep_of_board.ensures.1 in
     rw (p.1, p.2) (plan_wants c.args.spec.now c.args.board.now c.self.inside c.args.self.now c.self.view_is)
 
 pub invariant_of-self-then-not-branch : goal.invariant_of-self-then-not-branch
 invariant_of-self-then-not-branch c =
-    still_turn c.self.inside c.args.self.now c.keep.new.self c.draft.new.self c.self.view_is c.requires.next c.requires.none c.self.invariant c.in_ok-keep.ensures.found
+    still_turn c.self.inside c.args.self.now c.keep_of_board.new.formed c.draft.new.self c.self.view_is c.requires.next c.requires.none c.self.invariant
+    (c.in_ok-keep_of_board.ensures.found c.self.invariant.formed)
 
 pub returns-then-not-branch : goal.returns-then-not-branch
 returns-then-not-branch c =
-    let of : is_of_cluster c.args.spec.now c.args.board.now.cluster c.self.inside.view ≡ false = grind (arith, c.in_ok-is_of_board.ensures.is, c.if-not-branch.true) in
+    let of : is_of_cluster c.args.spec.now c.args.board.now.cluster c.self.inside.view ≡ false = grind (arith, c.in_ok-keep_of_board.ensures.is, c.if-not-branch.true) in
     plan_refused c.args.spec.now c.args.board.now c.self.inside c.args.self.now c.self.view_is c.requires.next of
 
 pub invariant_of-self-2 : goal.invariant_of-self-2
@@ -88,7 +76,7 @@ invariant_of-self-2 c =
     record {
       left = c.self.invariant.left;
       few = c.self.invariant.few;
-      formed = c.in_ok-keep.ensures.found;
+      formed = c.in_ok-keep_of_board.ensures.found c.self.invariant.formed;
       modelled = drafted_modelled c.args.spec.now c.self.inside.view c.in-Some.draft (found at).1
           (well_formed-modelled c.args.spec.now.models (length c.args.spec.now.instances) c.self.inside.view (found at).0);
       drafted = last at;
@@ -97,5 +85,5 @@ invariant_of-self-2 c =
 
 pub returns : goal.returns
 returns c =
-    let of : is_of_cluster c.args.spec.now c.args.board.now.cluster c.self.inside.view ≡ true = grind (arith, c.in_ok-is_of_board.ensures.is, c.if-not-branch.false) in
+    let of : is_of_cluster c.args.spec.now c.args.board.now.cluster c.self.inside.view ≡ true = grind (arith, c.in_ok-keep_of_board.ensures.is, c.if-not-branch.false) in
     plan_done c.args.spec.now c.args.board.now c.self.inside c.args.self.now c.in-Some.draft c.self.view_is c.requires.next c.requires.none of (found (goal.at.returns c).In-Some).1
