@@ -1,5 +1,6 @@
 pub mod Lasting
 pub mod Standing
+pub mod Holding
 pub mod Viewing
 pub mod Each
 pub mod Bare

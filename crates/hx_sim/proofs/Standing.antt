@@ -17,10 +17,11 @@ use Rattle.hx_script.specs.Ranges as Ranges
 use Rattle.hx_scripted.proofs.Asked.{IsAskedWell, asked_well, instance_there, controller_there}
 use Rattle.hx_cluster.specs.Reads.{live_shown, instance_before}
 use Rattle.hx_cluster.specs.Ranged.{IsRanged}
+use Rattle.hx_cluster.specs.Safe.{IsSafe, HasRows}
 use Rattle.hx_cluster.specs.Steps.{opening, has_instance, has_controller, is_in_range}
 use Rattle.hx_safe.proofs.Counting.{all-map, and-first, and-second}
 use Rattle.hx_safe.proofs.Fixed.{IsFixed}
-use Rattle.hx_safe.proofs.Whole.{reached_ranged}
+use Rattle.hx_safe.proofs.Whole.{reached_safe, reached_ranged}
 use Rattle.hx_covers.proofs.Sorting.{all-sort}
 use Rattle.hx_covers.proofs.Whole.{fixed_along}
 use Rattle.hx_board.specs.Board.{Held, HasHistory}
@@ -29,6 +30,9 @@ use Rattle.hx_scene.specs.Kept.{IsScene}
 
 pub board_ranged : (b : Held) → HasHistory b → IsRanged b.cluster
 board_ranged b told = subst IsRanged told.replays (reached_ranged b.spec told.valid b.history told.legal)
+
+pub board_rows : (b : Held) → HasHistory b → HasRows b.cluster
+board_rows b told = (subst IsSafe told.replays (reached_safe b.spec told.valid b.history told.legal)).rows
 
 pub few_resources : (b : Held) → HasHistory b → length b.cluster.resources ≤ 256
 few_resources b told = (board_ranged b told).few_resources

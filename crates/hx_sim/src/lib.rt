@@ -5,6 +5,7 @@ mod asked;
 mod lines;
 mod passes;
 mod reports;
+mod rows;
 mod settles;
 mod summaries;
 mod views;
