@@ -265,6 +265,8 @@ static RAN: &[(Read, Stands)] = &[
     (Read::Message(S1, DB0), Stands::Message(None)),
     (Read::Row(S1, DB0), Stands::Row(Some(ERROR))),
     (Read::Row(S2, DB0), Stands::Row(None)),
+    (Read::Rows(S1), Stands::Items(1)),
+    (Read::Rows(S2), Stands::Items(0)),
     (Read::Resource(WEB), Stands::Name(Some(1))),
     (Read::Resource(ResourceId(3)), Stands::Name(None)),
     (Read::Weight, Stands::Weight(60)),

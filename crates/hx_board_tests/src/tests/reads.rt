@@ -1,6 +1,7 @@
 //! What stands on a board, as values.
 use hx_board::Board;
 use hx_ids::{ControllerId, InstanceId, MsgId, PartId, ResourceId, SessionId, StateId};
+use hx_lists::Seq;
 use std::process::Abort;
 
 #[derive(Clone, Copy, Debug)]
@@ -10,6 +11,7 @@ pub enum Read {
     Session(InstanceId),
     Drained(InstanceId),
     Row(SessionId, PartId),
+    Rows(SessionId),
     Message(SessionId, PartId),
     Resource(ResourceId),
     Newest(u32),
@@ -65,6 +67,17 @@ fn shown(board: &Board) -> Stands {
     }
 }
 
+fn rows(board: &Board, session: SessionId) -> Stands {
+    let Ok(live) = board.roster() else {
+        return Stands::NoMemory;
+    };
+    let mut rows = Seq::new(*live.allocator());
+    match board.push_rows_of(session, &mut rows) {
+        Ok(()) => Stands::Items(rows.len()),
+        Err(_) => Stands::NoMemory,
+    }
+}
+
 fn message(board: &Board, session: SessionId, part: PartId) -> Stands {
     match board.message(session, part) {
         Some(message) => Stands::Message(Some(message.id)),
@@ -86,6 +99,7 @@ fn look(board: &Board, read: Read) -> Stands {
         Read::Session(instance) => Stands::Session(board.session_of(instance)),
         Read::Drained(instance) => Stands::Drained(board.drained(instance)),
         Read::Row(session, part) => Stands::Row(board.row(session, part)),
+        Read::Rows(session) => rows(board, session),
         Read::Message(session, part) => message(board, session, part),
         Read::Resource(resource) => name(board, resource),
         Read::Newest(name) => Stands::Resource(board.newest(name)),
