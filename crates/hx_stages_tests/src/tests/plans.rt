@@ -23,7 +23,7 @@ use hx_pass::{draft, plan};
 use hx_planner::Planner;
 use hx_report::report;
 use hx_select::{accepted_on, select};
-use hx_throttle::throttle;
+use hx_throttle::{sent_on, throttle};
 use hx_views::ViewIndex;
 use std::alloc::Global;
 use std::process::Abort;
@@ -421,6 +421,19 @@ fn throttled(
     throttled
 }
 
+fn sent(
+    rt: &impl Abort,
+    alloc: Global,
+    spec: &Spec,
+    view: &View,
+    accepted: &[Candidate],
+) -> Seq<Candidate> {
+    let Ok(sent) = sent_on(alloc, spec.rules.as_slice(), view, accepted) else {
+        panic!(rt; "no memory");
+    };
+    sent
+}
+
 fn reported(
     rt: &impl Abort,
     alloc: Global,
@@ -443,6 +456,7 @@ fn staged(rt: &impl Abort, alloc: Global, spec: &Spec, view: &View) -> Report {
     let accepted = accepted(rt, alloc, spec, view, found.as_slice());
     assert!(rt; accepted == selection.accepted);
     let throttled = throttled(rt, alloc, spec, view, accepted.as_slice());
+    assert!(rt; sent(rt, alloc, spec, view, accepted.as_slice()) == throttled.sent);
     reported(rt, alloc, targets.as_slice(), view, &selection, &throttled)
 }
 
