@@ -10,9 +10,8 @@ ghost use Rattle.hx_board.specs.Refusals.{post_refusal, fetch_refusal};
 
 use crate::board::{Board, make_room, record};
 use crate::faults::{PostRefusal, RoomFault};
-use hx_cluster::{Event, Mail, Seen};
+use hx_cluster::{Event, Mail, PostedRows, Seen};
 use hx_ids::{ControllerId, Epoch, InstanceId};
-use hx_lists::Seq;
 
 impl Board {
     fn post_fault(&self, epoch: Epoch, rows: &[Seen]) -> Option<PostRefusal>
@@ -44,7 +43,7 @@ impl Board {
             return Err(fault);
         }
         make_room(&mut self.history, self.owed, 1)?;
-        let copy = Seq::from_slice(*self.lines.allocator(), rows)?;
+        let copy = PostedRows::of(*self.lines.allocator(), rows)?;
         self.records.publish(rows)?;
         record(
             &mut self.history,

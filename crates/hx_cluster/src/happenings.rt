@@ -1,4 +1,5 @@
 //! The calls that change or read a cluster, with their answers.
+use crate::posted::PostedRows;
 use crate::state::Message;
 use hx_ideal::{Ideal, IdealFault};
 use hx_ids::{
@@ -247,7 +248,7 @@ pub enum Event {
     Post {
         c: ControllerId,
         epoch: Epoch,
-        rows: Seq<Seen>,
+        rows: PostedRows,
     },
     Fetch {
         instance: InstanceId,

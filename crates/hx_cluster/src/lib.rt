@@ -8,6 +8,7 @@ mod ends;
 mod happenings;
 mod opening;
 mod planning;
+mod posted;
 mod ranges;
 mod readers;
 mod record;
@@ -25,6 +26,7 @@ pub use hx_ids::Live;
 pub use planning::{
     Candidate, Entry, Finding, Full, Held, Ideals, Plan, Report, Selection, Target, Throttled, View,
 };
+pub use posted::PostedRows;
 pub use readers::{message_on, state_on};
 pub use refusals::{MOST_RESOURCES, is_flag_of};
 pub use state::{Cluster, Message, Row};

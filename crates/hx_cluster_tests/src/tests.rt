@@ -1,4 +1,5 @@
 mod calls;
 mod external_views;
 mod fixtures;
+mod posts;
 mod steps;
