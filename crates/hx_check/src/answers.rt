@@ -1,19 +1,17 @@
 //! What a log tells beside what the cluster answers.
-ghost use Rattle.std.specs.Prelude.{◌≡◌, List, map, replicate, [], Some, IfOk};
+ghost use Rattle.std.specs.Prelude.{◌≡◌, List, map, IfOk};
 ghost use Rattle.std.specs.Cmp.Lexicographic.{pointwise};
 ghost use Rattle.std.specs.List.{list_all};
 ghost use Rattle.hx_ids.specs.declared.SessionId.{SessionId};
 ghost use Rattle.hx_cluster.specs.Events.{is_postable};
 ghost use Rattle.hx_script.specs.LogEntries.{ended_told};
-ghost use Rattle.hx_script.specs.NewIdeals.{bare_mode, bare_ideal};
 ghost use Rattle.hx_check.specs.Answers;
 ghost use Rattle.hx_check.specs.Judge.{same_proposal};
 ghost use Rattle.hx_check.specs.Judging.{is_told, IsBareIdeal};
 
 use hx_cluster::{Did, Placed, Proposal, Seen};
-use hx_ideal::{Ideal, MOST_PARTS, MOST_REPLICAS, Mode, ModeKind};
+use hx_ideal::{Ideal, MOST_PARTS, MOST_REPLICAS, Mode};
 use hx_ids::{Epoch, InstanceId, PartId, ResourceId, SessionId};
-use hx_lists::Seq;
 use hx_pass::instance_or_first;
 use hx_records::Records;
 use hx_script::{LogMove, LogPart, mode_numbered};
@@ -222,26 +220,6 @@ pub(crate) fn are_postable(records: &Records, rows: &[Seen]) -> bool
     rows.iter().all(|row| records.is_postable(row))
 }
 
-fn empty_lists<T: Drop>(alloc: Global, count: u32) -> Result<Seq<Seq<T>>, AllocError>
-    ensures { IfOk result (λ lists. lists ≡ replicate count []) }
-{
-    let mut lists = Vec::with_capacity(alloc, count as usize)?;
-    for _made in 0..count {
-        lists.push_reserved(Seq::new(alloc));
-    }
-    Ok(Seq::from_vec(lists))
-}
-
-fn bare_mode(alloc: Global, kind: ModeKind, parts: u32) -> Result<Mode, AllocError>
-    ensures { IfOk result (λ m. m ≡ bare_mode (Some kind) parts) }
-{
-    Ok(match kind {
-        ModeKind::FullAuto => Mode::Full,
-        ModeKind::SemiAuto => Mode::Semi(empty_lists(alloc, parts)?),
-        ModeKind::Customized => Mode::Custom(empty_lists(alloc, parts)?),
-    })
-}
-
 /// What is wanted of a resource that an entry adds, if that may be wanted of one.
 pub(crate) fn bare_ideal(
     alloc: Global,
@@ -257,7 +235,7 @@ pub(crate) fn bare_ideal(
     if MOST_REPLICAS < replicas || MOST_PARTS < parts {
         return Ok(None);
     }
-    let mode = bare_mode(alloc, kind, parts)?;
+    let mode = Mode::bare(alloc, kind, parts)?;
     match Ideal::check(replicas, parts, mode, 0, &[]) {
         Ok(ideal) => Ok(Some(ideal)),
         Err(_) => Ok(None),

@@ -1,5 +1,5 @@
 -- The kinds of modes, and their names.
-use Rattle.std.specs.Prelude.{ℕ, List, Option, None, Some, if◌then◌else◌, codes}
+use Rattle.std.specs.Prelude.{ℕ, List, [], Option, None, Some, if◌then◌else◌, codes, replicate}
 use Rattle.std.specs.Str.{bytes_eq}
 use Rattle.hx_ideal.specs.declared.Mode.{Mode}
 use Rattle.hx_ideal.specs.declared.Mode.TheVariants as modes
@@ -23,3 +23,9 @@ kind_named name =
     else if bytes_eq name (codes "SEMI_AUTO") then Some SemiAuto
     else if bytes_eq name (codes "CUSTOMIZED") then Some Customized
     else None
+
+-- the mode of a kind with an empty list or map for each of so many partitions
+abbrev pub bare_of : ModeKind → ℕ → Mode
+bare_of FullAuto parts = modes.Full
+bare_of SemiAuto parts = modes.Semi (replicate parts [])
+bare_of Customized parts = modes.Custom (replicate parts [])

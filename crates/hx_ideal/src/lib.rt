@@ -7,6 +7,7 @@ ghost use Rattle.hx_ideal.specs.IdealState.{HasCount};
 ghost use Rattle.hx_ideal.specs.Faults.{fault_of, list_fault as list_fault_of};
 ghost use Rattle.hx_ideal.specs.Faults.{map_fault as map_fault_of};
 
+mod bare;
 mod faults;
 mod kinds;
 

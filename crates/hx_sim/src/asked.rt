@@ -1,6 +1,6 @@
 //! The step that a script line asks for.
 
-ghost use Rattle.std.specs.Prelude.{◌≡◌, ◌≤◌, true, [], replicate, option_map, IfOk};
+ghost use Rattle.std.specs.Prelude.{◌≡◌, ◌≤◌, true, option_map, IfOk};
 ghost use Rattle.hx_cluster.specs.Steps.{newest};
 ghost use Rattle.hx_script.specs.Asked.{part_at, step_asked};
 ghost use Rattle.hx_script.specs.NewIdeals.{bare_mode, bare_ideal};
@@ -17,26 +17,12 @@ use hx_lists::Seq;
 use hx_script::{What, mode_numbered};
 use std::alloc::{AllocError, Global};
 
-/// So many empty lists.
-fn empty_lists<T: Drop>(alloc: Global, count: u32) -> Result<Seq<Seq<T>>, AllocError>
-    ensures { IfOk result (λ lists. lists ≡ replicate count []) }
-{
-    let mut lists = Vec::with_capacity(alloc, count as usize)?;
-    for made in 0..count {
-        lists.push_reserved(Seq::new(alloc));
-    }
-    Ok(Seq::from_vec(lists))
-}
-
 /// A mode with empty lists or maps.
 fn bare_mode(alloc: Global, mode: u8, parts: u32) -> Result<Mode, AllocError>
     ensures { IfOk result (λ m. m ≡ bare_mode (mode_numbered mode) parts) }
 {
-    Ok(match mode_numbered(mode) {
-        Some(ModeKind::FullAuto) => Mode::Full,
-        Some(ModeKind::SemiAuto) => Mode::Semi(empty_lists(alloc, parts)?),
-        _ => Mode::Custom(empty_lists(alloc, parts)?),
-    })
+    let kind = mode_numbered(mode).unwrap_or(ModeKind::Customized);
+    Mode::bare(alloc, kind, parts)
 }
 
 /// What is wanted of a resource that a line adds.

@@ -1,5 +1,5 @@
 use Rattle.std.proofs.Common.{◌≡◌, ◌≤◌, ◌+◌, ◌-◌, [], replicate, vec_len, vec_capacity}
-use Rattle.hx_check.proofs.answers.empty_lists.Given as goal
+use Rattle.hx_ideal.proofs.bare.empty_lists.Given as goal
 
 abbrev pub invariant-loop-made : goal.invariant-loop-made
 invariant-loop-made g l = record {
