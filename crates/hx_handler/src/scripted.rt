@@ -203,7 +203,10 @@ fn count_making(tried: &mut IndexMap<PartId, u64>, part: PartId) -> u64
     ensures before { result ≡ tried_of tried.old.entries part }
     ensures after { tried.new.entries ≡ tried_up tried.old.entries part }
 {
-    let before = tried.get(&part).copied().unwrap_or(0);
+    let Some(before) = tried.get(&part).copied() else {
+        tried.insert(part, 1).unwrap();
+        return 0;
+    };
     tried.insert(part, raised(before)).unwrap();
     before
 }
