@@ -1,5 +1,6 @@
 //! Handlers and factories that fail as a list says.
-ghost use Rattle.std.specs.Prelude.{◌≡◌, ℕ, ◌+◌, ◌<◌, [], vec_len, vec_capacity};
+ghost use Rattle.std.specs.Prelude.{◌≡◌, ℕ, ◌+◌, ◌<◌, []};
+ghost use Rattle.indexmap.specs.IndexMap.{spare};
 ghost use Rattle.hx_lists.specs.Counts.{count_up};
 ghost use Rattle.hx_handler.specs.Makings.{tried_of, tried_up};
 ghost use Rattle.hx_handler.specs.Failures.{is_failure, has_failure};
@@ -8,6 +9,7 @@ use crate::{Factory, Handler, HandlerFault, MakeFault, Retired};
 use hx_cluster::Failure;
 use hx_ids::{PartId, StateId};
 use hx_model::ERROR;
+use indexmap::IndexMap;
 use std::marker::Model;
 
 /// A handler whose runs fail as its list says.
@@ -88,7 +90,8 @@ pub struct ScriptedFactory {
     retired: u64,
     faults: u64,
     failures: Vec<Failure>,
-    tried: Vec<(PartId, u64)>,
+    // How many makings of each part were tried.
+    tried: IndexMap<PartId, u64>,
 }
 
 impl Model for ScriptedFactory {
@@ -101,7 +104,7 @@ impl Model for ScriptedFactory {
       retired = a.retired;
       faults = a.faults;
       failures = a.failures.items;
-      tried = a.tried.items;
+      tried = a.tried.entries;
     } };
 }
 
@@ -116,7 +119,7 @@ impl ScriptedFactory {
           tried = [];
         } }
     {
-        let tried = Vec::new(*failures.allocator());
+        let tried = IndexMap::new(*failures.allocator());
         ScriptedFactory {
             made: 0,
             retired: 0,
@@ -194,19 +197,16 @@ fn fails(failures: &[Failure], part: PartId, make: bool, number: u64) -> bool
     failures.iter().any(|f| is_at(f, part, make, number))
 }
 
-// Counts a making, and answers how many there were before.
-fn count_making(tried: &mut Vec<(PartId, u64)>, part: PartId) -> u64
-    requires { vec_len tried.old < vec_capacity tried.old }
-    ensures before { result ≡ tried_of tried.old.items part }
-    ensures after { tried.new.items ≡ tried_up tried.old.items part }
+// Counts a making, and answers how many there were before. It takes no memory.
+fn count_making(tried: &mut IndexMap<PartId, u64>, part: PartId) -> u64
+    requires { 0 < spare tried.old }
+    ensures before { result ≡ tried_of tried.old.entries part }
+    ensures after { tried.new.entries ≡ tried_up tried.old.entries part }
 {
-    for i in 0..tried.len() {
-        let (counted, n) = tried[i];
-        if counted == part {
-            tried[i] = (part, raised(n));
-            return n;
-        }
-    }
-    tried.push_reserved((part, 1));
-    0
+    let Some(before) = tried.get(&part).copied() else {
+        tried.insert(part, 1).unwrap();
+        return 0;
+    };
+    tried.insert(part, raised(before)).unwrap();
+    before
 }
