@@ -1,22 +1,26 @@
 -- The targets of a part.
-use Rattle.std.proofs.Common.{◌≡◌, ℕ, suc, zero, ◌+◌, ◌<◌, ◌||◌, ◌==◌, Bool, true, false, List, [], ◌∷◌, ◌++◌, length, map, take, get_or, Option, Some, None, refl, sym, ap, ◌∙◌, arith, append_assoc, append-nil}
+use Rattle.std.proofs.Common.{◌≡◌, ℕ, suc, zero, ◌+◌, ◌<◌, ◌||◌, ◌==◌, Bool, true, false, List, [], ◌∷◌, ◌++◌, length, map, take, get_or, Option, Some, None, refl, sym, ap, subst, ◌∙◌, arith, append_assoc, append-nil}
 use Rattle.std.specs.Prelude.{if◌then◌else◌, filter, option_map}
-use Rattle.std.specs.List.{list_any, position_or_len, filter_map, flat_map, cons_option}
+use Rattle.std.specs.List.{list_any, position_or_len, filter_map, flat_map, cons_option, slice_get}
 use Rattle.std.specs.Option.{option_map_or, is_some}
 use Rattle.std.proofs.lemmas.List.{take_more}
+use Rattle.std.proofs.lemmas.Option.{slice_get_read}
 use Rattle.std.proofs.lemmas.List.Elements.{filter_map-append}
 use Rattle.hx_lists.specs.Lists.{numbers_from, numbers_below}
 use Rattle.hx_ids.specs.declared.InstanceId.{InstanceId}
 use Rattle.hx_ids.specs.declared.StateId.{StateId}
 use Rattle.hx_ids.specs.declared.SessionId.{SessionId}
 use Rattle.hx_ids.specs.declared.PartId.{PartId}
+use Rattle.hx_model.specs.declared.ModelParts.{ModelParts}
+use Rattle.hx_cluster.specs.declared.description.Resource.{Resource}
+use Rattle.hx_cluster.specs.declared.planning.View.{View}
 use Rattle.hx_cluster.specs.declared.planning.Target.{Target}
 use Rattle.hx_cluster.specs.declared.state.Row.{Row}
-use Rattle.hx_cluster.specs.Ends.{row_of, state_of}
+use Rattle.hx_cluster.specs.Ends.{row_of, state_of, resource_at}
 use Rattle.hx_best.specs.declared.marks.Mark.{Mark}
 use Rattle.hx_best.specs.Wants.{Wants, Listed, Mapped, is_wanted, place_in}
 use Rattle.hx_best.specs.Goals.{goal, wanted_goal}
-use Rattle.hx_best.specs.Targets.{is_target, target, place_of}
+use Rattle.hx_best.specs.Targets.{is_target, target, place_of, targets, targets_in}
 use Rattle.hx_best.specs.Places.{Placing, model_in, mark_of, wants_at, place_past, target_at}
 
 not_there : {X : Type 0} (q : X → Bool) (xs : List X) → list_any q xs ≡ false → position_or_len q xs ≡ length xs
@@ -87,3 +91,15 @@ flat_map-numbers_from-suc f a (suc n) = grind (arith, flat_map-numbers_from-suc 
 
 pub flat_map-numbers_below_more : {X : Type 0} (f : ℕ → List X) (n : ℕ) → flat_map f (numbers_below (n + 1)) ≡ flat_map f (numbers_below n) ++ f n
 flat_map-numbers_below_more f n = grind (arith, flat_map-numbers_from-suc f 0 n)
+
+-- behind others
+pub added_more : {X : Type 0} (f : ℕ → List X) (n : ℕ) (old now new : List X) → now ≡ old ++ flat_map f (numbers_below n) → new ≡ now ++ f n → new ≡ old ++ flat_map f (numbers_below (n + 1))
+added_more f n old now new so is = is ∙ rw so (append_assoc old (flat_map f (numbers_below n)) (f n)) ∙ ap (λ (xs : List _). old ++ xs) (sym (flat_map-numbers_below_more f n))
+
+-- those of a resource that is read in its place
+pub targets_read : (models : List ModelParts) (view index : View) (read : List Resource) (count k : ℕ) (r : Resource) → index ≡ view → read ≡ index.ideals.resources
+    → count ≡ length read → k < count → r ≡ get_or read k r → targets models view (record { 0 = k }) ≡ targets_in models view (record { 0 = k }) r
+targets_read models view index read count k r same are long lt is =
+    let there : resource_at view.ideals.resources (record { 0 = k }) ≡ Some r =
+    subst (λ (rs : List Resource). slice_get rs k ≡ Some r) (are ∙ ap (λ (v : View). v.ideals.resources) same) (slice_get_read read count k r long lt is) in
+    ap (λ (o : Option Resource). option_map_or (targets_in models view (record { 0 = k })) o []) there

@@ -1,9 +1,10 @@
 -- Targets with each that isn't at its goal, some more of them.
-use Rattle.std.proofs.Common.{◌≡◌, ◌&&◌, ◌++◌, not, Bool, true, false, List, [], ◌∷◌, map, Option, Some, None, refl, sym, ap, ◌∙◌, arith, append-nil}
+use Rattle.std.proofs.Common.{◌≡◌, ℕ, ◌+◌, ◌&&◌, ◌++◌, not, Bool, true, false, List, [], ◌∷◌, map, Option, Some, None, refl, sym, ap, subst, ◌∙◌, arith, append_assoc, append-nil}
 use Rattle.std.specs.Prelude.{filter, if◌then◌else◌}
-use Rattle.std.specs.List.{list_all}
+use Rattle.std.specs.List.{list_all, flat_map}
 use Rattle.std.specs.Option.{option_map_or}
 use Rattle.std.proofs.lemmas.List.Elements.{filter-append}
+use Rattle.hx_lists.specs.Lists.{numbers_below}
 use Rattle.hx_ids.specs.declared.PartId.{PartId}
 use Rattle.hx_ids.specs.declared.SessionId.{SessionId}
 use Rattle.hx_ids.specs.declared.InstanceId.{InstanceId}
@@ -15,6 +16,7 @@ use Rattle.hx_cluster.specs.Ends.{resource_at, model_at, no_model}
 use Rattle.hx_best.specs.Targets.{target, targets_at, is_target}
 use Rattle.hx_best.specs.Wants.{by_instance}
 use Rattle.hx_best.specs.Still.{is_at_goal, is_done, HasMoving, is_among, those_among}
+use Rattle.hx_best.proofs.Found.{flat_map-numbers_below_more}
 
 both : (a b : Bool) → (a && b) ≡ true → (a ≡ true) × (b ≡ true)
 both true b e = (refl, e)
@@ -85,3 +87,11 @@ module _ (models : List ModelParts) (view : View) where
   pub all_among : (ts : List Target) → those_among None ts ≡ ts
   all_among [] = refl
   all_among (t ∷ ts) = ap (λ (rest : List Target). t ∷ rest) (all_among ts)
+
+  -- those of one more part or resource, behind others
+  pub more_among : (marks : Option (List (List Bool))) (f : ℕ → List Target) (n : ℕ) (all found : List Target)
+      → HasMoving models view ((all ++ those_among marks (flat_map f (numbers_below n))) ++ those_among marks (f n)) found → HasMoving models view (all ++ those_among marks (flat_map f (numbers_below (n + 1)))) found
+  more_among marks f n all found has =
+      let before = those_among marks (flat_map f (numbers_below n)) in
+      let one = ap (those_among marks) (flat_map-numbers_below_more f n) ∙ filter-append (λ t. is_among marks t.part) (flat_map f (numbers_below n)) (f n) in
+      subst (λ (ts : List Target). HasMoving models view ts found) (append_assoc all before (those_among marks (f n)) ∙ ap (λ (ts : List Target). all ++ ts) (sym one)) has

@@ -1,14 +1,14 @@
-//! The targets of a resource.
+//! The targets of a resource, and of all.
 ghost use Rattle.std.specs.Prelude.{◌≡◌, ◌||◌, ◌++◌, [], IfOk, OnOk, if◌then◌else◌};
 ghost use Rattle.std.specs.List.{flat_map};
 ghost use Rattle.std.specs.Option.{option_map_or, is_some};
 ghost use Rattle.hx_best.specs.Goals.{goal as goal_of};
 ghost use Rattle.hx_best.specs.Targets.{targets_at, targets_in};
-ghost use Rattle.hx_best.specs.Targets.{targets as all_of};
+ghost use Rattle.hx_best.specs.Targets.{targets as targets_of, all_targets as all_targets_of};
 ghost use Rattle.hx_best.specs.Places.{mark_of, wants_at, place_past, target_at, AreVisits};
 
 use crate::lookups::Index;
-use crate::marks::{Mark, Shown};
+use crate::marks::{Mark, Shown, number};
 use crate::places::Places;
 use crate::visits::Visits;
 use hx_cluster::{Target, View};
@@ -163,22 +163,23 @@ fn is_one(state: Option<StateId>, mark: Option<Mark>) -> bool
     state.is_some() || mark.is_some()
 }
 
-/// The targets of a resource, by partition, then instance.
-fn targets_of(
-    alloc: Global,
+/// Adds the targets of a resource, by partition, then instance.
+fn add_targets_of(
     places: &Places<'_>,
     resource: ResourceId,
-) -> Result<Vec<Target>, AllocError>
-    ensures { IfOk result (λ found.
-        found.items ≡ targets_in places.now.models places.now.view resource places.now.resource) }
+    room: &mut Room,
+    found: &mut Vec<Target>,
+) -> Result<(), AllocError>
+    ensures { OnOk result (
+        found.new.items
+        ≡ found.old.items
+        ++ targets_in places.now.models places.now.view resource places.now.resource) }
 {
-    let mut found = Vec::new(alloc);
-    let mut room = Room::new(alloc);
     for index in 0..places.resource().ideal.parts() {
         let shown = Shown::of(&*places, PartId { resource, index });
-        shown.add_targets(&mut room, &mut found)?;
+        shown.add_targets(room, found)?;
     }
-    Ok(found)
+    Ok(())
 }
 
 /// The targets of a resource over an index of the view. The index may serve all resources.
@@ -188,12 +189,14 @@ pub fn targets_on(
     index: &Index<'_>,
     resource: ResourceId,
 ) -> Result<Vec<Target>, AllocError>
-    ensures { IfOk result (λ found. found.items ≡ all_of models.now index.now resource) }
+    ensures { IfOk result (λ found. found.items ≡ targets_of models.now index.now resource) }
 {
-    match index.view().ideals.resources.get(resource.0 as usize) {
-        Some(shown) => targets_of(alloc, &Places::of(alloc, &*index, models, shown)?, resource),
-        None => Ok(Vec::new(alloc)),
+    let mut found = Vec::new(alloc);
+    if let Some(shown) = index.view().ideals.resources.get(resource.0 as usize) {
+        let places = Places::of(alloc, &*index, models, shown)?;
+        add_targets_of(&places, resource, &mut Room::new(alloc), &mut found)?;
     }
+    Ok(found)
 }
 
 /// The targets of a resource: its replicas on shown sessions, and the places where it has none and
@@ -204,7 +207,27 @@ pub fn targets(
     view: &View,
     resource: ResourceId,
 ) -> Result<Vec<Target>, AllocError>
-    ensures { IfOk result (λ found. found.items ≡ all_of models.now view.now resource) }
+    ensures { IfOk result (λ found. found.items ≡ targets_of models.now view.now resource) }
 {
     targets_on(alloc, models, &Index::of(alloc, view)?, resource)
+}
+
+/// The targets of all resources, in order of number, over an index of the view. More than
+/// 4,294,967,295 resources are want of memory.
+pub fn all_targets(
+    alloc: Global,
+    models: &[Model],
+    index: &Index<'_>,
+) -> Result<Vec<Target>, AllocError>
+    ensures { IfOk result (λ found. found.items ≡ all_targets_of models.now index.now) }
+{
+    let resources = index.view().ideals.resources.as_slice();
+    let count = number(resources.len())?;
+    let mut room = Room::new(alloc);
+    let mut found = Vec::new(alloc);
+    for number in 0..count {
+        let places = Places::of(alloc, &*index, models, &resources[number as usize])?;
+        add_targets_of(&places, ResourceId(number), &mut room, &mut found)?;
+    }
+    Ok(found)
 }

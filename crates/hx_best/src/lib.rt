@@ -12,6 +12,6 @@ mod still;
 mod tables;
 mod visits;
 
-pub use aims::{targets, targets_on};
+pub use aims::{all_targets, targets, targets_on};
 pub use lookups::Index;
 pub use moving::{moving_targets, moving_targets_of};

@@ -3,7 +3,6 @@ ghost use Rattle.std.specs.Prelude.{◌≡◌, ◌++◌, Some, List, filter, opt
 ghost use Rattle.hx_cluster.specs.declared.planning.Target.{Target};
 ghost use Rattle.hx_cluster.specs.Ends.{resource_at};
 ghost use Rattle.hx_best.specs.Targets.{targets_at, targets_in, all_targets};
-ghost use Rattle.hx_best.specs.Targets.{targets as targets_of};
 ghost use Rattle.hx_marks.specs.Marks.{is_marked};
 ghost use Rattle.hx_best.specs.Still.{HasMoving, is_among, those_among};
 
@@ -46,56 +45,36 @@ fn is_among(marks: Option<&Marks>, part: PartId) -> bool
     }
 }
 
-/// Those of a resource's targets.
-fn moving_of(
-    alloc: Global,
+/// Adds those of a resource's targets.
+fn add_moving_of(
     places: &Places<'_>,
     resource: ResourceId,
     marks: Option<&Marks>,
-) -> Result<Vec<Target>, AllocError>
+    room: &mut Room,
+    found: &mut Vec<Target>,
+) -> Result<(), AllocError>
     requires { resource_at places.now.view.ideals.resources resource ≡ Some places.now.resource }
-    ensures { IfOk result (λ found.
-        HasMoving places.now.models places.now.view
-        (those_among (option_copied marks.entry)
+    ensures { (all : List Target) → HasMoving places.now.models places.now.view all found.old.items
+        → OnOk result
+        (HasMoving places.now.models places.now.view
+        (all
+        ++ those_among (option_copied marks.entry)
         (targets_in places.now.models places.now.view resource places.now.resource))
-        found.items) }
+        found.new.items) }
 {
-    let mut found = Vec::new(alloc);
-    let mut room = Room::new(alloc);
     for index in 0..places.resource().ideal.parts() {
         let part = PartId { resource, index };
         if !is_among(marks, part) {
             continue;
         }
         let shown = Shown::of(&*places, part);
-        shown.add_moving(&mut room, &mut found)?;
+        shown.add_moving(room, found)?;
     }
-    Ok(found)
+    Ok(())
 }
 
-fn moving_on(
-    alloc: Global,
-    models: &[Model],
-    index: &Index<'_>,
-    resource: ResourceId,
-    marks: Option<&Marks>,
-) -> Result<Vec<Target>, AllocError>
-    ensures { IfOk result (λ found.
-        HasMoving models.now index.now
-        (those_among (option_copied marks.entry) (targets_of models.now index.now resource))
-        found.items) }
-{
-    match index.view().ideals.resources.get(resource.0 as usize) {
-        Some(shown) => moving_of(
-            alloc,
-            &Places::of(alloc, &*index, models, shown)?,
-            resource,
-            marks,
-        ),
-        None => Ok(Vec::new(alloc)),
-    }
-}
-
+/// Those of all resources. The room and the list are the same for all of them, so that what they
+/// take is allocated once.
 fn moving_among(
     alloc: Global,
     models: &[Model],
@@ -106,11 +85,13 @@ fn moving_among(
         HasMoving models.now index.now
         (those_among (option_copied marks.entry) (all_targets models.now index.now)) found.items) }
 {
-    let count = number(index.view().ideals.resources.len())?;
+    let resources = index.view().ideals.resources.as_slice();
+    let count = number(resources.len())?;
+    let mut room = Room::new(alloc);
     let mut found = Vec::new(alloc);
     for number in 0..count {
-        let more = moving_on(alloc, models, index, ResourceId(number), marks)?;
-        found.extend_from_slice(more.as_slice())?;
+        let places = Places::of(alloc, &*index, models, &resources[number as usize])?;
+        add_moving_of(&places, ResourceId(number), marks, &mut room, &mut found)?;
     }
     Ok(found)
 }

@@ -2,7 +2,6 @@
 use Rattle.std.proofs.Common.{◌≡◌, ℕ, ◌+◌, ◌≤◌, List, [], ◌∷◌, ◌++◌, length, take, length-append, append_assoc, drop, get_or, ◌<◌, true, is_ok, Result, Ok, Err, OnOk, refl, sym, ap, ◌∙◌, arith, ◌&&◌}
 use Rattle.std.specs.Prelude.{nat_le, if◌then◌else◌, Bool, not, ◌==◌, Option, None, Some, is_none, slice_get, slice_set}
 use Rattle.std.proofs.lemmas.List.{take-append-le, at_drop_more}
-use Rattle.std.proofs.Math.Seq.{take-length}
 use Rattle.hx_cluster.specs.declared.description.Rule.{Rule}
 use Rattle.hx_cluster.specs.declared.state.Cluster.{Cluster}
 use Rattle.hx_cluster.specs.declared.happenings.Proposal.{Proposal}

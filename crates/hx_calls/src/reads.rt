@@ -1,9 +1,10 @@
-//! What a controller is shown of the ideals.
+//! What a controller is shown of the ideals, and copies of it.
 ghost use Rattle.std.specs.Prelude.{◌≡◌, ◌+◌, ◌<◌, ◌≤◌, [], ◌∷◌, ◌++◌, length, take};
 ghost use Rattle.std.specs.Prelude.{IfOk, OnOk};
 ghost use Rattle.hx_cluster.specs.Reads.{ideals_shown};
 
 use hx_cluster::{Cluster, Ideals, Resource};
+use hx_ids::{PartId, SessionId};
 use hx_lists::Seq;
 use hx_same::{Same, all_same};
 use std::alloc::AllocError;
@@ -13,11 +14,43 @@ use std::alloc::AllocError;
 pub fn read_ideals_over(cluster: &Cluster, kept: Ideals) -> Result<Ideals, AllocError>
     ensures { IfOk result (λ ideals. ideals ≡ ideals_shown cluster.now) }
 {
-    let (resources, drained, resets) = kept.into_parts();
+    lists_over(
+        cluster.resources.as_slice(),
+        cluster.instances.as_slice(),
+        cluster.resets.as_slice(),
+        kept,
+    )
+}
+
+/// A copy of ideals. What `kept` has in the same place is kept, and takes no memory; the rest is
+/// copied.
+pub fn ideals_over(ideals: &Ideals, kept: Ideals) -> Result<Ideals, AllocError>
+    ensures { IfOk result (λ over. over ≡ ideals.now) }
+{
+    lists_over(
+        ideals.resources.as_slice(),
+        ideals.drained.as_slice(),
+        ideals.resets.as_slice(),
+        kept,
+    )
+}
+
+/// Ideals of these lists, each over the kept one.
+fn lists_over(
+    resources: &[Resource],
+    drained: &[bool],
+    resets: &[(SessionId, PartId)],
+    kept: Ideals,
+) -> Result<Ideals, AllocError>
+    ensures { IfOk result (λ ideals.
+        ideals
+        ≡ record { resources = resources.now; drained = drained.now; resets = resets.now }) }
+{
+    let (kept_resources, kept_drained, kept_resets) = kept.into_parts();
     Ok(Ideals {
-        resources: resources_over(cluster.resources.as_slice(), resources)?,
-        drained: copied_over(cluster.instances.as_slice(), drained)?,
-        resets: copied_over(cluster.resets.as_slice(), resets)?,
+        resources: resources_over(resources, kept_resources)?,
+        drained: copied_over(drained, kept_drained)?,
+        resets: copied_over(resets, kept_resets)?,
     })
 }
 

@@ -1,13 +1,13 @@
-use Rattle.std.proofs.Common.{ℕ, ◌+◌, List, ◌++◌, ◌∙◌, ap, sym, subst}
+use Rattle.std.proofs.Common.{ℕ, List, [], ◌++◌, sym, subst}
 use Rattle.std.specs.Prelude.{option_copied}
 use Rattle.std.specs.List.{flat_map}
-use Rattle.std.proofs.lemmas.List.Elements.{filter-append}
 use Rattle.hx_lists.specs.Lists.{numbers_below}
 use Rattle.hx_cluster.specs.declared.planning.Target.{Target}
-use Rattle.hx_best.specs.Targets.{targets}
-use Rattle.hx_best.specs.Still.{HasMoving, is_among, those_among}
-use Rattle.hx_best.proofs.Found.{flat_map-numbers_below_more}
-use Rattle.hx_best.proofs.Moves.{targets_more}
+use Rattle.hx_best.specs.Targets.{targets, targets_in}
+use Rattle.hx_best.specs.Places.{Placing}
+use Rattle.hx_best.specs.Still.{HasMoving, those_among}
+use Rattle.hx_best.proofs.Found.{targets_read}
+use Rattle.hx_best.proofs.Moves.{more_among}
 use Rattle.hx_best.proofs.moving.moving_among.Goals as goal
 
 pub loop-number-preserved : goal.loop-number-preserved
@@ -18,9 +18,11 @@ loop-number-preserved c =
     let of : ℕ → List Target = λ n. targets models view (record { 0 = n }) in
     let n = c.loop-number.number in
     let old = c.loop-number.found.items in
-    let new = c.in_ok-extend_from_slice.ensures.items ∙ ap (λ (ts : List Target). old ++ ts) c.as_slice.ensures.value in
-    let both =
-    targets_more models view (those_among marks (flat_map of (numbers_below n))) old (those_among marks (of n)) c.in_ok-more.more.items c.loop-number.invariant c.in_ok-more.ensures in
-    let all = ap (those_among marks) (flat_map-numbers_below_more of n) ∙ filter-append (λ t. is_among marks t.part) (flat_map of (numbers_below n)) (of n) in
-    subst (λ (ts : List Target). HasMoving models view (those_among marks (flat_map of (numbers_below (n + 1)))) ts) (sym new)
-    (subst (λ (ts : List Target). HasMoving models view ts (old ++ c.in_ok-more.more.items)) (sym all) both)
+    let new = c.add_moving_of.new.found.items in
+    let so_far = those_among marks (flat_map of (numbers_below n)) in
+    let of_one =
+    targets_read models view c.view.result.now c.as_slice-resources.result.now c.in_ok-count.count n c.index-resources-number.result c.view.ensures c.as_slice-resources.ensures c.in_ok-count.ensures c.loop-number-test.true c.index-resources-number.is in
+    let added = subst (λ (x : Placing). (all : List Target) → HasMoving x.models x.view all old → HasMoving x.models x.view (all ++ those_among marks (targets_in x.models x.view (record { 0 = n }) x.resource)) new)
+    c.in_ok-places.ensures c.in_ok-add_moving_of.ensures in
+    more_among models view marks of n [] new
+    (subst (λ (ts : List Target). HasMoving models view (so_far ++ those_among marks ts) new) (sym of_one) (added so_far c.loop-number.invariant))
