@@ -168,6 +168,17 @@ impl<V: Drop> Store<V> {
         self.records.set(key, version, value)
     }
 
+    /// Changes the value of a key's record, whatever its version, and gives the old one. Where there
+    /// is no record nothing changes. It takes no memory. The keys of all records rise.
+    pub fn replace(&mut self, key: u64, value: V) -> Option<V>
+        requires { CanChange (record_at self.old key) }
+        ensures value { result ≡ option_map (λ r. r.value) (record_at self.old key) }
+        ensures new { self.new ≡ set_to self.old key value }
+        ensures ordered { IsStrictlySortedBy nat_cmp (keys_of self.old) }
+    {
+        self.records.change(key, value)
+    }
+
     /// Removes a record of this version, and gives its value. It takes no memory.
     pub fn delete(&mut self, key: u64, version: u64) -> Result<V, StoreFault>
         ensures refused { RefusedAs (change_refusal self.old key version) result }
@@ -189,6 +200,16 @@ impl<V: Drop> Store<V> {
             Some(record) => Ok(record.value),
             None => unreachable!(),
         }
+    }
+
+    /// Removes a key's record, whatever its version, and gives its value, if there is one. It takes
+    /// no memory.
+    pub fn remove(&mut self, key: u64) -> Option<V>
+        ensures value { result ≡ option_map (λ r. r.value) (record_at self.old key) }
+        ensures rest { self.new ≡ deleted self.old key }
+    {
+        let record = self.take(key)?;
+        Some(record.value)
     }
 
     /// The version and the value of a key's record. It takes no memory. The keys of all records
