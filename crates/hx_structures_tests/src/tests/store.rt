@@ -14,6 +14,18 @@ fn a_record_is_made_changed_and_removed(rt: HostRuntime) -> Result<(), Fail> {
 }
 
 #[test]
+fn a_record_is_replaced_and_removed_whatever_its_version(rt: HostRuntime) -> Result<(), Fail> {
+    let mut store = Store::new(rt.alloc());
+    let owner = SessionId(1);
+    store.create(5, Some(owner), 10u32)?;
+    assert_eq!(rt; store.replace(5, 20), Some(10));
+    assert_eq!(rt; store.remove(5), Some(20));
+    assert_eq!(rt; store.remove(5), None);
+    assert_eq!(rt; store.next_owned(owner, 0), None);
+    Ok(())
+}
+
+#[test]
 fn operations_are_done_together(rt: HostRuntime) -> Result<(), Fail> {
     let mut store = Store::new(rt.alloc());
     let owner = Some(SessionId(1));
