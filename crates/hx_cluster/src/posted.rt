@@ -1,6 +1,6 @@
 //! The rows of a post, which a history keeps.
-ghost use Rattle.std.specs.Prelude.{◌≡◌, ◌↔◌, true, ◌∷◌, ◌++◌, [], length, IfOk, IfSome, OnErr, IsTrue};
-ghost use Rattle.hx_cluster.specs.Posted.{part_ahead};
+ghost use Rattle.std.specs.Prelude.{◌≡◌, ◌↔◌, [], length, IfOk, IfSome, IsTrue};
+ghost use Rattle.hx_cluster.specs.Posted.{part_ahead, row_of};
 
 use crate::Seen;
 use hx_ids::{PartId, StateId};
@@ -28,84 +28,48 @@ pub struct Step {
 /// rows.
 #[derive(Drop)]
 pub struct Steps {
+    // The part of the first row.
     first: PartId,
-    last: PartId,
     steps: Vec<Step>,
 }
 
 impl Model for Steps {
-    ghost use Rattle.std.specs.Prelude.{◌≡◌, List};
+    ghost use Rattle.std.specs.Prelude.{List};
     ghost use Rattle.hx_cluster.specs.declared.happenings.Seen.{Seen};
-    ghost use Rattle.hx_cluster.specs.Posted.{rows_from, end_from};
+    ghost use Rattle.hx_cluster.specs.Posted.{rows_from};
 
     ghost Value = { List Seen };
 
     ghost view = { λ a. rows_from a.first a.steps.items };
-
-    ghost invariant = { λ a. a.last ≡ end_from a.first a.steps.items };
 }
 
 /// How far a part is ahead of another one, if it is by a step.
 fn ahead_of(last: PartId, part: PartId) -> Option<Ahead>
     ensures { IfSome result (λ ahead. part ≡ part_ahead last ahead) }
 {
-    if part == last {
-        return Some(Ahead::Here);
-    }
     if part.resource == last.resource {
-        return if last.index < part.index && part.index - last.index == 1 {
-            Some(Ahead::Next)
-        } else {
-            None
+        return match part.index.checked_sub(last.index)? {
+            0 => Some(Ahead::Here),
+            1 => Some(Ahead::Next),
+            _ => None,
         };
     }
-    let (from, to) = (last.resource.0, part.resource.0);
-    if part.index == 0 && from < to && to - from == 1 {
+    if part.index == 0 && part.resource.0.checked_sub(last.resource.0)? == 1 {
         Some(Ahead::NextResource)
     } else {
         None
     }
 }
 
-impl Steps {
-    /// No rows. The first one is of this part.
-    fn new(alloc: Global, first: PartId, room: usize) -> Result<Steps, AllocError>
-        ensures { IfOk result (λ steps. steps ≡ []) }
-    {
-        Ok(Steps {
-            first,
-            last: first,
-            steps: Vec::with_capacity(alloc, room)?,
-        })
-    }
-
-    /// Adds a row at the end, if it is a step from the last one.
-    #[tactic(auto, using(crate::proofs::Stepping::rows_with_step, crate::proofs::Stepping::end_with_step))]
-    fn push(&mut self, row: &Seen) -> Result<bool, AllocError>
-        ensures { IfOk result (λ stepped. stepped ≡ true → self.new ≡ self.old ++ row.now ∷ []) }
-    {
-        let Some(ahead) = ahead_of(self.last, row.part) else {
-            return Ok(false);
-        };
-        let Ok(instance) = u16::try_from(row.instance.0) else {
-            return Ok(false);
-        };
-        self.steps.push(Step {
-            ahead,
-            state: row.state,
-            instance,
-        })?;
-        self.last = row.part;
-        Ok(true)
-    }
-
-    /// How many rows there are.
-    #[tactic(auto, using(crate::proofs::Stepping::rows_from_length))]
-    fn len(&self) -> usize
-        ensures { result ≡ length self.now }
-    {
-        self.steps.len()
-    }
+/// The step from a part to a row, if there is one.
+fn step_to(last: PartId, row: &Seen) -> Option<Step>
+    ensures { IfSome result (λ step. row.now ≡ row_of last step) }
+{
+    Some(Step {
+        ahead: ahead_of(last, row.part)?,
+        state: row.state,
+        instance: u16::try_from(row.instance.0).ok()?,
+    })
 }
 
 /// The steps that tell rows, if each is a step from the one before it.
@@ -115,13 +79,17 @@ fn steps_of(alloc: Global, rows: &[Seen]) -> Result<Option<Steps>, AllocError>
     let Some(row) = rows.first() else {
         return Ok(None);
     };
-    let mut steps = Steps::new(alloc, row.part, rows.len())?;
+    let first = row.part;
+    let mut last = first;
+    let mut steps = Vec::with_capacity(alloc, rows.len())?;
     for row in rows {
-        if !steps.push(row)? {
+        let Some(step) = step_to(last, row) else {
             return Ok(None);
-        }
+        };
+        steps.push_reserved(step);
+        last = row.part;
     }
-    Ok(Some(steps))
+    Ok(Some(Steps { first, steps }))
 }
 
 /// Rows as they are kept.
@@ -161,11 +129,12 @@ impl PostedRows {
     }
 
     /// How many there are. It takes no memory.
+    #[tactic(auto, using(crate::proofs::Stepping::rows_from_length))]
     pub fn len(&self) -> usize
         ensures { result ≡ length self.now }
     {
         match &self.kept {
-            Kept::Steps(steps) => steps.len(),
+            Kept::Steps(steps) => steps.steps.len(),
             Kept::Each(rows) => rows.len(),
         }
     }
