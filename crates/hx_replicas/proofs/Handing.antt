@@ -5,6 +5,7 @@ use Rattle.std.specs.Option.{option_map, ForSome}
 use Rattle.hx_ids.specs.declared.PartId.{PartId}
 use Rattle.hx_ids.specs.declared.StateId.{StateId}
 use Rattle.hx_ids.specs.declared.MsgId.{MsgId}
+use Rattle.hx_cluster.specs.Ends.{part_eq}
 use Rattle.hx_cluster.specs.declared.state.Message.{Message}
 use Rattle.hx_cluster.specs.declared.description.Failure.{Failure}
 use Rattle.hx_handler.specs.declared.Handler as handler
@@ -18,9 +19,9 @@ use Rattle.hx_replicas.specs.Jobs.{StandsEmpty, runs_of, seen, seen_in}
 use Rattle.hx_replicas.specs.Layout.{plain_slot, IsSlot, Stands, OfSlot, IsLaidOut, AreDistinct, has_number, has_part, filled, sent_out}
 use Rattle.std.specs.Prelude.{slice_get}
 use Rattle.hx_replicas.specs.Indexes.{alter}
-use Rattle.hx_replicas.proofs.Altering.{alter-set, stands-some, stands-get}
+use Rattle.hx_replicas.proofs.Altering.{alter-set, set-alter, only-one, stands-in, stands-some, stands-get, position-alter}
 use Rattle.hx_replicas.proofs.Searching.{found-in, found-passes, place-in}
-use Rattle.hx_replicas.proofs.Placing.{slot-at, put-at, slot-found, slot-none, part-found}
+use Rattle.hx_replicas.proofs.Placing.{slot-at, put-at, place-at, place-plain, slot-found, slot-none, part-found}
 use Rattle.hx_replicas.proofs.Putting.{slot_in-put}
 use Rattle.hx_replicas.proofs.Laying.{IsLaidOut-set}
 
@@ -111,6 +112,12 @@ module _ {H : Type 0} {k : handler.Ghosts H} {told : Option (List Failure)} {xs 
       let of = of-slot k told x m (fit-at laid i x lt at_i) is in
       rw (slot-at k xs i m.part x laid.distinct lt at_i of.of_part) is
 
+  pub place-accepted : {made retired : ℕ} → IsLaidOut k told xs made retired → (id : MsgId) (m : Message) (i : ℕ) (x : Slot H) → position (has_number id) xs ≡ Some i → x ≡ get_or xs i x → x.work ≡ Accepted m → position (λ s. part_eq s.part m.part) (map (plain_slot k) xs) ≡ Some i
+  place-accepted laid id m i x e at_i is =
+      let lt : i < length xs = found-in (has_number id) xs i x e in
+      let of = of-slot k told x m (fit-at laid i x lt at_i) is in
+      sym (place-plain k xs m.part) ∙ place-at xs i m.part x laid.distinct lt at_i of.of_part
+
 module _ {H : Type 0} {k : handler.Ghosts H} {told : Option (List Failure)} {xs : List (Slot H)} {m : Message} {i : ℕ} {x : Slot H} where
   pub slot-taken : IsTaken k told xs m i x → slot_in (map (plain_slot k) xs) m.part ≡ plain_slot k x
   slot-taken t = slot-at k xs i m.part x t.distinct t.lt t.at_i t.part
@@ -135,6 +142,15 @@ module _ {H : Type 0} {k : handler.Ghosts H} {told : Option (List Failure)} {xs 
   slot-set t y is =
       let same : y.part ≡ x.part = ap (λ s. s.part) is in
       ap (λ ss. slot_in ss m.part) (sym (put-at k xs i x y t.distinct t.lt t.at_i same)) ∙ slot_in-put (map (plain_slot k) xs) (plain_slot k y) m.part (same ∙ sym t.part)
+
+  -- and keeps its place
+  pub place-ready : position (has_part m.part) xs ≡ Some i → IsTaken k told xs m i x → (y : Slot H) → y ≡ filled x y.handler → position (λ s. part_eq s.part m.part) (map (plain_slot k) (set xs i y)) ≡ Some i
+  place-ready e t y is =
+      let same : y.part ≡ x.part = ap (λ s. s.part) is in
+      let kept : (z : Slot H) → slice_get xs i ≡ Some z → part_eq y.part m.part ≡ part_eq z.part m.part =
+      λ z stands. rw (only-one (slice_get xs i) x z (stands-in xs i x t.lt t.at_i) stands, same) refl in
+      sym (place-plain k (set xs i y) m.part) ∙ ap (position (has_part m.part)) (set-alter xs i y x t.lt t.at_i)
+      ∙ position-alter (has_part m.part) (λ z. y) xs i kept ∙ e
 
   pub IsLaidOut-given : {made retired : ℕ} → IsTaken k told xs m i x → IsLaidOut k told xs made retired → IsLaidOut k told (alter (λ y. sent_out y m) i xs) made retired
   IsLaidOut-given t was = rw (alter-set (λ y. sent_out y m) xs i x t.lt t.at_i) (IsLaidOut-sent t was)

@@ -12,6 +12,7 @@ use Rattle.hx_replicas.specs.declared.slots.Slot.{Slot}
 use Rattle.hx_replicas.specs.Participants.{slot_in, put_slot, new_slot, accepted_in, accepted_of, has_accepted, is_idle}
 use Rattle.hx_replicas.specs.Layout.{plain_slot, has_part, has_number, AreDistinct}
 use Rattle.hx_replicas.proofs.Parts.{part_same, part_eq-self}
+use Rattle.hx_replicas.proofs.Altering.{position-cons}
 use Rattle.hx_replicas.proofs.Searching.{find-map, found-passes, found-first, found-none}
 
 -- a part is not among those behind it
@@ -19,6 +20,17 @@ among : {H : Type 0} (p : PartId) (xs : List (Slot H)) (i : ℕ) (d : Slot H) �
 among p [] i d none lt = absurd (omega arith)
 among p (x ∷ xs) zero d none lt = grind (arith, common_steps)
 among p (x ∷ xs) (suc i) d none lt = among p xs i d (grind (arith, common_steps)) (omega arith)
+
+place-own : {H : Type 0} (xs : List (Slot H)) (i : ℕ) (d : Slot H) → AreDistinct (map (λ x. x.part) xs) → i < length xs → position (has_part (get_or xs i d).part) xs ≡ Some i
+place-own [] i d distinct lt = absurd (omega arith)
+place-own (x ∷ xs) zero d distinct lt = rw (position-cons (has_part x.part) x xs, part_eq-self x.part) refl
+place-own (x ∷ xs) (suc i) d distinct lt =
+    let below : i < length xs = omega arith in
+    rw (position-cons (has_part (get_or xs i d).part) x xs, among x.part xs i d distinct.0 below, place-own xs i d distinct.1 below) refl
+
+-- a place is that of its part
+pub place-at : {H : Type 0} (xs : List (Slot H)) (i : ℕ) (p : PartId) (x : Slot H) → AreDistinct (map (λ y. y.part) xs) → i < length xs → x ≡ get_or xs i x → p ≡ x.part → position (has_part p) xs ≡ Some i
+place-at xs i p x distinct lt at_i same = rw same (let e : position (has_part (get_or xs i x).part) xs ≡ Some i = place-own xs i x distinct lt in rw (← at_i) at e)
 
 module _ {H : Type 0} (k : handler.Ghosts H) where
   slot_of-place : (xs : List (Slot H)) (i : ℕ) (d : Slot H) → AreDistinct (map (λ x. x.part) xs) → i < length xs → slot_in (map (plain_slot k) xs) (get_or xs i d).part ≡ plain_slot k (get_or xs i d)
@@ -42,6 +54,12 @@ module _ {H : Type 0} (k : handler.Ghosts H) where
 
   pub put-at : (xs : List (Slot H)) (i : ℕ) (x y : Slot H) → AreDistinct (map (λ x. x.part) xs) → i < length xs → x ≡ get_or xs i x → y.part ≡ x.part → put_slot (map (plain_slot k) xs) (plain_slot k y) ≡ map (plain_slot k) (set xs i y)
   put-at xs i x y distinct lt at_i same = put-place xs i y x distinct lt (rw (← at_i) same)
+
+  -- the place of a part's slot
+  pub place-plain : (xs : List (Slot H)) (p : PartId) → position (has_part p) xs ≡ position (λ x. part_eq x.part p) (map (plain_slot k) xs)
+  place-plain [] p = refl
+  place-plain (x ∷ xs) p =
+      rw (position-cons (has_part p) x xs, position-cons (λ s. part_eq s.part p) (plain_slot k x) (map (plain_slot k) xs), place-plain xs p) refl
 
   -- where a search found a place
   pub slot-found : (xs : List (Slot H)) (p : PartId) (i : ℕ) (x : Slot H) → position (has_part p) xs ≡ Some i → x ≡ get_or xs i x → slot_in (map (plain_slot k) xs) p ≡ plain_slot k x

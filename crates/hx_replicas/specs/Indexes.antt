@@ -12,7 +12,7 @@ use Rattle.hx_replicas.specs.declared.slots.Slot.{Slot}
 use Rattle.hx_replicas.specs.declared.indexed.Found.{Found}
 use Rattle.hx_replicas.specs.declared.indexed.Found.TheVariants.{Alone, Several}
 use Rattle.hx_replicas.specs.declared.indexed.Indexed.{Indexed}
-use Rattle.hx_replicas.specs.Participants.{accepted_of}
+use Rattle.hx_replicas.specs.Participants.{Participant, accepted_of}
 use Rattle.hx_replicas.specs.Layout.{has_part, has_number}
 
 -- a list with what stands in a place changed
@@ -54,6 +54,10 @@ abbrev pub forgotten : Option Found → Option Found
 forgotten None = None
 forgotten (Some (Alone place)) = None
 forgotten (Some Several) = Some Several
+
+-- the place of a part's slot
+abbrev pub place_of : Participant → PartId → Option ℕ
+place_of w p = position (λ x. part_eq x.part p) w.slots
 
 -- the accepted messages are those of the slots
 pub record AreWaiting {H : Type 0} (es : List (Node × Waiting)) (xs : List (Slot H)) : Type 0 where

@@ -17,6 +17,7 @@ ghost use Rattle.hx_replicas.specs.Participants.{finish as finish_of, adopt as a
 ghost use Rattle.hx_replicas.specs.Jobs.{ParticipantState, IsHanded, IsMaking, AreAnswered};
 ghost use Rattle.hx_replicas.specs.Jobs.{KeepsRest, runs_of};
 ghost use Rattle.hx_replicas.specs.Batches.{AreSpread, AreAccepted, IsReadied, AreGiven};
+ghost use Rattle.hx_replicas.specs.Indexes.{place_of};
 
 use crate::DeliverFault;
 use crate::indexed::Indexed;
@@ -34,6 +35,9 @@ use std::marker::Model;
 
 /// More parts and accepted messages than there ever are.
 const MOST: usize = u32::MAX as usize;
+
+/// How many deliveries room is made for at least, where any has to be made.
+const FEW: usize = 16;
 
 /// An instance's session, its parts, and its factory of handlers. It can't be dropped: it has to be
 /// closed.
@@ -182,6 +186,7 @@ impl<F: Factory> Participant<F> {
         if n <= self.spare {
             return Ok(());
         }
+        let n = n.max(FEW);
         if self.slots.items.len().saturating_add(n) >= MOST {
             return Err(AllocError);
         }
@@ -245,8 +250,8 @@ impl<F: Factory> Participant<F> {
         let Work::Accepted(message) = self.slots.items[place].work else {
             unreachable!()
         };
-        self.ready_one(&message)?;
-        Ok(Some(self.give_one(&message)))
+        self.ready_one(place, &message)?;
+        Ok(Some(self.give_one(place, &message)))
     }
 
     /// Hands out all accepted messages by their numbers, as `job_of` does. It makes the handlers
@@ -354,9 +359,21 @@ impl<F: Factory> Participant<F> {
         messages_of(alloc, &waiting)
     }
 
-    // Makes the handler that an accepted message needs, where its part has none.
-    fn ready_one(&mut self, message: &Message) -> Result<(), AllocError>
-        requires { (slot_of self.old.plain message.now.part).work ≡ Accepted message.now }
+    // The place of the slot that has accepted a message.
+    fn place_for(&self, message: &Message) -> usize
+        requires { (slot_of self.now.plain message.now.part).work ≡ Accepted message.now }
+        ensures { place_of self.now.plain message.now.part ≡ Some result }
+    {
+        let Some(place) = self.slots.place_of(message.part) else {
+            unreachable!()
+        };
+        place
+    }
+
+    // Makes the handler that the accepted message of the slot in a place needs, where it has none.
+    fn ready_one(&mut self, place: usize, message: &Message) -> Result<(), AllocError>
+        requires accepted { (slot_of self.old.plain message.now.part).work ≡ Accepted message.now }
+        requires place { place_of self.old.plain message.now.part ≡ Some place }
         ensures plain { OnOk result (self.new.plain
             ≡ readied self.old.plain message.now
             (is_none (slot_of self.new.plain message.now.part).handler)) }
@@ -367,19 +384,18 @@ impl<F: Factory> Participant<F> {
             (is_none (slot_of self.new.plain message.now.part).handler)) }
         ensures err { OnErr result (self.new.plain ≡ self.old.plain) }
         ensures made { self.old.made ≤ self.new.made }
+        ensures place { OnOk result (place_of self.new.plain message.now.part ≡ Some place) }
         ensures rest { KeepsRest self.old self.new }
         ensures ledger { IsBalanced self.new.made self.new.retired self.new.plain }
     {
-        let Some(place) = self.slots.place_of(message.part) else {
-            unreachable!()
-        };
         ready(&mut self.slots.items[place], message, &mut self.factory)?;
         Ok(())
     }
 
-    // Hands out an accepted message with its part's handler, if there is one.
-    fn give_one(&mut self, message: &Message) -> Job<F::H>
-        requires { (slot_of self.old.plain message.now.part).work ≡ Accepted message.now }
+    // Hands out the accepted message of the slot in a place with its handler, if there is one.
+    fn give_one(&mut self, place: usize, message: &Message) -> Job<F::H>
+        requires accepted { (slot_of self.old.plain message.now.part).work ≡ Accepted message.now }
+        requires place { place_of self.old.plain message.now.part ≡ Some place }
         ensures plain { self.new.plain ≡ given self.old.plain message.now }
         ensures message { result.message ≡ message.now }
         ensures runs { runs_of result.handler
@@ -388,9 +404,6 @@ impl<F: Factory> Participant<F> {
         ensures rest { self.new ≡ record self.old { plain = self.new.plain } }
         ensures ledger { IsBalanced self.new.made self.new.retired self.new.plain }
     {
-        let Some(place) = self.slots.place_of(message.part) else {
-            unreachable!()
-        };
         self.slots.send(place, message)
     }
 
@@ -406,7 +419,8 @@ impl<F: Factory> Participant<F> {
         ensures ledger { IsBalanced self.new.made self.new.retired self.new.plain }
     {
         for message in messages {
-            self.ready_one(message)?;
+            let place = self.place_for(message);
+            self.ready_one(place, message)?;
         }
         Ok(())
     }
@@ -425,7 +439,8 @@ impl<F: Factory> Participant<F> {
         ensures ledger { IsBalanced self.new.made self.new.retired self.new.plain }
     {
         for message in messages {
-            jobs.push_reserved(self.give_one(message));
+            let place = self.place_for(message);
+            jobs.push_reserved(self.give_one(place, message));
         }
     }
 }

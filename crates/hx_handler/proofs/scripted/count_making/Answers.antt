@@ -1,4 +1,4 @@
-use Rattle.std.proofs.Common.{◌≡◌, None, Some, sym, ap, ◌∙◌}
+use Rattle.std.proofs.Common.{None, Some, sym, ap, ◌∙◌}
 use Rattle.std.proofs.lemmas.Result.{MatchResult-at_ok}
 use Rattle.hx_lists.specs.Counts.{count_up}
 use Rattle.hx_handler.proofs.Trying.{found-tried, put-tried}

@@ -20,10 +20,15 @@ loop-message-init g c = record {
   ledger = c.requires.ledger;
 }
 
-pub give_one-requires : goal.give_one-requires
+pub place_for-place-requires : goal.place_for-place-requires
 unfolding first
-give_one-requires g c =
+place_for-place-requires g c =
     (search rules, (search rules, next-accepted c.args.self.now.plain c.loop-message.self.plain c.args.messages.now c.loop-message.message-index first c.requires.spread c.requires.accepted c.loop-message-test.true c.loop-message.invariant.plain))
+
+pub give_one-requires-clause-accepted : goal.give_one-requires-clause-accepted
+unfolding first
+give_one-requires-clause-accepted g c κs within =
+    next-accepted c.args.self.now.plain c.loop-message.self.plain c.args.messages.now c.loop-message.message-index first c.requires.spread c.requires.accepted c.loop-message-test.true c.loop-message.invariant.plain
 
 pub push_reserved-requires : goal.push_reserved-requires
 push_reserved-requires g c = omega (arith, c.loop-message.invariant.room, c.loop-message-test.true)

@@ -2,7 +2,7 @@ use Rattle.std.proofs.Common.{◌≡◌, rules, refl, sym, None}
 use Rattle.std.specs.List.{position}
 use Rattle.hx_replicas.specs.Layout.{has_number}
 use Rattle.hx_replicas.proofs.Placing.{accepted-none, accepted-some}
-use Rattle.hx_replicas.proofs.Handing.{is-accepted, stands-accepted}
+use Rattle.hx_replicas.proofs.Handing.{is-accepted, stands-accepted, place-accepted}
 use Rattle.hx_replicas.proofs.Together.{stays-accepted, one-out}
 use Rattle.hx_replicas.proofs.participants.Participant.job_of.Goals as goal
 
@@ -16,16 +16,22 @@ pub unreachable-requires : goal.unreachable-requires
 unreachable-requires g c =
     is-accepted c.args.id c.self.inside.slots.items.items c.in-Some.place c.index.result.now (cc) c.index.ensures c.in_default-work.not-Accepted
 
-pub ready_one-requires : goal.ready_one-requires
-ready_one-requires g c =
-    let stands = stands-accepted c.self.invariant.0 c.args.id c.in-Accepted.message c.in-Some.place c.index.result.now (cc) c.index.ensures c.in-Accepted.is in
-    (search rules, (search rules, rw (← c.self.view_is) stands))
+pub ready_one-requires-clause-accepted : goal.ready_one-requires-clause-accepted
+ready_one-requires-clause-accepted g c κs within =
+    rw (← c.self.view_is) (stands-accepted c.self.invariant.0 c.args.id c.in-Accepted.message c.in-Some.place c.index.result.now (cc) c.index.ensures c.in-Accepted.is)
 
-pub give_one-requires : goal.give_one-requires
-give_one-requires g c =
+pub ready_one-requires-clause-place : goal.ready_one-requires-clause-place
+ready_one-requires-clause-place g c κs within =
+    rw (← c.self.view_is) (place-accepted c.self.invariant.0 c.args.id c.in-Accepted.message c.in-Some.place c.index.result.now (cc) c.index.ensures c.in-Accepted.is)
+
+pub give_one-requires-clause-accepted : goal.give_one-requires-clause-accepted
+give_one-requires-clause-accepted g c κs within =
     let m = c.in-Accepted.message in
     let stands = stands-accepted c.self.invariant.0 c.args.id m c.in-Some.place c.index.result.now (cc) c.index.ensures c.in-Accepted.is in
-    (search rules, (search rules, stays-accepted c.args.self.now.plain c.ready_one.new.self.plain m _ c.in_ok-ready_one.ensures.plain (rw (← c.self.view_is) stands)))
+    stays-accepted c.args.self.now.plain c.ready_one.new.self.plain m _ c.in_ok-ready_one.ensures.plain (rw (← c.self.view_is) stands)
+
+pub give_one-requires-clause-place : goal.give_one-requires-clause-place
+give_one-requires-clause-place g c κs within = c.in_ok-ready_one.ensures.place
 
 pub returns : goal.returns
 returns g c =

@@ -15,11 +15,17 @@ same-default xs i d lt = get_or_default xs i d (get_or xs i d) lt
 pub loop-message-init : goal.loop-message-init
 loop-message-init g c = ([], IsReadied-none c.args.self.now c.args.messages.now, refl, c.requires.ledger)
 
-pub ready_one-requires : goal.ready_one-requires
+pub place_for-place-requires : goal.place_for-place-requires
 unfolding first
-ready_one-requires g c =
+place_for-place-requires g c =
     let inv = c.loop-message.invariant in
     (search rules, (search rules, next-unready c.args.self.now.plain c.loop-message.self.plain c.args.messages.now inv.0 c.loop-message.message-index first c.requires.spread c.requires.accepted c.loop-message-test.true (omega (arith, inv.2)) inv.1.plain))
+
+pub ready_one-requires-clause-accepted : goal.ready_one-requires-clause-accepted
+unfolding first
+ready_one-requires-clause-accepted g c κs within =
+    let inv = c.loop-message.invariant in
+    next-unready c.args.self.now.plain c.loop-message.self.plain c.args.messages.now inv.0 c.loop-message.message-index first c.requires.spread c.requires.accepted c.loop-message-test.true (omega (arith, inv.2)) inv.1.plain
 
 pub loop-message-preserved : goal.loop-message-preserved
 unfolding first
