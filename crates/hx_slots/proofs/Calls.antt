@@ -26,7 +26,7 @@ use Rattle.hx_slots.specs.Slots.{IsPlaced, IsSlot, IsSlotOf, IsKept, AreSlots, I
 use Rattle.hx_slots.proofs.Keys.{both}
 use Rattle.hx_slots.proofs.Entries.{any-filter, all-insert, all-filter, all-at, all-set, only_at, some_is, value_of, entry_of, find-first, first_of, first_passes, filter-none, none_any}
 use Rattle.hx_slots.proofs.RowsOf.{EachSlot, slots-sent, slots-put, rows-taken, rows-untaken, rows-owned}
-use Rattle.hx_slots.proofs.Mail.{EachKept, kept-sent, sent-here, kept-put, kept-removed, kept-taken, kept-written, messages-sent, messages-marked, messages-removed, mail-owned, message_is, found_at, pending_there, unwritten-append, unwritten-filter, unwritten-taken, unwritten-written}
+use Rattle.hx_slots.proofs.Mail.{EachKept, kept-sent, sent-here, kept-put, kept-removed, kept-taken, kept-written, messages-sent, messages-marked, messages-removed, mail-owned, message_is, found_at, unwritten-append, unwritten-filter, unwritten-taken, unwritten-written}
 
 -- versions have room
 pub slot_room : (slots : List (ℕ × Record Slot)) (mail : List (ℕ × Record Message)) (changes paid k : ℕ) → AreSlots slots mail changes paid → CanChange (record_at slots k)
@@ -112,14 +112,6 @@ only_own : (slots : List (ℕ × Record Slot)) (mail : List (ℕ × Record Messa
 only_own slots mail m ordered all found =
     let r = found_at slots m.session m.id m mail ordered all found in
     only_at (λ (x : Record Message). x.value ≡ m) m.id.0 mail ordered (rw r.1 r.2)
-
--- a pending message may be marked
-pub may_mark : (slots : List (ℕ × Record Slot)) (mail : List (ℕ × Record Message)) (seen : List Message) (m : Message) → EachKept slots mail → messages_of mail ≡ seen → find (has_id m.session m.id) seen ≡ Some m
-    → record { there : IsSome (record_at mail m.id.0); room : CanChange (record_at mail m.id.0) }
-may_mark slots mail seen m all view found = record {
-  there = pending_there slots m.session m.id m mail all (ap (λ (ms : List Message). find (has_id m.session m.id) ms) view ∙ found);
-  room = mail_room slots mail m.id.0 all;
-}
 
 -- a pending message is marked
 pub marked_mail : (slots : List (ℕ × Record Slot)) (mail after : List (ℕ × Record Message)) (seen : List Message) (mark : Message → Message) (m : Message) → IsStrictlySortedBy nat_cmp (keys_of mail) → EachKept slots mail

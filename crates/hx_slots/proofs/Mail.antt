@@ -1,6 +1,6 @@
 -- The messages of records, as the records change, and the slots that name them.
 use Rattle.std.proofs.Common.{◌≡◌, ℕ, ◌≤◌, ◌+◌, Bool, true, false, cond, not, List, [], ◌∷◌, ◌++◌, map, filter, find, Some, None, Option, refl, sym, ap, ◌∙◌, subst, arith}
-use Rattle.std.specs.Prelude.{◌==◌, ◌&&◌, nat_lt, nat_le, if◌then◌else◌, IsSome, option_map}
+use Rattle.std.specs.Prelude.{◌==◌, ◌&&◌, nat_lt, nat_le, if◌then◌else◌, option_map}
 use Rattle.std.specs.List.{list_all, AllByRecursion}
 use Rattle.std.specs.List.Sorted.{IsStrictlySortedBy}
 use Rattle.std.specs.Ordering.{nat_cmp}
@@ -324,13 +324,6 @@ pending_absent slots s id (e ∷ es) all absent = one (id.0 == e.0) refl absent 
         → cond ((e.1.value.session.0 == s.0) && (e.1.value.id.0 == id.0)) (Some e.1.value) (find (has_id s id) (messages_of es)) ≡ None
     one true i h rest = cc
     one false i h rest = rw (number, i, and_false (e.1.value.session.0 == s.0)) (rest h)
-
-pub pending_there : (slots : List (ℕ × Record Slot)) (s : SessionId) (id : MsgId) (m : Message) (mail : List (ℕ × Record Message)) → EachKept slots mail → find (has_id s id) (messages_of mail) ≡ Some m → IsSome (record_at mail id.0)
-pending_there slots s id m mail all found = one (record_at mail id.0) refl
-  where
-    one : (o : Option (Record Message)) → record_at mail id.0 ≡ o → IsSome o
-    one None h = let no : None ≡ Some m = sym (pending_absent slots s id mail all h) ∙ found in cc
-    one (Some r) h = refl
 
 pub pending_own : (slots : List (ℕ × Record Slot)) (s : SessionId) (id : MsgId) (m : Message) (mail : List (ℕ × Record Message)) → IsStrictlySortedBy nat_cmp (keys_of mail) → EachKept slots mail
     → Some m ≡ option_map (λ r. r.value) (record_at mail id.0) → true ≡ (m.session.0 == s.0) → Some m ≡ find (has_id s id) (messages_of mail)

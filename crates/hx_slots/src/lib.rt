@@ -17,8 +17,8 @@ use hx_cluster::{Message, Row};
 use hx_ids::{MsgId, PartId, ResourceId, SessionId, StateId};
 use hx_lists::Seq;
 use hx_store::Store;
-use owned::{pop_owned, push_or_cut, remove};
-use slot::{Slot, add_message, mark, note_sent, put_at, slot_of};
+use owned::{pop_owned, push_or_cut};
+use slot::{Slot, add_message, note_sent, put_at, slot_of};
 use std::alloc::{AllocError, Global};
 use std::marker::Model;
 
@@ -222,7 +222,7 @@ impl Slots {
             taken: true,
             ..*message
         };
-        mark(&mut self.mail, taken);
+        self.mail.replace(taken.id.0, taken);
     }
 
     /// Marks a message as written that wasn't, and puts its replica at a state, or nowhere for
@@ -248,7 +248,7 @@ impl Slots {
             written: true,
             ..*message
         };
-        mark(&mut self.mail, written);
+        self.mail.replace(written.id.0, written);
     }
 
     /// Removes a session's message of a number, if there is one. It takes no memory.
@@ -256,11 +256,11 @@ impl Slots {
         ensures rows { self.new.rows ≡ self.old.rows }
         ensures mail { self.new.mail ≡ filter (λ m. not (has_id session id m)) self.old.mail }
     {
-        let Some((version, message)) = self.mail.get(id.0) else {
+        let Some((_, message)) = self.mail.get(id.0) else {
             return;
         };
         if message.session == session {
-            remove(&mut self.mail, id.0, version);
+            self.mail.remove(id.0);
         }
     }
 

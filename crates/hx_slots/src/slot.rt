@@ -4,14 +4,13 @@ ghost use Rattle.std.specs.Prelude.{OnOk, OnErr};
 ghost use Rattle.std.specs.Map.{keys_of};
 ghost use Rattle.std.specs.List.Sorted.{IsStrictlySortedBy};
 ghost use Rattle.std.specs.Ordering.{nat_cmp};
-ghost use Rattle.hx_store.specs.Records.{record_at, created, set_to};
+ghost use Rattle.hx_store.specs.Records.{record_at, created};
 ghost use Rattle.hx_store.specs.Refusals.{CanChange};
 ghost use Rattle.hx_slots.specs.Slots.{IsPlaced, slot_key, row_of as row_of_slot};
 ghost use Rattle.hx_slots.specs.Slots.{IsSlotOf, sent_at, put_at as put_at_of};
 ghost use Rattle.hx_slots.specs.Mirror.{AreMirrored, AreAllSlots, IsNoted};
 
 use crate::cells::Cells;
-use crate::owned::set;
 use hx_cluster::{Message, Row};
 use hx_ids::{MsgId, PartId, ResourceId, SessionId, StateId};
 use hx_model::DROPPED;
@@ -145,11 +144,11 @@ pub(crate) fn note_sent(
         state: None,
         sent: Some(id),
     };
-    let Some((version, slot)) = slots.get(key) else {
+    let Some((_, slot)) = slots.get(key) else {
         return make(slots, cells, key, noted);
     };
     noted.state = slot.state;
-    set(slots, key, version, noted);
+    slots.replace(key, noted);
     Ok(())
 }
 
@@ -173,7 +172,7 @@ pub(crate) fn put_at(
     let Some(key) = key_of(session, part) else {
         unreachable!()
     };
-    let Some((version, slot)) = slots.get(key) else {
+    let Some((_, slot)) = slots.get(key) else {
         unreachable!()
     };
     let put = Slot {
@@ -183,7 +182,7 @@ pub(crate) fn put_at(
         sent: slot.sent,
     };
     cells.put(session, part, put.state);
-    set(slots, key, version, put);
+    slots.replace(key, put);
 }
 
 /// Adds a message. One whose number is taken is answered as want of memory.
@@ -196,18 +195,4 @@ pub(crate) fn add_message(mail: &mut Store<Message>, message: Message) -> Result
         Ok(()) => Ok(()),
         Err(_) => Err(AllocError),
     }
-}
-
-/// Puts a changed message in place of the one of its number, which is there. It takes no memory.
-#[inline(always)]
-pub(crate) fn mark(mail: &mut Store<Message>, message: Message)
-    requires there { IsSome (record_at mail.old message.id.0) }
-    requires room { CanChange (record_at mail.old message.id.0) }
-    ensures ordered { IsStrictlySortedBy nat_cmp (keys_of mail.old) }
-    ensures mail { mail.new ≡ set_to mail.old message.id.0 message }
-{
-    let Some((version, _)) = mail.get(message.id.0) else {
-        unreachable!()
-    };
-    set(mail, message.id.0, version, message);
 }

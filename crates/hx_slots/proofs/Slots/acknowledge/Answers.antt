@@ -14,15 +14,15 @@ returns-in_default-clause-mail c =
 
 pub invariant_of-self : goal.invariant_of-self
 invariant_of-self c = (
-  removed_kept c.self.inside.slots c.self.inside.mail c.remove.new.store c.self.inside.changes c.self.inside.paid c.args.id.0 (λ m. not (has_id c.args.session c.args.id m)) c.self.invariant.0 c.remove.ensures.rest
-      (removed_mail c.self.inside.slots c.self.inside.mail c.remove.new.store c.args.session c.args.id c.in-Some.message.now c.get.ensures.ordered c.self.invariant.0.each_message c.in-Some.ensures.value (sym c.if-eq.ensures)
+  removed_kept c.self.inside.slots c.self.inside.mail c.remove.new.self c.self.inside.changes c.self.inside.paid c.args.id.0 (λ m. not (has_id c.args.session c.args.id m)) c.self.invariant.0 c.remove.ensures.rest
+      (removed_mail c.self.inside.slots c.self.inside.mail c.remove.new.self c.args.session c.args.id c.in-Some.message.now c.get.ensures.ordered c.self.invariant.0.each_message c.in-Some.ensures.value (sym c.if-eq.ensures)
       c.remove.ensures.rest),
   c.self.invariant.1,
 )
 
 pub returns-then-eq-clause-mail : goal.returns-then-eq-clause-mail
 returns-then-eq-clause-mail c =
-    removed_mail c.self.inside.slots c.self.inside.mail c.remove.new.store c.args.session c.args.id c.in-Some.message.now c.get.ensures.ordered c.self.invariant.0.each_message c.in-Some.ensures.value (sym c.if-eq.ensures)
+    removed_mail c.self.inside.slots c.self.inside.mail c.remove.new.self c.args.session c.args.id c.in-Some.message.now c.get.ensures.ordered c.self.invariant.0.each_message c.in-Some.ensures.value (sym c.if-eq.ensures)
     c.remove.ensures.rest
     ∙ ap (λ (x : Kept). filter (λ m. not (has_id c.args.session c.args.id m)) x.mail) c.self.view_is
 

@@ -2,7 +2,7 @@ use Rattle.std.proofs.Common.{true, find, ap, ◌∙◌}
 use Rattle.hx_slots.specs.Kept.{Kept}
 use Rattle.hx_slots.specs.Slots.{slot_key}
 use Rattle.hx_cluster.specs.Messages.{has_id, row_put}
-use Rattle.hx_slots.proofs.Calls.{slot_room, message_placed, message_slot, may_mark, marked_mail, written_kept, written_rows}
+use Rattle.hx_slots.proofs.Calls.{slot_room, message_placed, message_slot, mail_room, marked_mail, written_kept, written_rows}
 use Rattle.hx_slots.proofs.Slots.write.Goals as goal
 
 pub put_at-requires-clause-slots : goal.put_at-requires-clause-slots
@@ -23,14 +23,14 @@ put_at-requires-clause-room c =
     let m = c.args.message.now in
     slot_room c.self.inside.slots c.self.inside.mail c.self.inside.changes c.self.inside.paid (slot_key m.session m.part) c.self.invariant.0
 
-pub mark-requires : goal.mark-requires
-mark-requires c = may_mark _ _ _ c.args.message.now c.self.invariant.0.each_message (ap (λ (x : Kept). x.mail) c.self.view_is) c.requires.pending
+pub replace-requires : goal.replace-requires
+replace-requires c = mail_room c.self.inside.slots c.self.inside.mail c.args.message.now.id.0 c.self.invariant.0.each_message
 
 pub invariant_of-self : goal.invariant_of-self
 invariant_of-self c =
     let m = c.args.message.now in (
-      written_kept c.self.inside.slots c.put_at.new.slots c.self.inside.mail c.mark.new.mail c.self.inside.changes c.self.inside.paid m c.args.state c.put_at.ensures.ordered c.mark.ensures.ordered c.self.invariant.0
-          (ap (λ (x : Kept). find (has_id m.session m.id) x.mail) c.self.view_is ∙ c.requires.pending) c.requires.free c.put_at.ensures.slots c.mark.ensures.mail,
+      written_kept c.self.inside.slots c.put_at.new.slots c.self.inside.mail c.replace.new.self c.self.inside.changes c.self.inside.paid m c.args.state c.put_at.ensures.ordered c.replace.ensures.ordered c.self.invariant.0
+          (ap (λ (x : Kept). find (has_id m.session m.id) x.mail) c.self.view_is ∙ c.requires.pending) c.requires.free c.put_at.ensures.slots c.replace.ensures.new,
       c.put_at.ensures.mirrored,
     )
 
@@ -42,4 +42,4 @@ returns-clause-rows c =
     ∙ ap (λ (x : Kept). row_put x.rows m.session m.part c.args.state) c.self.view_is
 
 pub returns-clause-mail : goal.returns-clause-mail
-returns-clause-mail c = marked_mail _ _ _ _ (λ m. record m { written = true }) c.args.message.now c.mark.ensures.ordered c.self.invariant.0.each_message (ap (λ (x : Kept). x.mail) c.self.view_is) c.requires.pending c.mark.ensures.mail
+returns-clause-mail c = marked_mail _ _ _ _ (λ m. record m { written = true }) c.args.message.now c.replace.ensures.ordered c.self.invariant.0.each_message (ap (λ (x : Kept). x.mail) c.self.view_is) c.requires.pending c.replace.ensures.new
