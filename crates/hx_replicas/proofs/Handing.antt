@@ -87,8 +87,9 @@ module _ {H : Type 0} {k : handler.Ghosts H} {told : Option (List Failure)} {xs 
   fit-at : {made retired : ℕ} → IsLaidOut k told xs made retired → (i : ℕ) (x : Slot H) → i < length xs → x ≡ get_or xs i x → IsSlot k told x
   fit-at laid i x lt at_i = let f : IsSlot k told (get_or xs i x) = laid.fits i x lt in rw (← at_i) at f
 
-  pub slot-held : {made retired : ℕ} → IsLaidOut k told xs made retired → (m : Message) (i : ℕ) (x : Slot H) → position (has_part m.part) xs ≡ Some i → x ≡ get_or xs i x → (slot_in (map (plain_slot k) xs) m.part).work ≡ Accepted m → IsTaken k told xs m i x
-  slot-held laid m i x e at_i is =
+  pub slot-held : {made retired : ℕ} → IsLaidOut k told xs made retired → (m : Message) (i : ℕ) (x : Slot H) → position (λ s. part_eq s.part m.part) (map (plain_slot k) xs) ≡ Some i → x ≡ get_or xs i x → (slot_in (map (plain_slot k) xs) m.part).work ≡ Accepted m → IsTaken k told xs m i x
+  slot-held laid m i x place at_i is =
+      let e : position (has_part m.part) xs ≡ Some i = place-plain k xs m.part ∙ place in
       let lt : i < length xs = found-in (has_part m.part) xs i x e in
       record {
         distinct = laid.distinct;
@@ -100,10 +101,10 @@ module _ {H : Type 0} {k : handler.Ghosts H} {told : Option (List Failure)} {xs 
       }
 
   -- the slot in the place that was found
-  pub slot-stands : {made retired : ℕ} → IsLaidOut k told xs made retired → (m : Message) (i : ℕ) → position (has_part m.part) xs ≡ Some i → (slot_in (map (plain_slot k) xs) m.part).work ≡ Accepted m → (x : Slot H) × (slice_get xs i ≡ Some x) × IsTaken k told xs m i x
-  slot-stands laid m i e is =
-      let stands = stands-some xs i (place-in (has_part m.part) xs i e) in
-      (stands.0, stands.1, slot-held laid m i stands.0 e (stands-get xs i stands.0 stands.1) is)
+  pub slot-stands : {made retired : ℕ} → IsLaidOut k told xs made retired → (m : Message) (i : ℕ) → position (λ s. part_eq s.part m.part) (map (plain_slot k) xs) ≡ Some i → (slot_in (map (plain_slot k) xs) m.part).work ≡ Accepted m → (x : Slot H) × (slice_get xs i ≡ Some x) × IsTaken k told xs m i x
+  slot-stands laid m i place is =
+      let stands = stands-some xs i (place-in (has_part m.part) xs i (place-plain k xs m.part ∙ place)) in
+      (stands.0, stands.1, slot-held laid m i stands.0 place (stands-get xs i stands.0 stands.1) is)
 
   -- the slot that was found by a message's number is that of its part
   pub stands-accepted : {made retired : ℕ} → IsLaidOut k told xs made retired → (id : MsgId) (m : Message) (i : ℕ) (x : Slot H) → position (has_number id) xs ≡ Some i → x ≡ get_or xs i x → x.work ≡ Accepted m → (slot_in (map (plain_slot k) xs) m.part).work ≡ Accepted m
@@ -144,13 +145,13 @@ module _ {H : Type 0} {k : handler.Ghosts H} {told : Option (List Failure)} {xs 
       ap (λ ss. slot_in ss m.part) (sym (put-at k xs i x y t.distinct t.lt t.at_i same)) ∙ slot_in-put (map (plain_slot k) xs) (plain_slot k y) m.part (same ∙ sym t.part)
 
   -- and keeps its place
-  pub place-ready : position (has_part m.part) xs ≡ Some i → IsTaken k told xs m i x → (y : Slot H) → y ≡ filled x y.handler → position (λ s. part_eq s.part m.part) (map (plain_slot k) (set xs i y)) ≡ Some i
-  place-ready e t y is =
+  pub place-ready : position (λ s. part_eq s.part m.part) (map (plain_slot k) xs) ≡ Some i → IsTaken k told xs m i x → (y : Slot H) → y ≡ filled x y.handler → position (λ s. part_eq s.part m.part) (map (plain_slot k) (set xs i y)) ≡ Some i
+  place-ready place t y is =
       let same : y.part ≡ x.part = ap (λ s. s.part) is in
       let kept : (z : Slot H) → slice_get xs i ≡ Some z → part_eq y.part m.part ≡ part_eq z.part m.part =
       λ z stands. rw (only-one (slice_get xs i) x z (stands-in xs i x t.lt t.at_i) stands, same) refl in
       sym (place-plain k (set xs i y) m.part) ∙ ap (position (has_part m.part)) (set-alter xs i y x t.lt t.at_i)
-      ∙ position-alter (has_part m.part) (λ z. y) xs i kept ∙ e
+      ∙ position-alter (has_part m.part) (λ z. y) xs i kept ∙ place-plain k xs m.part ∙ place
 
   pub IsLaidOut-given : {made retired : ℕ} → IsTaken k told xs m i x → IsLaidOut k told xs made retired → IsLaidOut k told (alter (λ y. sent_out y m) i xs) made retired
   IsLaidOut-given t was = rw (alter-set (λ y. sent_out y m) xs i x t.lt t.at_i) (IsLaidOut-sent t was)

@@ -1,16 +1,13 @@
-use Rattle.std.proofs.Common.{◌≡◌, set, arith, rules, refl, ap, ◌∙◌, is_none, Some}
-use Rattle.std.specs.List.{position}
+use Rattle.std.proofs.Common.{◌≡◌, set, arith, rules, refl, ap, is_none}
 use Rattle.std.proofs.lemmas.Grind.{common_steps}
 use Rattle.std.proofs.lemmas.Result.{err_from_is_err_and}
 use Rattle.hx_replicas.specs.Participants.{made_ready}
 use Rattle.std.specs.Vec.{with_item}
-use Rattle.hx_replicas.specs.Layout.{IsLaidOut, plain_slot, has_part}
+use Rattle.hx_replicas.specs.Layout.{IsLaidOut, plain_slot}
 use Rattle.hx_replicas.specs.Indexes.{IsIndexed, HasRoom}
 use Rattle.hx_replicas.specs.declared.indexed.Indexed.{Indexed}
 use Rattle.hx_replicas.proofs.Ledgers.{ledger}
-use Rattle.hx_replicas.proofs.Searching.{place-in}
-use Rattle.hx_replicas.proofs.Placing.{place-plain}
-use Rattle.hx_replicas.proofs.Handing.{place-ready, slot-held, slot-taken, is_none-map, IsLaidOut-ready, slot-set, readied-plain}
+use Rattle.hx_replicas.proofs.Handing.{place-ready, slot-held, slot-stands, slot-taken, is_none-map, IsLaidOut-ready, slot-set, readied-plain}
 use Rattle.hx_replicas.specs.declared.slots.Slot.{Slot}
 use Rattle.hx_replicas.specs.Participants.{accepted_of}
 use Rattle.hx_replicas.proofs.Altering.{stands-in, set-alter}
@@ -21,18 +18,16 @@ use Rattle.hx_replicas.proofs.participants.Participant.ready_one.Goals.{After-re
 
 pub index_mut-requires : goal.index_mut-requires
 index_mut-requires g c =
-    let xs = c.self.inside.slots.items.items in
-    let m = c.args.message.now in
-    let lt = place-in (has_part m.part) xs c.args.place (place-plain g.F.H.Handler xs m.part ∙ (rw (← c.self.view_is) at c.requires.place)) in
-    omega (arith, lt, c.self.inside.slots.items.ok.0)
+    let stands = slot-stands c.self.invariant.0 c.args.message.now c.args.place (rw (← c.self.view_is) at c.requires.place) (rw (← c.self.view_is) at c.requires.accepted) in
+    omega (arith, stands.2.lt, c.self.inside.slots.items.ok.0)
 
 pub ready-requires-clause-fits : goal.ready-requires-clause-fits
 ready-requires-clause-fits g c κs within =
-    (slot-held c.self.invariant.0 c.args.message.now c.args.place c.index_mut.result.now (place-plain g.F.H.Handler c.self.inside.slots.items.items c.args.message.now.part ∙ (rw (← c.self.view_is) at c.requires.place)) c.index_mut.ensures.value (rw (← c.self.view_is) at c.requires.accepted)).fit
+    (slot-held c.self.invariant.0 c.args.message.now c.args.place c.index_mut.result.now (rw (← c.self.view_is) at c.requires.place) c.index_mut.ensures.value (rw (← c.self.view_is) at c.requires.accepted)).fit
 
 pub ready-requires-clause-accepted : goal.ready-requires-clause-accepted
 ready-requires-clause-accepted g c κs within =
-    (slot-held c.self.invariant.0 c.args.message.now c.args.place c.index_mut.result.now (place-plain g.F.H.Handler c.self.inside.slots.items.items c.args.message.now.part ∙ (rw (← c.self.view_is) at c.requires.place)) c.index_mut.ensures.value (rw (← c.self.view_is) at c.requires.accepted)).work
+    (slot-held c.self.invariant.0 c.args.message.now c.args.place c.index_mut.result.now (rw (← c.self.view_is) at c.requires.place) c.index_mut.ensures.value (rw (← c.self.view_is) at c.requires.accepted)).work
 
 -- the slots are laid out and indexed with the readied one among them, whether or not its handler could be made
 kept : (g : Over) (c : After-ready g)
@@ -46,7 +41,7 @@ kept g c =
     let y = c.ready.new.slot in
     let xs = c.self.inside.slots.items.items in
     let i = c.args.place in
-    let t = slot-held c.self.invariant.0 c.args.message.now i x (place-plain g.F.H.Handler xs c.args.message.now.part ∙ (rw (← c.self.view_is) at c.requires.place)) c.index_mut.ensures.value (rw (← c.self.view_is) at c.requires.accepted) in (
+    let t = slot-held c.self.invariant.0 c.args.message.now i x (rw (← c.self.view_is) at c.requires.place) c.index_mut.ensures.value (rw (← c.self.view_is) at c.requires.accepted) in (
       rw (now.listed, now.retired) (IsLaidOut-ready t y now.slot now.fits now.made c.self.invariant.0),
       indexed-same c.self.inside.slots _ c.self.invariant.1 i x y (stands-in xs i x t.lt t.at_i) (ap (λ (s : Slot g.row.F-H.Denot). s.part) now.slot) (ap (λ (s : Slot g.row.F-H.Denot). s.node) now.slot) (ap (λ (s : Slot g.row.F-H.Denot). accepted_of s.work) now.slot) (set-alter xs i y x t.lt t.at_i) refl (λ p. refl) (λ q. refl),
       record { items = c.self.invariant.2.items; queue = c.self.invariant.2.queue; places = c.self.invariant.2.places; numbers = c.self.invariant.2.numbers },
@@ -63,7 +58,7 @@ returns-in_err-ready g c =
     let k = g.F.H.Handler in
     let xs = c.self.inside.slots.items.items in
     let y = c.ready.new.slot in
-    let t = slot-held c.self.invariant.0 c.args.message.now c.args.place c.index_mut.result.now (place-plain k xs c.args.message.now.part ∙ (rw (← c.self.view_is) at c.requires.place)) c.index_mut.ensures.value (rw (← c.self.view_is) at c.requires.accepted) in
+    let t = slot-held c.self.invariant.0 c.args.message.now c.args.place c.index_mut.result.now (rw (← c.self.view_is) at c.requires.place) c.index_mut.ensures.value (rw (← c.self.view_is) at c.requires.accepted) in
     let p = err_from_is_err_and c.from_residual.result c.from_residual.ensures.1 in
     let kept : set xs c.args.place y ≡ xs = rw c.in_err-ready.ensures.err (let at_i = t.at_i in let lt = t.lt in grind (arith, common_steps)) in
     let laid = IsLaidOut-ready t y c.ready.ensures.slot c.ready.ensures.fits c.ready.ensures.made c.self.invariant.0 in
@@ -83,8 +78,7 @@ returns g c =
     let m = c.args.message.now in
     let x = c.index_mut.result.now in
     let y = c.ready.new.slot in
-    let e : position (has_part m.part) c.self.inside.slots.items.items ≡ Some c.args.place = place-plain k c.self.inside.slots.items.items m.part ∙ (rw (← c.self.view_is) at c.requires.place) in
-    let t = slot-held c.self.invariant.0 m c.args.place x e c.index_mut.ensures.value (rw (← c.self.view_is) at c.requires.accepted) in
+    let t = slot-held c.self.invariant.0 m c.args.place x (rw (← c.self.view_is) at c.requires.place) c.index_mut.ensures.value (rw (← c.self.view_is) at c.requires.accepted) in
     let none : is_none (plain_slot k y).handler ≡ is_none y.handler = is_none-map _ y.handler in
     let plain : plain_slot k y ≡ made_ready (plain_slot k x) m (is_none (plain_slot k y).handler) = rw none c.in_ok-ready.ensures.plain in
     let shown = slot-set t y c.ready.ensures.slot in
@@ -94,7 +88,7 @@ returns g c =
       answer = rw (← c.self.view_is, shown, none, slot-taken t) c.in_ok-ready.ensures.answer;
       err = search rules;
       made = search rules;
-      place = place-ready e t y c.ready.ensures.slot;
+      place = place-ready (rw (← c.self.view_is) at c.requires.place) t y c.ready.ensures.slot;
       rest = search rules;
       ledger = rw c.ready.ensures.retired (ledger k _ _ _ _ laid);
     }
