@@ -12,6 +12,7 @@ ghost use Rattle.hx_local.specs.Local.{IsAlike, ShowSame, DifferWithin, accepted
 ghost use Rattle.hx_planner.specs.Known.{IsKnownOf, IsKnownAs};
 
 use crate::narrow::{accepted_among, narrowed, widened};
+use hx_calls::{ideals_over, no_ideals};
 use hx_cluster::{Candidate, Ideals, Seen, Spec, View};
 use hx_formed::{is_well_formed, is_well_formed_beside};
 use hx_hops::Hops;
@@ -21,7 +22,7 @@ use hx_model::Model;
 use hx_pass::{accepted, posted as posted_rows};
 use hx_same::Same;
 use std::alloc::{AllocError, Global};
-use std::marker;
+use std::{marker, mem};
 
 /// A description, with the hops of its models.
 #[derive(Drop)]
@@ -65,26 +66,15 @@ impl marker::Model for Known {
     ghost invariant = { λ a. IsKnown a.models a.instances a.view a.accepted a.posted.items };
 }
 
-/// A copy of what is wanted.
-fn copy_of(ideals: &Ideals) -> Result<Ideals, AllocError>
-    ensures { IfOk result (λ copy. copy ≡ ideals.now) }
-{
-    Ok(Ideals {
-        resources: ideals.resources.clone()?,
-        drained: ideals.drained.clone()?,
-        resets: ideals.resets.clone()?,
-    })
-}
-
-/// A copy of a view.
-fn copied(view: &View) -> Result<View, AllocError>
+/// A copy of a view. What the kept ideals have in the same place is kept, and takes no memory.
+fn copied(view: &View, kept: Ideals) -> Result<View, AllocError>
     ensures { IfOk result (λ copy. copy ≡ view.now) }
 {
     Ok(View {
         live: view.live.clone()?,
         mail: view.mail.clone()?,
         rows: view.rows.clone()?,
-        ideals: copy_of(&view.ideals)?,
+        ideals: ideals_over(&view.ideals, kept)?,
     })
 }
 
@@ -112,11 +102,13 @@ impl Known {
         self.posted.as_slice()
     }
 
-    /// What there is to know of a view, if it is well formed with a description.
+    /// What there is to know of a view, if it is well formed with a description. The kept ideals may
+    /// be any: what they have in the same place as the view is kept, and takes no memory.
     pub fn of(
         alloc: Global,
         described: &Described,
         view: &View,
+        kept: Ideals,
     ) -> Result<Option<Known>, AllocError>
         ensures { IfOk result (λ known. IsKnownOf described.now.spec.now view.now known) }
     {
@@ -131,8 +123,23 @@ impl Known {
             posted: posted_rows(alloc, view)?,
             models: spec.models.clone()?,
             instances,
-            view: copied(view)?,
+            view: copied(view, kept)?,
         }))
+    }
+
+    /// The ideals of the view, where the rest is given up.
+    pub fn into_ideals(self) -> Ideals
+        ensures { result ≡ self.view.ideals }
+    {
+        let Known {
+            models: _,
+            instances: _,
+            mut view,
+            accepted: _,
+            posted: _,
+        } = self;
+        let none = no_ideals(view.live.allocator());
+        mem::replace(&mut view.ideals, none)
     }
 
     /// Whether a description has the same models and as many instances, and a view shows the same

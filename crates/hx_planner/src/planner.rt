@@ -6,6 +6,7 @@ ghost use Rattle.hx_pass.specs.Turns.{posted_of};
 ghost use Rattle.hx_planner.specs.Known.{IsKnownOf};
 
 use crate::known::{Described, Known};
+use hx_calls::no_ideals;
 use hx_cluster::{Seen, Spec, View};
 use hx_hops::Hops;
 use hx_marks::Marks;
@@ -49,14 +50,14 @@ impl Planner {
         ensures forgotten { self.new ≡ None }
     {
         let Some(known) = self.known.take() else {
-            return Known::of(alloc, described, view);
+            return Known::of(alloc, described, view, no_ideals(alloc));
         };
         if !known.is_for(described.spec, view) {
-            return Known::of(alloc, described, view);
+            return Known::of(alloc, described, view, known.into_ideals());
         }
         let mut marks = Marks::none(alloc, view.ideals.resources.as_slice())?;
         if !known.mark_changes(view, &mut marks) {
-            return Known::of(alloc, described, view);
+            return Known::of(alloc, described, view, known.into_ideals());
         }
         known.again(alloc, described.hops, view, &marks)
     }
