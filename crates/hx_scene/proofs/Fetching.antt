@@ -1,6 +1,6 @@
 -- Messages are fetched: an event happens, its session is adopted, and the messages go into the bag.
 use Rattle.std.proofs.Common.{◌≡◌, ℕ, ◌+◌, ◌⊎◌, ◌==◌, Bool, true, false, List, [], ◌∷◌, find, length, None, Some, refl, sym, ap, subst, ◌∙◌, arith}
-use Rattle.std.specs.Prelude.{nat_lt, Result, Ok, Err, IsErrAnd}
+use Rattle.std.specs.Prelude.{nat_lt, Result, Ok, Err, IsErrAnd, IfErr}
 use Rattle.std.specs.List.{All}
 use Rattle.std.proofs.lemmas.Bool.Decides.{nat_tests}
 use Rattle.hx_ids.specs.declared.InstanceId.{InstanceId}
@@ -37,19 +37,22 @@ use Rattle.hx_scene.specs.Scenes.{SceneState, OpenState, IsBagged, at, lists_of}
 use Rattle.hx_scene.specs.Doing.{Keeps, Fails, DoesDeed}
 use Rattle.hx_scene.specs.Kept.{IsScene, IsListed}
 use Rattle.hx_scene.specs.Ending.{KeepsParts, Follows}
-use Rattle.hx_scene.proofs.Reaching.{reaches_as, cut_as, at_happened, happens_and, happens_and_cut, room_of}
+use Rattle.hx_scene.proofs.Reaching.{reaches_as, cut_as, does_err, at_happened, happens_and, happens_and_cut, room_of}
 use Rattle.hx_scene.proofs.Standing.{valid_in, stands_in}
-use Rattle.hx_scene.proofs.Making.{Makes, IsCutHere}
+use Rattle.hx_scene.specs.Made.{IsMadeBy}
+use Rattle.hx_scene.proofs.Making.{Makes, IsCutHere, made_by}
 use Rattle.hx_scene.proofs.Happening.{refused_as, stopped_here, made_here, room_is, scene_happened}
 
 -- the event
 abbrev pub fetch_event : SceneState → InstanceId → Event
 fetch_event s i = events.Fetch i (fetched s.board.cluster i).session (length (fetched s.board.cluster i).messages)
 
-pub fetch_refused : {R : Type 0} (i : InstanceId) (s : SceneState) (b : Held) (p : List ℕ) (fault : RoomFault) (result : Result R RoomFault) → b ≡ s.board
-    → (fault ≡ rooms.OutOfMemory) ⊎ (fetch_refusal s.board ≡ Some fault) → IsErrAnd result (λ x. x ≡ fault) → DoesDeed (λ x. do_fetch i x) s p (record s { board = b }) p result
-fetch_refused i s b p fault (Ok x) same refused failed = absurd failed
-fetch_refused i s b p fault (Err x) same refused failed =
+pub fetch_refused : {R : Type 0} (i : InstanceId) (s : SceneState) (b : Held) (fault : RoomFault) (result : Result R RoomFault) → b ≡ s.board
+    → (fault ≡ rooms.OutOfMemory) ⊎ (fetch_refusal s.board ≡ Some fault) → IsErrAnd result (λ x. x ≡ fault)
+    → IfErr result (λ x. (p : List ℕ) → Fails (λ z. do_fetch i z) s p x (record s { board = b }) p)
+fetch_refused i s b fault (Ok x) same refused failed = tt
+fetch_refused i s b fault (Err x) same refused failed =
+    λ p.
     subst (λ y. Fails (λ z. do_fetch i z) s p y (record s { board = b }) p) (sym failed)
     (refused_as (λ z. do_fetch i z) s b p fault 1 (λ full a. ap (λ r. and_then r (λ y. done (fetched_as i (fetched s.board.cluster i) y))) (stopped_here (fetch_event s i) (at s a) full)) same refused)
 
@@ -141,6 +144,22 @@ pub fetch_makes : {s : SceneState} {i : InstanceId} {b : Held} {mail : Mail} {la
     → Makes (λ x. do_fetch i x) (fetch_event s i) s b (record s { board = b; staff = after; jobs = later; bag = bag })
 fetch_makes {s} {i} {b} {mail} {later} {after} {bag} {room} {ms} is there all made free follows kept put same put_them =
     fetch_makes_it s i b (event_made s i b mail all made) free later after bag (follows_mail s i mail later after all follows) kept (puts_mail s i mail bag room ms all put same put_them) is there
+
+pub fetch_made : {s u : SceneState} {b : Held} (i : InstanceId) (mail : Mail) → u.spec ≡ s.spec → mail ≡ fetched s.board.cluster i → Makes (λ x. do_fetch i x) (fetch_event s i) s b u
+    → IsMadeBy (λ x. do_fetch i x) (events.Fetch i mail.session (length mail.messages)) s u
+fetch_made {s} {u} {b} i mail same is made =
+    subst (λ (m : Mail). IsMadeBy (λ x. do_fetch i x) (events.Fetch i m.session (length m.messages)) s u) (sym is) (made_by same made)
+
+-- its messages are handed out
+pub fetch_gives : {R : Type 0} (i : InstanceId) (s u : SceneState) (result : Result R RoomFault) (fault : RoomFault) (p : List ℕ) → ((q : List ℕ) → Fails (λ x. do_fetch i x) s q fault u q)
+    → IsErrAnd result (λ x. x ≡ fault) → DoesDeed (λ x. do_fetch i x) s p u p result
+fetch_gives i s u result fault p fails failed = does_err (λ x. do_fetch i x) (λ _. tt) s p u p result fault failed (fails p)
+
+pub mail_gives : (s : SceneState) (i : InstanceId) (mail : Mail) {ms : List Message} → ms ≡ mail.messages → mail ≡ fetched s.board.cluster i → ms ≡ (fetched s.board.cluster i).messages
+mail_gives s i mail same is = same ∙ ap (λ (m : Mail). m.messages) is
+
+pub bag_gives : (bag : List Message) (mail : Mail) {ms : List Message} → ms ≡ mail.messages → All (IsBagged bag) mail.messages → All (IsBagged bag) ms
+bag_gives bag mail same all = subst (λ (xs : List Message). All (IsBagged bag) xs) (sym same) all
 
 -- each message that was put is found by its number
 abbrev IsOne : List Message → Message → Type 0

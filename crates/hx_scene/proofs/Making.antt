@@ -1,6 +1,6 @@
 -- An operation makes one event, which is printed, and with it is done; or it comes to a note of why not.
 use Rattle.std.proofs.Common.{◌≡◌, ℕ, List, [], ◌∷◌, ◌++◌, sym, ap, subst, ◌∙◌}
-use Rattle.std.specs.Prelude.{Result, Ok, Err, IsErrAnd, IfErr}
+use Rattle.std.specs.Prelude.{Result, Ok, Err, IsErrAnd, IfErr, OnErr}
 use Rattle.hx_cluster.specs.declared.happenings.Event.{Event}
 use Rattle.hx_text.specs.Texts.{Prints, PutsFront}
 use Rattle.hx_print.specs.Texts.{event_text, entry_text}
@@ -13,6 +13,7 @@ use Rattle.hx_scene.specs.Scenes.{SceneState}
 use Rattle.hx_scene.specs.Advances.{no_roll}
 use Rattle.hx_scene.specs.Doing.{Reaches, Ends, IsCut, Fails, Does, DoesDeed}
 use Rattle.hx_scene.specs.Kept.{IsScene}
+use Rattle.hx_scene.specs.Made.{IsMadeBy}
 use Rattle.hx_scene.proofs.Reaching.{does_after}
 
 -- with the event made, an operation is done at a scene
@@ -43,10 +44,15 @@ makes_given m p q (Ok x) printed memory = m.ends p q (printed.ok ∙ ap (λ t. p
 makes_given {R} {f} {e} {s} {u} {board} m p q (Err x) printed memory =
     subst (λ y. Fails f s p y u q) (sym memory) (m.cut p q (subst (λ t. PutsFront t p q) m.line printed.err))
 
--- so too where the last event is printed
-pub makes_printed : {R : Type 0} {f : State → Deed} {e : Event} {s u : SceneState} {board : Held} → Makes f e s board u → (p q : List ℕ) (result : Result R RoomFault)
-    → ((h : List Event) (d : Event) → board.history ≡ h ++ d ∷ [] → Prints (event_text s.spec no_roll d) p result q) → IfErr result (λ x. x ≡ rooms.OutOfMemory) → DoesDeed f s p u q result
-makes_printed {R} {f} {e} {s} {u} {board} m p q result printed memory = makes_given m p q result (printed s.board.history e (ap (λ (b : Held). b.history) m.made)) memory
+-- so too where the scene with the event made comes first, and the printing after it
+pub made_by : {f : State → Deed} {e : Event} {s u : SceneState} {board : Held} → u.spec ≡ s.spec → Makes f e s board u → IsMadeBy f e s u
+made_by {f} {e} {s} {u} {board} same m = record { line = ap (λ spec. event_text spec no_roll e) same ∙ m.line; ends = m.ends; cut = m.cut }
+
+pub made_given : {R : Type 0} {f : State → Deed} {e : Event} {s u : SceneState} → IsMadeBy f e s u → (p q : List ℕ) (result : Result R RoomFault) → Prints (event_text u.spec no_roll e) p result q
+    → IfErr result (λ x. x ≡ rooms.OutOfMemory) → DoesDeed f s p u q result
+made_given m p q (Ok x) printed memory = m.ends p q (printed.ok ∙ ap (λ t. p ++ t) m.line)
+made_given {R} {f} {e} {s} {u} m p q (Err x) printed memory =
+    subst (λ y. Fails f s p y u q) (sym memory) (m.cut p q (subst (λ t. PutsFront t p q) m.line printed.err))
 
 -- an operation comes to another one at a scene, without an item
 pub record ComesTo (f g : State → Deed) (s u : SceneState) : Type 0 where
@@ -62,6 +68,15 @@ comes_to {R} {f} {g} {s} {u} is reaches p v q result does = does_after (subst (�
 pub record IsCutHere (f : State → Deed) (s u : SceneState) : Type 0 where
   pub cut : (p : List ℕ) → IsCut f s p u p
   pub scene : IsScene u
+
+pub cut_for : {T E : Type 0} {X : Type 0} (result : Result T E) → X → OnErr result X
+cut_for (Ok x) cut = tt
+cut_for (Err x) cut = cut
+
+pub fails_for : {A R : Type 0} (f : State → Run A) {s u : SceneState} (result : Result R RoomFault) → IsErrAnd result (λ e. e ≡ rooms.OutOfMemory) → ((p : List ℕ) → IsCut f s p u p)
+    → IfErr result (λ e. (p : List ℕ) → Fails f s p e u p)
+fails_for f (Ok x) e cut = tt
+fails_for {A} {R} f {s} {u} (Err x) e cut = λ p. subst (λ y. Fails f s p y u p) (sym e) (cut p)
 
 pub wants_memory : {A R : Type 0} (f : State → Run A) (answer : R → A) (s : SceneState) (p : List ℕ) (u : SceneState) (q : List ℕ) (result : Result R RoomFault)
     → IsErrAnd result (λ e. e ≡ rooms.OutOfMemory) → IsCut f s p u q → Does f answer s p u q result

@@ -1,18 +1,18 @@
 -- What a taking of a message comes to in a scene, and that it keeps it.
 use Rattle.std.proofs.Common.{◌≡◌, ℕ, ◌+◌, ◌≤◌, ◌<◌, ◌^◌, not, Bool, true, false, List, [], ◌∷◌, ◌++◌, map, length, Option, None, Some, refl, sym, ap, subst, ◌∙◌, arith}
 use Rattle.std.proofs.lemmas.List.{length-map}
-use Rattle.std.specs.Prelude.{if◌then◌else◌, ◌==◌, is_none, is_some, slice_set, slice_index_or, IfSome}
+use Rattle.std.specs.Prelude.{if◌then◌else◌, ◌==◌, is_none, is_some, slice_set, slice_index_or, IfSome, Result, Ok, Err}
 use Rattle.std.specs.List.{All}
 use Rattle.std.specs.Option.{option_map, ForSome}
-use Rattle.std.proofs.lemmas.List.{get_or_read, length-set, get_or-set_same}
+use Rattle.std.proofs.lemmas.List.{get_or_read, length-set, get_or-set_same, set-set}
 use Rattle.std.proofs.lemmas.List.Elements.{All-set, All-push, All-weaker, All-get_or}
 use Rattle.std.proofs.Math.Seq.{map-set_same}
 use Rattle.hx_ids.specs.declared.InstanceId.{InstanceId}
 use Rattle.hx_ids.specs.declared.MsgId.{MsgId}
+use Rattle.hx_ids.specs.declared.SessionId.{SessionId}
 use Rattle.hx_model.specs.Model.{dropped}
 use Rattle.hx_cluster.specs.declared.description.Failure.{Failure}
 use Rattle.hx_cluster.specs.declared.state.Message.{Message}
-use Rattle.hx_cluster.specs.declared.state.Cluster.{Cluster}
 use Rattle.hx_cluster.specs.declared.happenings.Outcome.{Outcome}
 use Rattle.hx_cluster.specs.declared.happenings.Outcome.TheVariants as outcomes
 use Rattle.hx_cluster.specs.declared.happenings.Event.{Event}
@@ -24,6 +24,7 @@ use Rattle.hx_lists.specs.Counts.{count_up, CountsOn}
 use Rattle.hx_handler.specs.Makings.{tried_of}
 use Rattle.hx_handler.specs.Told.{IsTold}
 use Rattle.hx_print.specs.Texts.{entry_text}
+use Rattle.hx_print.specs.declared.Note.{Note}
 use Rattle.hx_print.specs.declared.Note.TheVariants as notes
 use Rattle.hx_text.specs.Texts.{PutsFront}
 use Rattle.hx_board.specs.Board.{Held as Board, HasHistory, happened as on_board}
@@ -44,12 +45,13 @@ use Rattle.hx_worlds.specs.Jobs.{do_take, take_accepted, put_back, ran}
 use Rattle.hx_scene.specs.Scenes.{SceneState, OpenState, plain_job, world_of, at, staff_of, new_staff, lists_of}
 use Rattle.hx_scene.specs.Doing.{Asked, Gives, left, IsToldBy, AreTold, IsRunsBelow, IsBelow, IsCounted, Keeps, Reaches, Ends, IsCut}
 use Rattle.hx_scene.specs.Kept.{IsScene, IsListed}
-use Rattle.hx_scene.specs.Taking.{HandsOut, IsStill}
+use Rattle.hx_scene.specs.Taking.{HandsOut, IsStill, IsRunBy, IsPutBack, IsTaken, IsRefused, TakesJob, TakesTo, opened}
+use Rattle.hx_scene.specs.Made.{IsMadeBy}
 use Rattle.hx_scene.proofs.Reaching.{listed_there, told_both, gives_first, gives_rest, left_both, at_happened, event_cut, event_ends, nothing_yet, one_step, kept_going, keeps_unasked}
 use Rattle.hx_scene.proofs.Standing.{valid_in}
-use Rattle.hx_scene.proofs.Making.{Makes, ComesTo, IsCutHere, makes_as}
+use Rattle.hx_scene.proofs.Making.{Makes, ComesTo, IsCutHere, makes_as, made_by}
 use Rattle.hx_scene.proofs.Handing.{runs_more, below_more, below_handed, below_still, runs_ready, all_put}
-use Rattle.hx_scene.proofs.Taking.{participant_at, list_at, asked_if, making, running, making_for, running_for, with_staff, with_open, opened, world_with, take_at, ran_at}
+use Rattle.hx_scene.proofs.Taking.{participant_at, list_at, asked_if, making, running, making_for, running_for, with_staff, with_open, world_with, take_at, ran_at}
 
 -- a message is handed out in a scene
 pub record IsHandedOut (s : SceneState) (i : InstanceId) (id : MsgId) (b : ParticipantState) (job : Job) : Type 0 where
@@ -58,17 +60,6 @@ pub record IsHandedOut (s : SceneState) (i : InstanceId) (id : MsgId) (b : Parti
   pub accepted : accepted_by (staff_of s i).plain id ≡ Some job.message
   pub hands : HandsOut (staff_of s i) b job
   pub few : s.handed < 2 ^ 62
-
--- and is run
-pub record IsRunBy (job : Job) (r : Ran) : Type 0 where
-  pub message : r.message ≡ job.message
-  pub runs : RunsWith job.message job.handler r.handler (is_failed r.outcome)
-
--- or put back
-pub record IsPutBack (b c : ParticipantState) (job : Job) : Type 0 where
-  pub plain : c.plain ≡ finish b.plain job.message None (runs_of job.handler)
-  pub made : c.made ≡ b.made
-  pub listed : c.listed ≡ b.listed
 
 -- the scene then
 abbrev pub taken_scene : SceneState → InstanceId → ParticipantState → Event → Ran → SceneState
@@ -366,12 +357,6 @@ none_of : (s : SceneState) (i : InstanceId) (id : MsgId) (a : ParticipantState) 
 none_of s i id a found lt at_i asked is =
     ap (λ (p : ParticipantState). accepted_by p.plain id) (sym (get_or_read s.staff i.0 a lt at_i new_staff)) ∙ sym asked ∙ ap (λ o. option_map (λ j. j.message) o) is
 
-refused_as : (c : Cluster) (m k : Message) (o : Option TakeFault) → m ≡ k → take_refusal c m.session m.id ≡ o → take_refusal c k.session k.id ≡ o
-refused_as c m k o same is = subst (λ (z : Message). take_refusal c z.session z.id ≡ o) same is
-
-board_is : (b board : Board) (m k : Message) → m ≡ k → board ≡ on_board b (events.Take m.session m.id) → board ≡ on_board b (events.Take k.session k.id)
-board_is b board m k same is = is ∙ ap (λ (z : Message). on_board b (events.Take z.session z.id)) same
-
 scene_is : (s : SceneState) (i : InstanceId) (b : ParticipantState) (board : Board) (jobs reserved : List OpenState) (e : Event) (r : Ran) → board ≡ on_board s.board e → jobs ≡ reserved ++ opened i r ∷ []
     → reserved ≡ s.jobs → record s { board = board; staff = slice_set s.staff i.0 b; jobs = jobs; handed = s.handed + 1 } ≡ taken_scene s i b e r
 scene_is s i b board jobs reserved e r is pushed same =
@@ -379,57 +364,92 @@ scene_is s i b board jobs reserved e r is pushed same =
     ap (λ (z : Board). record s { board = z; staff = slice_set s.staff i.0 b; jobs = jobs; handed = s.handed + 1 }) is
     ∙ ap (λ js. record s { board = on_board s.board e; staff = slice_set s.staff i.0 b; jobs = js; handed = s.handed + 1 }) are
 
--- a job that was handed out goes back
-was_put : (staff : List ParticipantState) (i : InstanceId) (b x : ParticipantState) → i.0 < length staff → x ≡ slice_index_or (slice_set staff i.0 b) i.0 x → x ≡ b
-was_put staff i b x lt at_i = at_i ∙ get_or-set_same staff i.0 b x lt
+-- what runs it asks for
+pub handed_out : {s : SceneState} {i : InstanceId} {id : MsgId} {b : ParticipantState} {job : Job} → IsHandedOut s i id b job → (slot_of b.plain job.message.part).work ≡ Out job.message (is_some job.handler)
+handed_out {s} {i} {id} {b} {job} h = out-job (staff_of s i) b job h.hands.plain h.hands.handed
 
+pub handed_listed : {s : SceneState} {i : InstanceId} {id : MsgId} {b : ParticipantState} {job : Job} → IsHandedOut s i id b job → ForSome job.handler (λ y. y.listed ≡ b.listed)
+handed_listed h y e = h.hands.handed.listed y e ∙ sym h.hands.listed
+
+-- a job that was handed out goes back
 abbrev put_of : Job → Done
 put_of job = record { message = job.message; handler = job.handler; outcome = None }
 
-pub back_of : (staff : List ParticipantState) (i : InstanceId) (b x c : ParticipantState) (job : Job) (d : Done) → i.0 < length staff → x ≡ slice_index_or (slice_set staff i.0 b) i.0 x
-    → d ≡ put_of job → c.plain ≡ finish x.plain d.message d.outcome (runs_of d.handler) → c.made ≡ x.made → c.listed ≡ x.listed → IsPutBack b c job
-back_of staff i b x c job d lt at_i is plain made listed =
-    let same = was_put staff i b x lt at_i in
-    record {
-      plain = plain ∙ ap (λ (z : ParticipantState). finish z.plain d.message d.outcome (runs_of d.handler)) same ∙ ap (λ (z : Done). finish b.plain z.message z.outcome (runs_of z.handler)) is;
-      made = made ∙ ap (λ (z : ParticipantState). z.made) same;
-      listed = listed ∙ ap (λ (z : ParticipantState). z.listed) same;
-    }
+pub put_out : {job : Job} (p : ParticipantState) (d : Done) → d ≡ put_of job → (slot_of p.plain job.message.part).work ≡ Out job.message (is_some job.handler)
+    → (slot_of p.plain d.message.part).work ≡ Out d.message (is_some d.handler)
+put_out p d is out = subst (λ (z : Done). (slot_of p.plain z.message.part).work ≡ Out z.message (is_some z.handler)) (sym is) out
 
-pub back_out : {a : ParticipantState} (staff : List ParticipantState) (i : InstanceId) (b x : ParticipantState) (job : Job) (d : Done) → i.0 < length staff
-    → x ≡ slice_index_or (slice_set staff i.0 b) i.0 x → d ≡ put_of job → HandsOut a b job → (slot_of x.plain d.message.part).work ≡ Out d.message (is_some d.handler)
-back_out {a} staff i b x job d lt at_i is h =
-    let same = was_put staff i b x lt at_i in
-    subst (λ (z : Done). (slot_of x.plain z.message.part).work ≡ Out z.message (is_some z.handler)) (sym is)
-    (subst (λ (z : ParticipantState). (slot_of z.plain job.message.part).work ≡ Out job.message (is_some job.handler)) (sym same) (out-job a b job h.plain h.handed))
+pub put_listed : {job : Job} (p : ParticipantState) (d : Done) → d ≡ put_of job → ForSome job.handler (λ y. y.listed ≡ p.listed) → ForSome d.handler (λ y. y.listed ≡ p.listed)
+put_listed p d is listed = subst (λ (z : Done). ForSome z.handler (λ y. y.listed ≡ p.listed)) (sym is) listed
 
-pub back_listed : {a : ParticipantState} (staff : List ParticipantState) (i : InstanceId) (b x : ParticipantState) (job : Job) (d : Done) → i.0 < length staff
-    → x ≡ slice_index_or (slice_set staff i.0 b) i.0 x → d ≡ put_of job → HandsOut a b job → ForSome d.handler (λ y. y.listed ≡ x.listed)
-back_listed {a} staff i b x job d lt at_i is h =
-    let same = was_put staff i b x lt at_i in
-    subst (λ (z : Done). ForSome z.handler (λ y. y.listed ≡ x.listed)) (sym is)
-    (subst (λ (z : ParticipantState). ForSome job.handler (λ y. y.listed ≡ z.listed)) (sym same) (λ y e. h.handed.listed y e ∙ sym h.listed))
+-- by what the calls told: it was taken and run, or refused and put back
+pub taken_of : {i : InstanceId} {job : Job} {b c : Board} {jobs later : List OpenState} {m : Message} (p : ParticipantState) (r : Ran) → m ≡ job.message → take_refusal b.cluster m.session m.id ≡ None
+    → c ≡ on_board b (events.Take m.session m.id) → IsRunBy job r → later ≡ jobs ++ opened i r ∷ [] → TakesJob i job b c jobs later p p (Ok (m.session, m.id))
+taken_of {i} {job} {b} {c} {jobs} {later} {m} p r same free made k pushed = (
+  record {
+    told = ap (λ (z : Message). (z.session, z.id)) same;
+    free = subst (λ (z : Message). take_refusal b.cluster z.session z.id ≡ None) same free;
+    made = made ∙ ap (λ (z : Message). on_board b (events.Take z.session z.id)) same;
+    ran = r;
+    run = k;
+    stands = pushed;
+  },
+  refl,
+)
+
+pub refused_of : {job : Job} {b c : Board} {m : Message} {p q : ParticipantState} (i : InstanceId) (jobs : List OpenState) (fault : TakeFault) (d : Done) → m ≡ job.message
+    → take_refusal b.cluster m.session m.id ≡ Some fault → c ≡ b → d ≡ put_of job → q.plain ≡ finish p.plain d.message d.outcome (runs_of d.handler) → q.made ≡ p.made → q.listed ≡ p.listed
+    → TakesJob i job b c jobs jobs p q (Err notes.SessionEnded)
+refused_of {job} {b} {c} {m} {p} {q} i jobs fault d same full stays is plain made listed = record {
+  why = refl;
+  fault = fault;
+  refused = subst (λ (z : Message). take_refusal b.cluster z.session z.id ≡ Some fault) same full;
+  same = stays;
+  stands = refl;
+  back = record { plain = plain ∙ ap (λ (z : Done). finish p.plain z.message z.outcome (runs_of z.handler)) is; made = made; listed = listed };
+}
 
 with_parts_is : (P : SceneState → Type 0) (s : SceneState) (board : Board) (jobs : List OpenState) → board ≡ s.board → jobs ≡ s.jobs → P s → P (record s { board = board; jobs = jobs })
 with_parts_is P s board jobs is are here =
     subst (λ (z : Board). P (record s { board = z; jobs = jobs })) (sym is) (subst (λ (z : List OpenState). P (record s { jobs = z })) (sym are) here)
 
 -- the message is taken and run, or its session has ended and it is put back; or there is none
-pub take_makes : {s : SceneState} {i : InstanceId} {id : MsgId} {b : ParticipantState} {job : Job} {m : Message} {board : Board} {jobs reserved : List OpenState} → IsHandedOut s i id b job → (v : Voice) (r : Ran) → IsRunBy job r
-    → m ≡ job.message → take_refusal s.board.cluster m.session m.id ≡ None → board ≡ on_board s.board (events.Take m.session m.id) → jobs ≡ reserved ++ opened i r ∷ [] → reserved ≡ s.jobs
+took : {s : SceneState} {i : InstanceId} {id : MsgId} {b : ParticipantState} {job : Job} {board : Board} {jobs reserved : List OpenState} {told : SessionId × MsgId} → IsHandedOut s i id b job
+    → IsTaken i job s.board board reserved jobs told → reserved ≡ s.jobs → (v : Voice)
     → Makes (λ x. do_take v i id x) (events.Take job.message.session job.message.id) s board (record s { board = board; staff = slice_set s.staff i.0 b; jobs = jobs; handed = s.handed + 1 })
-take_makes {s} {i} {id} {b} {job} {m} {board} {jobs} {reserved} h v r k same free is pushed kept =
-    let made = board_is s.board board m job.message same is in
-    let refused = refused_as s.board.cluster m job.message None same free in
-    makes_as (scene_is s i b board jobs reserved (events.Take job.message.session job.message.id) r made pushed kept) made refl (take_ends h v r k refused) (take_cut h v r k refused) (take_scene h r k refused)
+took {s} {i} {id} {b} {job} {board} {jobs} {reserved} h t kept v =
+    makes_as (scene_is s i b board jobs reserved (events.Take job.message.session job.message.id) t.ran t.made t.stands kept) t.made refl (take_ends h v t.ran t.run t.free) (take_cut h v t.ran t.run t.free)
+    (take_scene h t.ran t.run t.free)
 
-pub back_comes : {s : SceneState} {i : InstanceId} {id : MsgId} {b c : ParticipantState} {job : Job} {m : Message} {board : Board} {jobs : List OpenState} → IsHandedOut s i id b job → (v : Voice) (fault : TakeFault)
-    → IsPutBack b c job → m ≡ job.message → take_refusal s.board.cluster m.session m.id ≡ Some fault → board ≡ s.board → jobs ≡ s.jobs
-    → ComesTo (λ x. do_take v i id x) (λ x. note v notes.SessionEnded x) s (record (back_scene s i b c) { board = board; jobs = jobs })
-back_comes {s} {i} {id} {b} {c} {job} {m} {board} {jobs} h v fault k same full is are =
-    let refused = refused_as s.board.cluster m job.message (Some fault) same full in
-    with_parts_is (λ (u : SceneState). ComesTo (λ x. do_take v i id x) (λ x. note v notes.SessionEnded x) s u) (back_scene s i b c) board jobs is are
-    (record { reaches = λ p. back_reaches h v c fault k refused p; scene = back_is h c fault k refused })
+refused : {s : SceneState} {i : InstanceId} {id : MsgId} {b c : ParticipantState} {job : Job} {board : Board} {jobs reserved : List OpenState} {why : Note} → IsHandedOut s i id b job
+    → IsRefused job s.board board reserved jobs b c why → reserved ≡ s.jobs → (v : Voice)
+    → ComesTo (λ x. do_take v i id x) (λ x. note v why x) s (record s { board = board; staff = slice_set s.staff i.0 c; jobs = jobs; handed = s.handed + 1 })
+refused {s} {i} {id} {b} {c} {job} {board} {jobs} {reserved} {why} h r kept v =
+    subst (λ (n : Note). ComesTo (λ x. do_take v i id x) (λ x. note v n x) s (record s { board = board; staff = slice_set s.staff i.0 c; jobs = jobs; handed = s.handed + 1 })) (sym r.why)
+    (subst
+    (λ (z : List ParticipantState). ComesTo (λ x. do_take v i id x) (λ x. note v notes.SessionEnded x) s (record s { board = board; staff = z; jobs = jobs; handed = s.handed + 1 }))
+    (set-set s.staff i.0 b c)
+    (with_parts_is (λ (u : SceneState). ComesTo (λ x. do_take v i id x) (λ x. note v notes.SessionEnded x) s u) (back_scene s i b c) board jobs r.same (r.stands ∙ kept)
+    (record { reaches = λ p. back_reaches h v c r.fault r.back r.refused p; scene = back_is h c r.fault r.back r.refused })))
+
+pub run_comes : {s : SceneState} {i : InstanceId} {id : MsgId} {b : ParticipantState} {job : Job} {reserved : List OpenState} → IsHandedOut s i id b job → reserved ≡ s.jobs
+    → (c : ParticipantState) (board : Board) (jobs : List OpenState) (result : Result (SessionId × MsgId) Note) → TakesJob i job s.board board reserved jobs b c result
+    → TakesTo i id s (record s { board = board; staff = slice_set s.staff i.0 c; jobs = jobs; handed = s.handed + 1 }) result
+run_comes {s} {i} {id} {b} {job} {reserved} h kept c board jobs (Ok told) t =
+    λ v.
+    subst (λ (z : SessionId × MsgId). IsMadeBy (λ x. do_take v i id x) (events.Take z.0 z.1) s (record s { board = board; staff = slice_set s.staff i.0 c; jobs = jobs; handed = s.handed + 1 })) (sym t.0.told)
+    (subst
+    (λ (z : ParticipantState).
+    IsMadeBy (λ x. do_take v i id x) (events.Take job.message.session job.message.id) s (record s { board = board; staff = slice_set s.staff i.0 z; jobs = jobs; handed = s.handed + 1 }))
+    (sym t.1) (made_by refl (took h t.0 kept v)))
+run_comes h kept c board jobs (Err why) r = λ v p. (refused h r kept v).reaches p
+
+pub run_scene : {s : SceneState} {i : InstanceId} {id : MsgId} {b : ParticipantState} {job : Job} {reserved : List OpenState} → IsHandedOut s i id b job → reserved ≡ s.jobs
+    → (c : ParticipantState) (board : Board) (jobs : List OpenState) (result : Result (SessionId × MsgId) Note) → TakesJob i job s.board board reserved jobs b c result → HasHistory board
+    → IsScene (record s { board = board; staff = slice_set s.staff i.0 c; jobs = jobs; handed = s.handed + 1 })
+run_scene {s} {i} {id} {b} {job} {reserved} h kept c board jobs (Ok told) t history =
+    subst (λ (z : ParticipantState). IsScene (record s { board = board; staff = slice_set s.staff i.0 z; jobs = jobs; handed = s.handed + 1 })) (sym t.1) ((took h t.0 kept Quiet).scene history)
+run_scene h kept c board jobs (Err why) r history = (refused h r kept Quiet).scene
 
 pub none_comes : {s : SceneState} {i : InstanceId} {a b : ParticipantState} {found : Option Job} {jobs : List OpenState} (v : Voice) (id : MsgId) → IsScene s → i.0 < length s.staff → a ≡ slice_index_or s.staff i.0 a → IsStill a b
     → option_map (λ j. j.message) found ≡ accepted_by a.plain id → found ≡ None → jobs ≡ s.jobs

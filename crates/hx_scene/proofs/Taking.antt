@@ -19,7 +19,7 @@ use Rattle.hx_worlds.specs.Jobs.{do_take, take_accepted, take_job, fails_to_make
 use Rattle.hx_worlds.specs.Jobs.{is_failed as is_failed_outcome}
 use Rattle.hx_scene.specs.Scenes.{SceneState, OpenState, plain_job, world_of, at, staff_of, new_staff, lists_of}
 use Rattle.hx_scene.specs.Doing.{Asked, Gives, left}
-use Rattle.hx_scene.specs.Taking.{HandsOut}
+use Rattle.hx_scene.specs.Taking.{HandsOut, opened}
 
 -- the participant of an instance, in a scene and in its world
 pub participant_at : (s : SceneState) (i : InstanceId) → i.0 < length s.staff → participant_of (world_of s) i ≡ (staff_of s i).plain
@@ -120,9 +120,6 @@ take_at v s i id b job a lt is h given =
     ∙ ap (λ z. take_job v i m (runs_of job.handler) z) (handed_at s i b job a lt h)
 
 -- the run
-abbrev pub opened : InstanceId → Ran → OpenState
-opened i r = record { instance = i; ran = r; is_written = false }
-
 ok_is : (o : Outcome) → is_failed o ≡ false → o ≡ outcomes.Ok
 ok_is outcomes.Ok e = refl
 ok_is outcomes.Failed e = cc

@@ -1,10 +1,15 @@
 -- How open jobs end: what is needed of them, and what becomes of the jobs and the participants.
-use Rattle.std.specs.Prelude.{◌≡◌, ◌<◌, ℕ, false, List, map, length, Option, Some, is_some, slice_set, slice_index_or, if◌then◌else◌}
+use Rattle.std.specs.Prelude.{◌≡◌, ◌<◌, ℕ, false, List, map, length, Option, None, Some, is_some, slice_set, slice_index_or, if◌then◌else◌}
 use Rattle.std.specs.List.{All}
 use Rattle.std.specs.Option.{ForSome}
 use Rattle.hx_ids.specs.declared.InstanceId.{InstanceId}
 use Rattle.hx_ids.specs.declared.SessionId.{SessionId}
 use Rattle.hx_cluster.specs.declared.description.Failure.{Failure}
+use Rattle.hx_cluster.specs.declared.happenings.Admin.TheVariants as steps
+use Rattle.hx_cluster.specs.declared.happenings.Did.TheVariants as dids
+use Rattle.hx_cluster.specs.declared.happenings.Event.{Event}
+use Rattle.hx_cluster.specs.declared.happenings.Event.TheVariants as events
+use Rattle.hx_board.specs.Board.{happened}
 use Rattle.hx_replicas.specs.declared.slots.Work.TheVariants.{Out}
 use Rattle.hx_replicas.specs.Participants.{Participant, slot_of, any_out, finish}
 use Rattle.hx_replicas.specs.Jobs.{ParticipantState, runs_of}
@@ -59,6 +64,17 @@ Follows i session jobs later staff after =
     (x : State)
     → (if same_session (participant_of (with_parts jobs staff x).world i).session session then with_parts jobs staff x else adopt_in i session (with_parts jobs staff x))
     ≡ with_parts later after x
+
+-- an instance's session ended, and its participant with it
+abbrev pub end_event : InstanceId → Event
+end_event i = events.Admin (steps.End i) dids.Done
+
+pub record HasEnded (s u : SceneState) (i : InstanceId) : Type 0 where
+  pub jobs : List OpenState
+  pub staff : List ParticipantState
+  pub adopts : Adopts i None s.jobs jobs s.staff staff
+  pub kept : KeepsParts s.jobs jobs s.staff staff
+  pub left : u ≡ record s { board = happened s.board (end_event i); jobs = jobs; staff = staff }
 
 -- no job is out
 abbrev pub IsAtRest : ParticipantState → Type 0

@@ -6,5 +6,6 @@ pub mod Kept
 pub mod Telling
 pub mod Advances
 pub mod Rolls
+pub mod Made
 pub mod Taking
 pub mod Ending

@@ -1,6 +1,8 @@
 -- What contracts see of the parts of a world, and the plain world that they are.
-use Rattle.std.specs.Prelude.{◌≡◌, ◌==◌, ℕ, Bool, List, map, find, Option, None, Some, slice_index_or}
+use Rattle.std.specs.Prelude.{◌≡◌, ◌==◌, ℕ, Bool, List, map, filter, find, Option, None, Some, slice_index_or}
+use Rattle.hx_lists.specs.Lists.{sort_by}
 use Rattle.hx_ids.specs.declared.InstanceId.{InstanceId}
+use Rattle.hx_ids.specs.declared.MsgId.{MsgId}
 use Rattle.hx_cluster.specs.declared.description.Spec.{Spec}
 use Rattle.hx_cluster.specs.declared.description.Failure.{Failure}
 use Rattle.hx_cluster.specs.declared.state.Message.{Message}
@@ -9,6 +11,7 @@ use Rattle.hx_replicas.specs.Participants.{new_participant}
 use Rattle.hx_replicas.specs.Jobs.{ParticipantState, Ran, runs_of}
 use Rattle.hx_control.specs.Controllers.{Controller}
 use Rattle.hx_worlds.specs.World.{World, Job, Answers, State}
+use Rattle.hx_worlds.specs.Jobs.{is_job_of, job_before}
 
 -- a job that was run on an instance, and whether its outcome was written
 pub record OpenState : Type 0 where
@@ -50,6 +53,10 @@ world_of s = record {
   weight = weight_at s.board;
   limit = s.board.limit;
 }
+
+-- the numbers of an instance's open jobs, rising
+abbrev pub open_numbers : SceneState → InstanceId → List MsgId
+open_numbers s i = map (λ j. j.message.id) (sort_by job_before (filter (is_job_of i) (world_of s).jobs))
 
 -- with the answers that handlers give from then on
 abbrev pub at : SceneState → Answers → State

@@ -10,8 +10,9 @@ ghost use Rattle.hx_scene.specs.Rolls.{names_resources, names_sessions, step_rol
 
 use crate::{Deed, Scene};
 use hx_board::RoomFault;
-use hx_cluster::{Admin, Did, Event, Resource};
+use hx_cluster::{Admin, Did, Event, Mail, Resource};
 use hx_handler::Factory;
+use hx_ids::InstanceId;
 use hx_lists::Seq;
 use hx_print::{Roll, print_event, print_step};
 use hx_text::Page;
@@ -113,15 +114,22 @@ impl<F: Factory> Scene<F> {
         Ok(())
     }
 
-    /// Prints the last event, whose log line needs nothing of the cluster.
-    pub(crate) fn print_event(&self, out: &mut Page) -> Deed
-        ensures prints { (h : List Happening) (e : Happening)
-            → self.now.board.history ≡ h ++ e ∷ []
-            → Prints (event_text self.now.spec no_roll e) out.old result out.new }
+    /// Prints the fetch of an instance's messages.
+    pub(crate) fn print_fetch(&self, instance: InstanceId, mail: &Mail, out: &mut Page) -> Deed
+        ensures prints { Prints (event_text self.now.spec no_roll
+            (events.Fetch instance mail.now.session (length mail.now.messages)))
+            out.old result out.new }
         ensures memory { IfErr result (λ fault. fault ≡ RoomFault.OutOfMemory) }
     {
-        self.print_last(&self.no_roll(), out)?;
-        Ok(())
+        let Ok(count) = u32::try_from(mail.messages.len()) else {
+            return Err(RoomFault::OutOfMemory);
+        };
+        let event = Event::Fetch {
+            instance,
+            session: mail.session,
+            count,
+        };
+        self.print_given(&event, out)
     }
 
     /// Prints the last event, with the roll before it, if there are more than so many.

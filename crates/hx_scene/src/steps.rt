@@ -1,23 +1,40 @@
 //! Lines that are taken, and steps of the cluster.
 
-ghost use Rattle.std.specs.Prelude.{◌≡◌, true, Some};
+ghost use Rattle.std.specs.Prelude.{◌≡◌, true, Some, OnOk, OnErr};
+ghost use Rattle.hx_lists.specs.Answers.{RefusedBy};
 ghost use Rattle.hx_cluster.specs.Steps.{has_instance, is_in_range};
 ghost use Rattle.hx_cluster.specs.Events.{is_later};
-ghost use Rattle.hx_board.specs.Board.{next_line_of};
+ghost use Rattle.hx_board.specs.Board.{next_line_of, happened, HasHistory};
+ghost use Rattle.hx_board.specs.Refusals.{step_refusal};
 ghost use Rattle.hx_worlds.specs.Runs.{happen};
 ghost use Rattle.hx_worlds.specs.Scripts.{do_step, do_die};
 ghost use Rattle.hx_scene.specs.Doing.{DoesDeed};
+ghost use Rattle.hx_scene.specs.Ending.{HasEnded, end_event};
 ghost use Rattle.hx_scene.specs.Rolls.{step_roll};
 
 use crate::jobs::adopt;
 use crate::{Deed, Scene};
-use hx_board::{BoardFault, RoomFault};
-use hx_cluster::{Admin, Event};
+use hx_board::{Board, BoardFault, RoomFault};
+use hx_cluster::{Admin, Did, Event};
 use hx_handler::Factory;
 use hx_ids::InstanceId;
 use hx_print::{Note, Roll};
 use hx_text::Page;
 use hx_worlds::Voice;
+
+/// Ends an instance's session on a board.
+fn end_on(board: &mut Board, instance: InstanceId) -> Result<(), BoardFault>
+    requires { has_instance board.old.cluster instance ≡ true }
+    ensures refused { RefusedBy BoardFault.OutOfMemory
+        (step_refusal board.old (Admin.End instance)) result }
+    ensures ok { OnOk result (board.new ≡ happened board.old (end_event instance)) }
+    ensures history { OnOk result (HasHistory board.new) }
+    ensures err { OnErr result (board.new ≡ board.old) }
+{
+    board.admin(&Admin::End { instance })?;
+    board.history();
+    Ok(())
+}
 
 impl<F: Factory> Scene<F> {
     /// Takes the script's next line, which has this number.
@@ -67,25 +84,34 @@ impl<F: Factory> Scene<F> {
         self.end(voice, instance, &roll, out)
     }
 
+    /// Ends an instance's session, and its participant with it. It prints nothing.
+    fn end_session(&mut self, instance: InstanceId) -> Result<(), BoardFault>
+        requires { has_instance self.old.board.cluster instance ≡ true }
+        ensures refused { RefusedBy BoardFault.OutOfMemory
+            (step_refusal self.old.board (Admin.End instance)) result }
+        ensures ok { OnOk result (HasEnded self.old self.new instance) }
+        ensures err { OnErr result (self.new ≡ self.old) }
+    {
+        let open = self.open_jobs(instance)?;
+        end_on(&mut self.board, instance)?;
+        adopt(
+            &mut self.jobs,
+            &mut self.participants,
+            instance,
+            None,
+            &open,
+        );
+        Ok(())
+    }
+
     /// Ends an instance's session, where the log line needs this roll, or notes why not.
     fn end(&mut self, voice: Voice, instance: InstanceId, roll: &Roll, out: &mut Page) -> Deed
         requires instance { has_instance self.old.board.cluster instance ≡ true }
         requires roll { roll.now ≡ step_roll self.old.board.cluster (Admin.End instance) }
         ensures { DoesDeed (do_die voice instance) self.old out.old self.new out.new result }
     {
-        let open = self.open_jobs(instance)?;
-        match self.board.admin(&Admin::End { instance }) {
-            Ok(did) => {
-                self.board.history();
-                adopt(
-                    &mut self.jobs,
-                    &mut self.participants,
-                    instance,
-                    None,
-                    &open,
-                );
-                self.print_made(&Admin::End { instance }, &did, roll, out)
-            }
+        match self.end_session(instance) {
+            Ok(()) => self.print_made(&Admin::End { instance }, &Did::Done, roll, out),
             Err(fault) => match fault {
                 BoardFault::Step(fault) => self.note(voice, &Note::Step(fault), out),
                 BoardFault::HistoryFull { weight } => Err(RoomFault::HistoryFull { weight }),

@@ -61,10 +61,25 @@ impl<F: Factory> Scene<F> {
             self.old out.old self.new out.new result }
     {
         let roll = self.roll_for(controller)?;
+        self.advance_with(controller, &roll, out)
+    }
+
+    /// Makes the next step of a controller's turn, whose log lines need this roll.
+    fn advance_with(
+        &mut self,
+        controller: ControllerId,
+        roll: &Roll,
+        out: &mut Page,
+    ) -> Result<Result<Option<PassOutcome>, ControlFault>, RoomFault>
+        requires controller { has_controller self.old.board.cluster controller ≡ true }
+        requires roll { IsRollFor self.old controller roll.now }
+        ensures { Does (λ x. advances controller x) (λ answer. answer)
+            self.old out.old self.new out.new result }
+    {
         let before = self.board.history().entries.len();
         match self.take_step(controller) {
             Ok(outcome) => {
-                self.print_grown(before, &roll, out)?;
+                self.print_grown(before, roll, out)?;
                 Ok(Ok(outcome))
             }
             Err(fault) => match fault {
