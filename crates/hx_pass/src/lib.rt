@@ -4,7 +4,6 @@
 mod drafts;
 mod plans;
 mod posts;
-mod targets;
 
 ghost use Rattle.std.specs.Prelude.{◌≡◌, true, IfOk};
 ghost use Rattle.hx_gen.specs.Modelled.{has_models};

@@ -3,8 +3,7 @@ ghost use Rattle.std.specs.Prelude.{◌≡◌, true, IfOk, map};
 ghost use Rattle.hx_gen.specs.Modelled.{has_models};
 ghost use Rattle.hx_pass.specs.Plans.{plan, proposal};
 
-use crate::targets::all_targets;
-use hx_best::Index;
+use hx_best::{Index, all_targets};
 use hx_cluster::{Candidate, Plan, Proposal, Rule};
 use hx_gen::candidates;
 use hx_hops::Hops;
