@@ -1,5 +1,5 @@
 -- An operation makes one event, which is printed, and with it is done; or it comes to a note of why not.
-use Rattle.std.proofs.Common.{◌≡◌, ℕ, List, [], ◌∷◌, ◌++◌, sym, ap, subst, ◌∙◌}
+use Rattle.std.proofs.Common.{◌≡◌, ℕ, List, ◌++◌, sym, ap, subst, ◌∙◌}
 use Rattle.std.specs.Prelude.{Result, Ok, Err, IsErrAnd, IfErr, OnErr}
 use Rattle.hx_cluster.specs.declared.happenings.Event.{Event}
 use Rattle.hx_text.specs.Texts.{Prints, PutsFront}

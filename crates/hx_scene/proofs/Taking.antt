@@ -17,7 +17,7 @@ use Rattle.hx_worlds.specs.World.{Job as PlainJob}
 use Rattle.hx_worlds.specs.declared.Voice.{Voice}
 use Rattle.hx_worlds.specs.Jobs.{do_take, take_accepted, take_job, fails_to_make, handed_out, if_answered, ran, handler_after, outcome_of_run, runs_handler, job_run}
 use Rattle.hx_worlds.specs.Jobs.{is_failed as is_failed_outcome}
-use Rattle.hx_scene.specs.Scenes.{SceneState, OpenState, plain_job, world_of, at, staff_of, new_staff, lists_of}
+use Rattle.hx_scene.specs.Scenes.{SceneState, plain_job, world_of, at, staff_of, new_staff, lists_of}
 use Rattle.hx_scene.specs.Doing.{Asked, Gives, left}
 use Rattle.hx_scene.specs.Taking.{HandsOut, opened}
 

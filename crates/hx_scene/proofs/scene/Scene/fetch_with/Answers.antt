@@ -1,5 +1,4 @@
 use Rattle.std.proofs.Common.{Ok, Err}
-use Rattle.hx_worlds.specs.Jobs.{do_fetch}
 use Rattle.hx_scene.proofs.Reaching.{does_err}
 use Rattle.hx_scene.proofs.Making.{made_given}
 use Rattle.hx_scene.proofs.Fetching.{fetch_gives, mail_gives, bag_gives}

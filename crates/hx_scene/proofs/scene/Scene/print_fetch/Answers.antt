@@ -1,4 +1,4 @@
-use Rattle.std.proofs.Common.{refl, ap}
+use Rattle.std.proofs.Common.{refl}
 use Rattle.hx_text.proofs.Printing.{puts_none}
 use Rattle.hx_scene.proofs.scene.Scene.print_fetch.Goals as goal
 

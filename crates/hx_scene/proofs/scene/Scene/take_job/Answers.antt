@@ -1,5 +1,5 @@
-use Rattle.std.proofs.Common.{◌+◌, List, arith, subst, sym}
-use Rattle.std.specs.Prelude.{slice_set, IfNone, IfSome}
+use Rattle.std.proofs.Common.{List, arith, subst, sym}
+use Rattle.std.specs.Prelude.{IfNone}
 use Rattle.hx_worlds.specs.Jobs.{do_take}
 use Rattle.hx_worlds.specs.declared.Voice.{Voice}
 use Rattle.hx_worlds.specs.declared.Voice.TheVariants.{Quiet}
