@@ -182,6 +182,26 @@ fn add_targets_of(
     Ok(())
 }
 
+/// Adds the targets of a resource over an index of the view.
+fn add_targets_on(
+    alloc: Global,
+    models: &[Model],
+    index: &Index<'_>,
+    resource: ResourceId,
+    room: &mut Room,
+    found: &mut Vec<Target>,
+) -> Result<(), AllocError>
+    ensures { OnOk result (
+        found.new.items ≡ found.old.items ++ targets_of models.now index.now resource) }
+{
+    let resources = &index.view().ideals.resources;
+    if let Some(shown) = resources.get(resource.0 as usize) {
+        let places = Places::of(alloc, &*index, models, shown)?;
+        add_targets_of(&places, resource, room, found)?;
+    }
+    Ok(())
+}
+
 /// The targets of a resource over an index of the view. The index may serve all resources.
 pub fn targets_on(
     alloc: Global,
@@ -192,10 +212,8 @@ pub fn targets_on(
     ensures { IfOk result (λ found. found.items ≡ targets_of models.now index.now resource) }
 {
     let mut found = Vec::new(alloc);
-    if let Some(shown) = index.view().ideals.resources.get(resource.0 as usize) {
-        let places = Places::of(alloc, &*index, models, shown)?;
-        add_targets_of(&places, resource, &mut Room::new(alloc), &mut found)?;
-    }
+    let mut room = Room::new(alloc);
+    add_targets_on(alloc, models, index, resource, &mut room, &mut found)?;
     Ok(found)
 }
 
@@ -221,13 +239,12 @@ pub fn all_targets(
 ) -> Result<Vec<Target>, AllocError>
     ensures { IfOk result (λ found. found.items ≡ all_targets_of models.now index.now) }
 {
-    let resources = index.view().ideals.resources.as_slice();
-    let count = number(resources.len())?;
-    let mut room = Room::new(alloc);
+    let count = number(index.view().ideals.resources.len())?;
     let mut found = Vec::new(alloc);
+    let mut room = Room::new(alloc);
     for number in 0..count {
-        let places = Places::of(alloc, &*index, models, &resources[number as usize])?;
-        add_targets_of(&places, ResourceId(number), &mut room, &mut found)?;
+        let resource = ResourceId(number);
+        add_targets_on(alloc, models, index, resource, &mut room, &mut found)?;
     }
     Ok(found)
 }
