@@ -49,25 +49,25 @@ impl<F: Factory> Scene<F> {
     fn fetch_with(
         &mut self,
         instance: InstanceId,
-        open: &[MsgId],
+        numbers: &[MsgId],
         out: &mut Page,
     ) -> Result<Vec<Message>, RoomFault>
         requires instance { has_instance self.old.board.cluster instance ≡ true }
-        requires open { open.now ≡ open_numbers self.old instance }
+        requires numbers { numbers.now ≡ open_numbers self.old instance }
         ensures does { DoesDeed (do_fetch instance) self.old out.old self.new out.new result }
         ensures messages { IfOk result (λ messages.
             messages.items ≡ (fetched self.old.board.cluster instance).messages) }
         ensures bagged { IfOk result (λ messages. All (IsBagged self.new.bag) messages.items) }
     {
-        let mail = self.fetch_mail(instance, open)?;
+        let mail = self.fetch_mail(instance, numbers)?;
         self.print_fetch(instance, &mail, out)?;
         Ok(mail.messages.into_vec())
     }
 
     /// Fetches an instance's messages, where its open jobs have these numbers. It prints nothing.
-    fn fetch_mail(&mut self, instance: InstanceId, open: &[MsgId]) -> Result<Mail, RoomFault>
+    fn fetch_mail(&mut self, instance: InstanceId, numbers: &[MsgId]) -> Result<Mail, RoomFault>
         requires instance { has_instance self.old.board.cluster instance ≡ true }
-        requires open { open.now ≡ open_numbers self.old instance }
+        requires numbers { numbers.now ≡ open_numbers self.old instance }
         ensures mail { IfOk result (λ mail. mail ≡ fetched self.old.board.cluster instance) }
         ensures made { IfOk result (λ mail. IsMadeBy (λ x. do_fetch instance x)
             (Event.Fetch instance mail.session (length mail.messages)) self.old self.new) }
@@ -83,7 +83,7 @@ impl<F: Factory> Scene<F> {
             &mut self.participants,
             instance,
             mail.session,
-            open,
+            numbers,
         );
         self.bag.put_all(mail.messages.as_slice());
         Ok(mail)

@@ -1,4 +1,5 @@
 pub mod AllWords
+pub mod Bare
 pub mod Entries
 pub mod Examples
 pub mod FormsAgain

@@ -39,7 +39,7 @@ pub follow-requires-clause-instance : goal.follow-requires-clause-instance
 follow-requires-clause-instance g c κs within = has_staff _ c.self.invariant.0 c.args.instance (rw (← c.self.view_is) at c.requires.instance)
 
 pub follow-requires-clause-numbers : goal.follow-requires-clause-numbers
-follow-requires-clause-numbers g c κs within = rw (← c.self.view_is) at c.requires.open
+follow-requires-clause-numbers g c κs within = rw (← c.self.view_is) at c.requires.numbers
 
 pub invariant_of-self-2 : goal.invariant_of-self-2
 invariant_of-self-2 g c = ((fetched g (goal.at.invariant_of-self-2 g c).After-put_all).scene c.history.ensures.history, c.self.invariant.1)
