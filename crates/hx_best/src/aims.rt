@@ -182,24 +182,26 @@ fn add_targets_of(
     Ok(())
 }
 
-/// Adds the targets of a resource over an index of the view.
-fn add_targets_on(
-    alloc: Global,
-    models: &[Model],
-    index: &Index<'_>,
-    resource: ResourceId,
-    room: &mut Room,
-    found: &mut Vec<Target>,
-) -> Result<(), AllocError>
-    ensures { OnOk result (
-        found.new.items ≡ found.old.items ++ targets_of models.now index.now resource) }
-{
-    let resources = &index.view().ideals.resources;
-    if let Some(shown) = resources.get(resource.0 as usize) {
-        let places = Places::of(alloc, &*index, models, shown)?;
-        add_targets_of(&places, resource, room, found)?;
+impl Index<'_> {
+    /// Adds the targets of a resource.
+    fn add_targets(
+        &self,
+        alloc: Global,
+        models: &[Model],
+        resource: ResourceId,
+        room: &mut Room,
+        found: &mut Vec<Target>,
+    ) -> Result<(), AllocError>
+        ensures { OnOk result (
+            found.new.items ≡ found.old.items ++ targets_of models.now self.now resource) }
+    {
+        let resources = &self.view().ideals.resources;
+        if let Some(shown) = resources.get(resource.0 as usize) {
+            let places = Places::of(alloc, &*self, models, shown)?;
+            add_targets_of(&places, resource, room, found)?;
+        }
+        Ok(())
     }
-    Ok(())
 }
 
 /// The targets of a resource over an index of the view. The index may serve all resources.
@@ -213,7 +215,7 @@ pub fn targets_on(
 {
     let mut found = Vec::new(alloc);
     let mut room = Room::new(alloc);
-    add_targets_on(alloc, models, index, resource, &mut room, &mut found)?;
+    index.add_targets(alloc, models, resource, &mut room, &mut found)?;
     Ok(found)
 }
 
@@ -244,7 +246,7 @@ pub fn all_targets(
     let mut room = Room::new(alloc);
     for number in 0..count {
         let resource = ResourceId(number);
-        add_targets_on(alloc, models, index, resource, &mut room, &mut found)?;
+        index.add_targets(alloc, models, resource, &mut room, &mut found)?;
     }
     Ok(found)
 }

@@ -8,4 +8,4 @@ pub loop-number-preserved : goal.loop-number-preserved
 loop-number-preserved c =
     let of : ℕ → List Target = λ n. targets c.args.models.now c.args.index.now (record { 0 = n }) in
     let n = c.loop-number.number in
-    c.in_ok-add_targets_on.ensures ∙ ap (λ (ts : List Target). ts ++ of n) c.loop-number.invariant ∙ sym (flat_map-numbers_below_more of n)
+    c.in_ok-add_targets.ensures ∙ ap (λ (ts : List Target). ts ++ of n) c.loop-number.invariant ∙ sym (flat_map-numbers_below_more of n)
