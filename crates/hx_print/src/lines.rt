@@ -66,6 +66,7 @@ fn print_pair(a: &str, sign: &str, b: &str, page: &mut Page) -> Result<(), Alloc
 }
 
 /// Prints a word.
+#[inline(always)]
 fn print_token(word: &Token, page: &mut Page) -> Result<(), AllocError>
     ensures { Prints (Tokens.token_word word.now) page.old result page.new }
 {
@@ -93,6 +94,7 @@ pub fn print_word(word: &Token, page: &mut Page) -> Result<(), AllocError>
 }
 
 /// Prints words, each with a space before it.
+#[inline(always)]
 pub fn print_words(words: &[Token], page: &mut Page) -> Result<(), AllocError>
     ensures { Prints (Texts.spaced (Tokens.words_of words.now)) page.old result page.new }
 {
