@@ -1,5 +1,5 @@
 -- What became of a target's candidate, by what is found of it.
-use Rattle.std.proofs.Common.{◌≡◌, ℕ, Bool, true, false, List, find, Bor, refl, sym, ap, ◌∙◌, subst, arith}
+use Rattle.std.proofs.Common.{◌≡◌, ℕ, Bool, true, false, List, [], find, Bor, refl, sym, ap, ◌∙◌, subst, arith}
 use Rattle.std.specs.Prelude.{Option, None, Some, is_some, option_copied}
 use Rattle.std.specs.BTreeMap.{BTreeMap}
 use Rattle.hx_ids.specs.declared.SessionId.{SessionId}
@@ -11,7 +11,9 @@ use Rattle.hx_cluster.specs.declared.planning.Full.{Full}
 use Rattle.hx_cluster.specs.declared.planning.Selection.{Selection}
 use Rattle.hx_cluster.specs.declared.planning.Throttled.{Throttled}
 use Rattle.hx_cluster.specs.declared.planning.Finding.TheVariants as findings
-use Rattle.hx_report.specs.Findings.{is_of, fate_of}
+use Rattle.hx_cluster.specs.declared.planning.View.{View}
+use Rattle.hx_cluster.specs.Steps.{is_error}
+use Rattle.hx_report.specs.Findings.{is_of, fate_of, finding_of}
 use Rattle.hx_report.specs.Places.{ArePlaces}
 use Rattle.hx_report.proofs.Placing.{found_any}
 
@@ -44,3 +46,10 @@ module _ (selection : Selection) (throttled : Throttled) (t : Target) where
   pub fate_best : is_some (find (is_of t) throttled.sent) ≡ false → find (λ x. is_of t x.candidate) throttled.held ≡ None
       → find (λ x. is_of t x.candidate) selection.full ≡ None → findings.AtBest ≡ fate_of selection throttled t
   fate_best sent held full = grind (arith, sent, found_any (is_of t) throttled.sent, held, full)
+
+  -- where nothing was selected, and where no message was shown either
+  pub fate_none : throttled.sent ≡ [] → throttled.held ≡ [] → selection.full ≡ [] → findings.AtBest ≡ fate_of selection throttled t
+  fate_none sent held full = rw (sent, held, full) refl
+
+  pub none_found : (view : View) → view.mail ≡ [] → findings.AtBest ≡ fate_of selection throttled t → is_error t.state ≡ false → findings.AtBest ≡ finding_of view selection throttled t
+  none_found view mail fate fine = rw (mail, fine) fate

@@ -1,5 +1,7 @@
 //! What became of the candidates of targets.
-ghost use Rattle.std.specs.Prelude.{◌≡◌, IfOk};
+ghost use Rattle.std.specs.Prelude.{◌≡◌, true, IfOk};
+ghost use Rattle.hx_cluster.specs.declared.planning.Target.{Target};
+ghost use Rattle.hx_cluster.specs.declared.planning.Finding.TheVariants as findings;
 ghost use Rattle.hx_report.specs.Findings.{fate_of};
 
 use crate::places::{first_of, first_places};
@@ -60,6 +62,14 @@ impl<'a> Fates<'a> {
             held: first_places(alloc, throttled.held.as_slice())?,
             full: first_places(alloc, selection.full.as_slice())?,
         })
+    }
+
+    /// Whether nothing was sent, held back or without room, so that no target has a candidate.
+    pub fn is_empty(&self) -> bool
+        ensures { result ≡ true → (t : Target) → findings.AtBest ≡ fate_of self.now.0 self.now.1 t }
+    {
+        let Throttled { sent, held } = self.throttled;
+        sent.is_empty() && held.is_empty() && self.selection.full.is_empty()
     }
 
     /// What became of a target's candidate. A target without one is at its best.

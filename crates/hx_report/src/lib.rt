@@ -4,7 +4,10 @@
 mod fates;
 mod places;
 
-ghost use Rattle.std.specs.Prelude.{◌≡◌, IfOk};
+ghost use Rattle.std.specs.Prelude.{◌≡◌, true, false, not, IfOk};
+ghost use Rattle.hx_cluster.specs.declared.planning.Target.{Target};
+ghost use Rattle.hx_cluster.specs.declared.planning.Finding.TheVariants as findings;
+ghost use Rattle.hx_cluster.specs.Steps.{is_error};
 ghost use Rattle.hx_report.specs.Findings.{report, is_failed, finding_of};
 
 pub use fates::Fates;
@@ -41,16 +44,32 @@ pub fn report_on(
     ensures { IfOk result (λ all. all ≡ report targets.now index.now fates.now.0 fates.now.1) }
 {
     let mut entries = Vec::with_capacity(alloc, targets.len())?;
+    let quiet = is_quiet(index, fates);
     for target in targets {
-        let finding = finding_of(index, fates, target)?;
-        entries.push(Entry {
-            target: *target,
-            finding,
-        })?;
+        if quiet && !is_error(target) {
+            entries.push(Entry {
+                target: *target,
+                finding: Finding::AtBest,
+            })?;
+        } else {
+            entries.push(Entry {
+                target: *target,
+                finding: finding_of(index, fates, target)?,
+            })?;
+        }
     }
     Ok(Report {
         entries: Seq::from_vec(entries),
     })
+}
+
+/// Whether no message was shown, and nothing selected, so that replicas that aren't in ERROR are at
+/// their best.
+fn is_quiet(index: &ViewIndex, fates: &Fates) -> bool
+    ensures { result ≡ true → (t : Target) → is_error t.state ≡ false
+        → findings.AtBest ≡ finding_of index.now fates.now.0 fates.now.1 t }
+{
+    index.view().mail.is_empty() && fates.is_empty()
 }
 
 /// The first finding that fits a target.
@@ -67,9 +86,16 @@ fn finding_of(index: &ViewIndex, fates: &Fates, target: &Target) -> Result<Findi
     }
 }
 
+/// Whether a replica is in ERROR.
+fn is_error(target: &Target) -> bool
+    ensures { result ≡ is_error target.now.state }
+{
+    target.state == Some(ERROR)
+}
+
 /// Whether a replica is in ERROR and nobody asked for a reset.
 fn is_failed(index: &ViewIndex, target: &Target) -> bool
     ensures { result ≡ is_failed index.now target.now }
 {
-    target.state == Some(ERROR) && !index.is_asked(target.session, target.part)
+    is_error(target) && !index.is_asked(target.session, target.part)
 }

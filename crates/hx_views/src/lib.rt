@@ -1,8 +1,10 @@
 //! A view in order of part, so that what it shows of a part is found at once.
 #![tactic(auto)]
 
-ghost use Rattle.std.specs.Prelude.{◌≡◌, ◌^◌, ◌<◌, length, map, IfOk, unwrap_or, option_copied};
+ghost use Rattle.std.specs.Prelude.{◌≡◌, ◌^◌, ◌<◌, ◌==◌, ◌||◌, true, false, length, map, IfOk, unwrap_or, option_copied};
 ghost use Rattle.std.specs.List.{list_any};
+ghost use Rattle.hx_ids.specs.declared.PartId.{PartId};
+ghost use Rattle.hx_ids.specs.declared.SessionId.{SessionId};
 ghost use Rattle.hx_cluster.specs.declared.planning.View.{View};
 ghost use Rattle.hx_cluster.specs.Ends.{state_of, message_of, has_end, limit_over, count_over};
 ghost use Rattle.hx_cluster.specs.Ends.{replicas_of, model_of, no_model};
@@ -55,8 +57,51 @@ fn has_flag(flags: &[(SessionId, PartId)], session: SessionId, part: PartId) -> 
     flags.iter().any(|f| is_flag_of(f, session, part))
 }
 
-/// How many live sessions have a state among the ends of a part.
+/// Whether a state is that of some row.
+fn is_among(rows: &[Row], state: StateId) -> bool
+    ensures { result ≡ list_any (λ r. r.state.0 == state.0) rows.now }
+{
+    rows.iter().any(|row| row.state == state)
+}
+
+/// Whether a state is one that some message leads from or to.
+fn is_met(mail: &[Message], state: StateId) -> bool
+    ensures { result
+        ≡ list_any (λ m. (m.from.0 == state.0) || (m.to.0 == state.0)) mail.now }
+{
+    mail.iter()
+        .any(|message| message.from == state || message.to == state)
+}
+
+/// Whether it is known that a state is an end of no replica.
+#[tactic(auto, using(crate::proofs::Found::no_end))]
+fn has_none(rows: &[Row], mail: &[Message], state: StateId) -> bool
+    ensures { result ≡ true → (part : PartId) (session : SessionId)
+        → has_end rows.now mail.now part state session ≡ false }
+{
+    !is_among(rows, state) && !is_met(mail, state)
+}
+
+/// How many live sessions have a state among the ends of a part. Where it is an end of no replica,
+/// it costs no walk over them.
 fn count_over(
+    live: &[(SessionId, InstanceId)],
+    rows: &[Row],
+    mail: &[Message],
+    part: PartId,
+    state: StateId,
+) -> u32
+    requires { length live.now < 2 ^ 32 }
+    ensures { result ≡ count_over (map (λ e. e.0) live.now) rows.now mail.now part state }
+{
+    if has_none(rows, mail, state) {
+        return 0;
+    }
+    count_each(live, rows, mail, part, state)
+}
+
+/// The same, by a walk over the live sessions.
+fn count_each(
     live: &[(SessionId, InstanceId)],
     rows: &[Row],
     mail: &[Message],
