@@ -1,7 +1,7 @@
 //! Values that are compared whole, by what contracts see of them. Nothing here takes memory.
 #![tactic(auto)]
 
-ghost use Rattle.std.specs.Prelude.{◌≡◌, ◌↔◌, IsTrue};
+ghost use Rattle.std.specs.Prelude.{◌≡◌, ◌↔◌, IsTrue, length};
 ghost use Rattle.std.specs.List.{list_all};
 ghost use Rattle.hx_model.specs.Model.{states_of, bound_of};
 ghost use Rattle.hx_same.specs.Bounds.{is_same_bound};
@@ -18,19 +18,39 @@ pub trait Same {
         ensures { IsTrue result ↔ (self.now ≡ other.now) };
 }
 
-/// Whether two lists have the same items in the same order.
-pub fn all_same<T: Same>(items: &[T], others: &[T]) -> bool
+/// Whether two lists of one length have the same items in the same order.
+fn same_each<T: Same>(items: &[T], others: &[T]) -> bool
+    requires { length items.now ≡ length others.now }
     ensures { IsTrue result ↔ (items.now ≡ others.now) }
 {
-    if items.len() != others.len() {
-        return false;
-    }
     for (place, item) in items.iter().enumerate() {
         if !item.same(&others[place]) {
             return false;
         }
     }
     true
+}
+
+/// Whether two lists have the same items in the same order. Four are compared at a time, without a
+/// look at the outcome of each.
+pub fn all_same<T: Same>(items: &[T], others: &[T]) -> bool
+    ensures { IsTrue result ↔ (items.now ≡ others.now) }
+{
+    if items.len() != others.len() {
+        return false;
+    }
+    let mut items = items;
+    let mut others = others;
+    while let ([a, b, c, d, rest @ ..], [e, f, g, h, last @ ..]) = (items, others) {
+        let front = a.same(e) & b.same(f);
+        let next = c.same(g) & d.same(h);
+        if !(front & next) {
+            return false;
+        }
+        items = rest;
+        others = last;
+    }
+    same_each(items, others)
 }
 
 impl Same for u32 {

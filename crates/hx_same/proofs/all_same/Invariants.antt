@@ -1,7 +1,10 @@
-use Rattle.std.proofs.Common.{◌≡◌}
-use Rattle.std.specs.Prelude.{take}
+use Rattle.std.proofs.Common.{◌≡◌, length}
+use Rattle.std.specs.Prelude.{◌↔◌}
 use Rattle.hx_same.proofs.all_same.Given as goal
 
--- the items so far are the same
-abbrev pub invariant-loop-place : goal.invariant-loop-place
-invariant-loop-place g l = take l.place l.items ≡ take l.place l.others
+-- what is left has one length, and the lists are the same if it is
+abbrev pub invariant-loop-items : goal.invariant-loop-items
+invariant-loop-items g l = (length l.items ≡ length l.others) × ((l.items ≡ l.others) ↔ (l.fn.items ≡ l.fn.others))
+
+abbrev pub decreases-loop-items : goal.decreases-loop-items
+decreases-loop-items g l = length l.items
