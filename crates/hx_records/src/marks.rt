@@ -146,9 +146,8 @@ impl Records {
         requires room { self.old.change + 1 < 2 ^ 64 }
         ensures { self.new ≡ after_write self.old message.now.session message.now.id outcome }
     {
-        let has = self.slots.state(message.session, message.part);
+        let has = self.slots.write(message, message.state_after(outcome));
         leave(&self.rest, &mut self.counts, has, message);
-        self.slots.write(message, message.state_after(outcome));
         settle_flags(&mut self.rest.resets, message, outcome);
         self.rest.change += 1;
     }
