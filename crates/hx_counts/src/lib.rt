@@ -124,8 +124,11 @@ fn raise<K: Eq + Hash + Drop>(numbers: &mut HashMap<K, u32>, key: K) -> Result<(
         else get K.eq numbers.old q)) }
     ensures err { OnErr result (numbers.new.entries ≡ numbers.old.entries) }
 {
-    let raised = number(numbers, &key) + 1;
-    numbers.insert(key, raised)?;
+    if let Some(number) = numbers.get_mut(&key) {
+        *number += 1;
+        return Ok(());
+    }
+    numbers.insert(key, 1)?;
     Ok(())
 }
 
@@ -137,12 +140,12 @@ fn lower<K: Eq + Hash + Drop>(numbers: &mut HashMap<K, u32>, key: K)
         ≡ (if K.eq key q then unwrap_or (get K.eq numbers.old key) 0 - 1
         else unwrap_or (get K.eq numbers.old q) 0) }
 {
-    let count = number(numbers, &key);
-    if count == 1 {
-        numbers.remove(&key);
+    let Some(number) = numbers.get_mut(&key) else {
+        return;
+    };
+    if *number > 1 {
+        *number -= 1;
         return;
     }
-    let Ok(_) = numbers.insert(key, count - 1) else {
-        unreachable!()
-    };
+    numbers.remove(&key);
 }

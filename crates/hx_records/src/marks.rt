@@ -50,18 +50,24 @@ impl Records {
         }
     }
 
-    /// Why a session may not acknowledge a message: the first cause that fits.
-    fn ack_fault(&self, session: SessionId, id: MsgId) -> Option<AckFault>
-        ensures { result ≡ ack_refusal self.now session id }
+    /// The instance of a session and its message that it may acknowledge, or the first cause why it
+    /// may not.
+    fn finished(&self, session: SessionId, id: MsgId) -> Result<(InstanceId, Message), AckFault>
+        ensures refused { RefusedAs (ack_refusal self.now session id) result }
+        ensures instance { IfOk result (λ done.
+            instance_in (shown_of self.now.live) session ≡ Some done.0) }
+        ensures message { IfOk result (λ done. pending_of self.now session id ≡ Some done.1) }
     {
-        if !self.is_live(session) {
-            return Some(AckFault::SessionEnded);
+        let Some(live) = self.sessions.find(session) else {
+            return Err(AckFault::SessionEnded);
+        };
+        let Some(message) = self.slots.pending(session, id) else {
+            return Err(AckFault::NoMessage);
+        };
+        if !message.written {
+            return Err(AckFault::NotWritten);
         }
-        match self.slots.pending(session, id) {
-            None => Some(AckFault::NoMessage),
-            Some(message) if message.written => None,
-            Some(_) => Some(AckFault::NotWritten),
-        }
+        Ok((live.instance, message))
     }
 
     /// Removes a pending message of a session of an instance.
@@ -85,6 +91,23 @@ impl Records {
         let has = self.slots.state(session, part);
         lower(&self.rest, &mut self.counts, instance, has, message);
         self.slots.acknowledge(session, id);
+    }
+
+    /// Removes a message of a session of an instance that is pending under a number.
+    fn remove_pending(
+        &mut self,
+        session: SessionId,
+        id: MsgId,
+        instance: InstanceId,
+        message: &Message,
+    )
+        requires kept { IsKept self.old }
+        requires instance { instance_in (shown_of self.old.live) session ≡ Some instance }
+        requires pending { pending_of self.old session id ≡ Some message.now }
+        ensures { self.new
+            ≡ record self.old { mail = filter (λ m. not (has_id session id m)) self.old.mail } }
+    {
+        self.remove_message(instance, message);
     }
 
     /// Removes a session's pending message, if there is one of this number.
@@ -123,9 +146,8 @@ impl Records {
         requires room { self.old.change + 1 < 2 ^ 64 }
         ensures { self.new ≡ after_write self.old message.now.session message.now.id outcome }
     {
-        let has = self.slots.state(message.session, message.part);
+        let has = self.slots.write(message, message.state_after(outcome));
         leave(&self.rest, &mut self.counts, has, message);
-        self.slots.write(message, message.state_after(outcome));
         settle_flags(&mut self.rest.resets, message, outcome);
         self.rest.change += 1;
     }
@@ -176,10 +198,8 @@ impl Records {
         ensures ok { OnOk result (self.new ≡ next self.old (Event.Ack session id)) }
         ensures err { OnErr result (self.new ≡ self.old) }
     {
-        if let Some(fault) = self.ack_fault(session, id) {
-            return Err(fault);
-        }
-        self.discard(session, id);
+        let (instance, message) = self.finished(session, id)?;
+        self.remove_pending(session, id, instance, &message);
         self.rest.change += 1;
         Ok(())
     }

@@ -1,6 +1,6 @@
 -- The rows of slots, as the slots change.
 use Rattle.std.proofs.Common.{Less, ◌≡◌, ℕ, ◌<◌, ◌≤◌, ◌+◌, ◌⊎◌, inl, inr, Bool, true, false, cond, not, List, [], ◌∷◌, map, filter, Some, None, Option, refl, sym, ap, ◌∙◌, subst, arith}
-use Rattle.std.specs.Prelude.{◌==◌, ◌&&◌, nat_lt, nat_le, if◌then◌else◌, IfSome, is_some}
+use Rattle.std.specs.Prelude.{◌==◌, ◌&&◌, nat_lt, nat_le, if◌then◌else◌, IfSome, is_some, option_map}
 use Rattle.std.specs.List.{list_any, filter_map, cons_option, AllByRecursion}
 use Rattle.std.specs.List.Sorted.{IsStrictlySortedBy}
 use Rattle.std.specs.Ordering.{nat_cmp}
@@ -327,3 +327,11 @@ pub state_there : (changes : ℕ) (s : SessionId) (p : PartId) (slot : Slot) (es
 state_there changes s p slot es all is =
     let r = value_of slot (record_at es (slot_key s p)) (sym is.there) in
     sym (state_is changes s p es is.ordered all is.placed ∙ rw r.1 (ap (λ (x : Slot). x.state) r.2))
+
+pub state_had : (changes : ℕ) (s : SessionId) (p : PartId) (t : Option StateId) (es : List (ℕ × Record Slot)) → EachSlot changes es → IsPlaced s p → IsStrictlySortedBy nat_cmp (keys_of es)
+    → option_map (λ r. r.value.state) (record_at es (slot_key s p)) ≡ Some t → t ≡ state_of (rows_of es) s p
+state_had changes s p t es all placed ordered had = one (record_at es (slot_key s p)) refl had
+  where
+    one : (o : Option (Record Slot)) → record_at es (slot_key s p) ≡ o → option_map (λ r. r.value.state) o ≡ Some t → t ≡ state_of (rows_of es) s p
+    one None is h = cc
+    one (Some r) is h = sym (some_is r.value.state t h) ∙ state_there changes s p r.value es all (record { placed = placed; ordered = ordered; there = ap (option_map (λ x. x.value)) is })

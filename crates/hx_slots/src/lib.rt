@@ -225,18 +225,19 @@ impl Slots {
         self.mail.replace(taken.id.0, taken);
     }
 
-    /// Marks a message as written that wasn't, and puts its replica at a state, or nowhere for
-    /// DROPPED. It takes no memory.
-    pub fn write(&mut self, message: &Message, state: StateId)
+    /// Marks a message as written that wasn't, puts its replica at a state, or nowhere for DROPPED,
+    /// and gives the state that it had, if it had a row. It takes no memory.
+    pub fn write(&mut self, message: &Message, state: StateId) -> Option<StateId>
         requires pending { find (has_id message.now.session message.now.id) self.old.mail
             ≡ Some message.now }
         requires free { message.now.written ≡ false }
+        ensures had { result ≡ state_of self.old.rows message.now.session message.now.part }
         ensures rows { self.new.rows
             ≡ row_put self.old.rows message.now.session message.now.part state }
         ensures mail { self.new.mail
             ≡ map (as_written message.now.session message.now.id) self.old.mail }
     {
-        put_at(
+        let had = put_at(
             &mut self.slots,
             &mut self.cells,
             message.session,
@@ -249,6 +250,7 @@ impl Slots {
             ..*message
         };
         self.mail.replace(written.id.0, written);
+        had
     }
 
     /// Removes a session's message of a number, if there is one. It takes no memory.

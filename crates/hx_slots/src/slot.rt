@@ -1,6 +1,6 @@
 //! Slots, their keys, and changes of single slots and messages.
 ghost use Rattle.std.specs.Prelude.{◌≡◌, ◌==◌, ◌&&◌, None, Some, is_some, IsSome, MatchOption};
-ghost use Rattle.std.specs.Prelude.{OnOk, OnErr};
+ghost use Rattle.std.specs.Prelude.{OnOk, OnErr, option_map};
 ghost use Rattle.std.specs.Map.{keys_of};
 ghost use Rattle.std.specs.List.Sorted.{IsStrictlySortedBy};
 ghost use Rattle.std.specs.Ordering.{nat_cmp};
@@ -152,20 +152,23 @@ pub(crate) fn note_sent(
     Ok(())
 }
 
-/// Puts a replica whose slot is there at a state, or nowhere for DROPPED. It takes no memory.
+/// Puts a replica whose slot is there at a state, or nowhere for DROPPED, and gives the state that
+/// it had, if any. It takes no memory.
 pub(crate) fn put_at(
     slots: &mut Store<Slot>,
     cells: &mut Cells,
     session: SessionId,
     part: PartId,
     state: StateId,
-)
+) -> Option<StateId>
     requires slots { AreAllSlots slots.old }
     requires mirrored { AreMirrored slots.old cells.old }
     requires placed { IsPlaced session part }
     requires there { IsSome (record_at slots.old (slot_key session part)) }
     requires room { CanChange (record_at slots.old (slot_key session part)) }
     ensures ordered { IsStrictlySortedBy nat_cmp (keys_of slots.old) }
+    ensures had { option_map (λ r. r.value.state) (record_at slots.old (slot_key session part))
+        ≡ Some result }
     ensures slots { slots.new ≡ put_at_of slots.old (slot_key session part) session part state }
     ensures mirrored { AreMirrored slots.new cells.new }
 {
@@ -175,6 +178,7 @@ pub(crate) fn put_at(
     let Some((_, slot)) = slots.get(key) else {
         unreachable!()
     };
+    let had = slot.state;
     let put = Slot {
         session,
         part,
@@ -183,6 +187,7 @@ pub(crate) fn put_at(
     };
     cells.put(session, part, put.state);
     slots.replace(key, put);
+    had
 }
 
 /// Adds a message. One whose number is taken is answered as want of memory.

@@ -6,12 +6,12 @@ use Rattle.hx_records.proofs.Records.bring.Goals as goal
 pub invariant_of-self : goal.invariant_of-self
 invariant_of-self c =
     let m = c.args.message.now in
-    let rows = c.write.ensures.rows ∙ ap (row_put c.self.inside.slots.rows m.session m.part) c.state_after.ensures in
-    brought c.self.inside c.args.self.now m c.args.outcome c.state-has.result c.write.new.self c.leave.new.counts c.settle_flags.new.flags
-    c.self.view_is c.self.invariant c.requires.kept c.requires.pending c.state-has.ensures c.leave.ensures rows c.write.ensures.mail
+    let rows = c.write-has.ensures.rows ∙ ap (row_put c.self.inside.slots.rows m.session m.part) c.state_after.ensures in
+    brought c.self.inside c.args.self.now m c.args.outcome c.write-has.result c.write-has.new.self c.leave.new.counts c.settle_flags.new.flags
+    c.self.view_is c.self.invariant c.requires.kept c.requires.pending c.write-has.ensures.had c.leave.ensures rows c.write-has.ensures.mail
 
 pub returns : goal.returns
 returns c =
     let m = c.args.message.now in
-    let rows = c.write.ensures.rows ∙ ap (row_put c.self.inside.slots.rows m.session m.part) c.state_after.ensures in
-    brought_now c.self.inside c.args.self.now m c.args.outcome c.write.new.self c.settle_flags.new.flags c.self.view_is c.requires.pending rows c.write.ensures.mail c.settle_flags.ensures
+    let rows = c.write-has.ensures.rows ∙ ap (row_put c.self.inside.slots.rows m.session m.part) c.state_after.ensures in
+    brought_now c.self.inside c.args.self.now m c.args.outcome c.write-has.new.self c.settle_flags.new.flags c.self.view_is c.requires.pending rows c.write-has.ensures.mail c.settle_flags.ensures
