@@ -12,3 +12,4 @@ pub mod Moves
 pub mod Visiting
 pub mod Spanning
 pub mod Gathered
+pub mod Putting

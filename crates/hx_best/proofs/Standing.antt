@@ -28,10 +28,10 @@ use Rattle.hx_best.specs.Places.{Placing, model_in, wants_at, rows_at}
 use Rattle.hx_best.specs.Still.{is_there, is_at_goal, goal_on, stands, list_stands, map_stands, is_on, list_covers, map_covers}
 use Rattle.hx_lists.proofs.Conditions.{and-first, and-second, and-both}
 
-same_number : (a b : ℕ) → (a == b) ≡ true → a ≡ b
+pub same_number : (a b : ℕ) → (a == b) ≡ true → a ≡ b
 same_number a b e = grind (arith, nat_tests, e)
 
-is_same : (a : ℕ) → (a == a) ≡ true
+pub is_same : (a : ℕ) → (a == a) ≡ true
 is_same a = grind (arith, nat_tests)
 
 -- a test of all items, in an order
@@ -39,7 +39,7 @@ all-insert : {X : Type 0} (lt : X → X → Bool) (q : X → Bool) (x : X) (ys :
 all-insert lt q x [] = grind arith
 all-insert lt q x (y ∷ ys) = grind (arith, all-insert lt q x ys)
 
-all-sort : {X : Type 0} (lt : X → X → Bool) (q : X → Bool) (xs : List X) → list_all q (sort_by lt xs) ≡ list_all q xs
+pub all-sort : {X : Type 0} (lt : X → X → Bool) (q : X → Bool) (xs : List X) → list_all q (sort_by lt xs) ≡ list_all q xs
 all-sort lt q [] = refl
 all-sort lt q (x ∷ xs) = all-insert lt q x (sort_by lt xs) ∙ ap (λ (b : Bool). q x && b) (all-sort lt q xs)
 
@@ -53,7 +53,7 @@ all-filtered {X} {Y} q f t (x ∷ xs) e = one (t x) refl (all-filtered q f t xs 
     one false is more here = more
 
 -- who is shown on an instance is shown there
-shown_on : (live : List (SessionId × InstanceId)) (i : InstanceId) (s : SessionId) → session_in live i ≡ Some s → list_any (is_shown_as s i) live ≡ true
+pub shown_on : (live : List (SessionId × InstanceId)) (i : InstanceId) (s : SessionId) → session_in live i ≡ Some s → list_any (is_shown_as s i) live ≡ true
 shown_on [] i s e = cc
 shown_on (x ∷ live) i s e = one (x.1.0 == i.0) refl e (shown_on live i s)
   where
@@ -63,6 +63,10 @@ shown_on (x ∷ live) i s e = one (x.1.0 == i.0) refl e (shown_on live i s)
         let same : x.0 ≡ s = cc in
         grind (arith, at, is_same s.0, ap (λ (t : SessionId). t.0 == s.0) same)
     one false at is more = grind (arith, more is)
+
+pub own_session : (o : Option SessionId) (s : SessionId) → option_map_or (λ t. t.0 == s.0) o false ≡ true → o ≡ Some s
+own_session None s h = cc
+own_session (Some t) s h = ap (λ (n : ℕ). let u : SessionId = record { 0 = n } in Some u) (same_number t.0 s.0 h)
 
 -- where none is shown twice, a session has the instance where it is shown
 none_later : (live : List (SessionId × InstanceId)) (a : ℕ) (s : SessionId) (i : InstanceId) → AllByRecursion (λ b. (a == b) ≡ false) (map (λ e. e.0.0) live) → a ≡ s.0 → list_any (is_shown_as s i) live ≡ false
@@ -106,6 +110,25 @@ row_passes q s p (r ∷ rows) all some = one (r.session.0 == s.0) refl (part_eq 
     one false is true of all some more = more (and-second (q r) _ all) some
     one false is false of all some more = more all some
 
+-- where each row is of an instance where one is wanted, who has a row is on such an instance
+module _ (x : Placing) (p : PartId) (expects : Row → Bool) (plain : IsPlain x.view.live) where
+  on_session : (i : InstanceId) (r : Row) (s : SessionId) → is_on x.view.live i r ≡ true → (r.session.0 == s.0) ≡ true → session_in x.view.live i ≡ Some s
+  on_session i r s on of = one (session_in x.view.live i) on
+    where
+      one : (o : Option SessionId) → option_map_or (λ t. r.session.0 == t.0) o false ≡ true → o ≡ Some s
+      one None e = cc
+      one (Some t) e =
+          let same : t.0 ≡ s.0 = sym (same_number r.session.0 t.0 e) ∙ same_number r.session.0 s.0 of in
+          ap (λ (n : ℕ). let u : SessionId = record { 0 = n } in Some u) same
+
+  pub row_wanted : list_all expects (rows_at x p) ≡ true → ((r : Row) → expects r ≡ true → (i : InstanceId) × ((is_wanted (wants_at x p) i ≡ true) × (is_on x.view.live i r ≡ true)))
+      → (s : SessionId) (i : InstanceId) → list_any (is_shown_as s i) x.view.live ≡ true → is_some (row_of x.view.rows s p) ≡ true → is_wanted (wants_at x p) i ≡ true
+  row_wanted rows theirs s i shown some =
+      let row = row_passes expects s p x.view.rows rows some in
+      let entry = theirs row.0 row.1.0 in
+      let same : entry.0 ≡ i = one_instance x.view.live plain.once s i entry.0 shown (on_session entry.0 row.0 s entry.1.1 row.1.1) in
+      subst (λ (j : InstanceId). is_wanted (wants_at x p) j ≡ true) same entry.1.0
+
 -- what the entries are to show of a part: the replica of each instance where one is wanted stands, and each row is of such an instance
 record Shows (x : Placing) (p : PartId) (wants : Wants) (expects : Row → Bool) : Type 0 where
   each : (i : InstanceId) → is_wanted wants i ≡ true → stands x p i (wanted_goal (model_in x) x.view x.resource p wants i) ≡ true
@@ -115,15 +138,6 @@ record Shows (x : Placing) (p : PartId) (wants : Wants) (expects : Row → Bool)
 module _ (x : Placing) (p : PartId) (expects : Row → Bool) (shows : Shows x p (wants_at x p) expects) (kept : x.resource.dropped ≡ false) (plain : IsPlain x.view.live) where
   abbrev live_of : List (SessionId × InstanceId)
   live_of = x.view.live
-
-  on_session : (i : InstanceId) (r : Row) (s : SessionId) → is_on x.view.live i r ≡ true → (r.session.0 == s.0) ≡ true → session_in x.view.live i ≡ Some s
-  on_session i r s on of = one (session_in x.view.live i) on
-    where
-      one : (o : Option SessionId) → option_map_or (λ t. r.session.0 == t.0) o false ≡ true → o ≡ Some s
-      one None e = cc
-      one (Some t) e =
-          let same : t.0 ≡ s.0 = sym (same_number r.session.0 t.0 e) ∙ same_number r.session.0 s.0 of in
-          ap (λ (n : ℕ). let u : SessionId = record { 0 = n } in Some u) same
 
   its_goal : (s : SessionId) (i : InstanceId) → is_wanted (wants_at x p) i ≡ true → goal x.models x.view x.resource p s i ≡ goal_on x p s i (wanted_goal (model_in x) x.view x.resource p (wants_at x p) i)
   its_goal s i wanted = rw (kept, wanted) refl
@@ -135,11 +149,7 @@ module _ (x : Placing) (p : PartId) (expects : Row → Bool) (shows : Shows x p 
       ∙ subst (λ (o : Option SessionId). option_map_or (λ s. is_there (model_in x) (state_of x.view.rows s p) (goal_on x p s i w)) o true ≡ true) own (shows.each i wanted)
 
   not_wanted : (s : SessionId) (i : InstanceId) → list_any (is_shown_as s i) x.view.live ≡ true → is_some (row_of x.view.rows s p) ≡ true → is_wanted (wants_at x p) i ≡ true
-  not_wanted s i shown some =
-      let row = row_passes expects s p x.view.rows shows.rows some in
-      let entry = shows.theirs row.0 row.1.0 in
-      let same : entry.0 ≡ i = one_instance x.view.live plain.once s i entry.0 shown (on_session entry.0 row.0 s entry.1.1 row.1.1) in
-      subst (λ (j : InstanceId). is_wanted (wants_at x p) j ≡ true) same entry.1.0
+  not_wanted = row_wanted x p expects plain shows.rows shows.theirs
 
   session_done : (s : SessionId) (i : InstanceId) → session_in x.view.live i ≡ Some s → (not (is_target x.view x.resource p (s, i)) || is_at_goal (model_in x) (target x.models x.view x.resource p (s, i))) ≡ true
   session_done s i own = one (is_some (row_of x.view.rows s p)) refl (is_wanted (wants_at x p) i) refl
@@ -155,12 +165,8 @@ module _ (x : Placing) (p : PartId) (expects : Row → Bool) (shows : Shows x p 
   each_done [] own = refl
   each_done (e ∷ es) own =
       and-both (not (is_target x.view x.resource p e) || is_at_goal (model_in x) (target x.models x.view x.resource p e)) _
-      (session_done e.0 e.1 (one (session_in x.view.live e.1) (and-first (option_map_or (λ s. s.0 == e.0.0) (session_in x.view.live e.1) false) _ own)))
+      (session_done e.0 e.1 (own_session (session_in x.view.live e.1) e.0 (and-first (option_map_or (λ s. s.0 == e.0.0) (session_in x.view.live e.1) false) _ own)))
       (each_done es (and-second (option_map_or (λ s. s.0 == e.0.0) (session_in x.view.live e.1) false) _ own))
-    where
-      one : (o : Option SessionId) → option_map_or (λ s. s.0 == e.0.0) o false ≡ true → o ≡ Some e.0
-      one None h = cc
-      one (Some t) h = ap (λ (n : ℕ). let u : SessionId = record { 0 = n } in Some u) (same_number t.0 e.0.0 h)
 
   all_done : list_all (is_at_goal (model_in x)) (targets_at x.models x.view x.resource p) ≡ true
   all_done =
@@ -184,7 +190,7 @@ module _ (x : Placing) (p : PartId) (i : InstanceId) (s : SessionId) (on : Some 
       ap (λ (o : Option SessionId). option_map_or (λ s. is_there (model_in x) (state_of x.view.rows s p) (goal_on x p s i wanted)) o true) (sym on)
       ∙ ap (λ (o : Option StateId). is_there (model_in x) o (goal_on x p s i wanted)) (sym has) ∙ ap (is_there (model_in x) state) (sym is) ∙ there
 
-  eligible_is : is_eligible x.view p i ≡ (not (is_drained x.view.ideals.drained i) && not (is_error state))
+  pub eligible_is : is_eligible x.view p i ≡ (not (is_drained x.view.ideals.drained i) && not (is_error state))
   eligible_is =
       ap (λ (o : Option SessionId). option_map_or (λ s. not (is_drained x.view.ideals.drained i) && not (is_in_error x.view s p)) o false) (sym on)
       ∙ ap (λ (o : Option StateId). not (is_drained x.view.ideals.drained i) && not (is_error o)) (sym has)
@@ -244,7 +250,7 @@ mapped_stands x p (e ∷ map) i stand any = one (e.0.0 == i.0) refl any (and-fir
     one false at any here more = more any
 
 -- an entry that a row is of
-some_entry : {X : Type 0} (instance : X → InstanceId) (on : InstanceId → Bool) (xs : List X) → list_any (λ y. on (instance y)) xs ≡ true
+pub some_entry : {X : Type 0} (instance : X → InstanceId) (on : InstanceId → Bool) (xs : List X) → list_any (λ y. on (instance y)) xs ≡ true
     → (i : InstanceId) × ((list_any (λ y. (instance y).0 == i.0) xs ≡ true) × (on i ≡ true))
 some_entry instance on [] any = cc
 some_entry {X} instance on (y ∷ xs) any = one (on (instance y)) refl any (some_entry instance on xs)
@@ -279,7 +285,7 @@ module _ (x : Placing) (p : PartId) (kept : x.resource.dropped ≡ false) (plain
 
 -- by the mode of the resource
 module _ (x : Placing) (p : PartId) (kept : x.resource.dropped ≡ false) (plain : IsPlain x.view.live) (mode : Mode) (of : mode ≡ x.resource.ideal.mode) where
-  wants_is : (m : Mode) → mode ≡ m → wants_at x p ≡ wants_in m x.view x.resource.ideal.replicas p.index
+  pub wants_is : (m : Mode) → mode ≡ m → wants_at x p ≡ wants_in m x.view x.resource.ideal.replicas p.index
   wants_is m is = ap (λ (m : Mode). wants_in m x.view x.resource.ideal.replicas p.index) (sym of ∙ is)
 
   pub full_still : (list : List InstanceId) → mode ≡ modes.Full → list ≡ in_turn (open_instances x.view) x.resource.ideal.replicas p.index

@@ -7,3 +7,4 @@ pub mod Places
 pub mod Numbers
 pub mod Visits
 pub mod Still
+pub mod Listed

@@ -151,6 +151,9 @@ impl Shown<'_> {
             ≡ found.old.items
             ++ targets_at self.now.0.models self.now.0.view self.now.0.resource self.now.1) }
     {
+        if self.add_listed(&mut room.list, found)? {
+            return Ok(());
+        }
         let past = self.visits(room)?;
         self.push_targets(&room.visits, past, found)
     }

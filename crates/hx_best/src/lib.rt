@@ -2,6 +2,7 @@
 #![tactic(auto)]
 
 mod aims;
+mod listed;
 mod lookups;
 mod marks;
 mod moving;

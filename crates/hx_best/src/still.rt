@@ -20,7 +20,7 @@ use hx_model::{DROPPED, ERROR};
 use std::alloc::AllocError;
 
 /// The state of the first row of a session, the place of which is noted.
-fn meet(rows: &[Row], session: SessionId, met: &mut u64) -> Option<StateId>
+pub fn meet(rows: &[Row], session: SessionId, met: &mut u64) -> Option<StateId>
     requires { length rows.now < 64 }
     ensures state { result
         ≡ option_map (λ r. r.state) (find (λ r. r.session.0 == session.0) rows.now) }
@@ -46,7 +46,7 @@ impl Shown<'_> {
     }
 
     /// The goal of a session's replica in a state, where it is wanted in another one.
-    fn goal_on(
+    pub fn goal_on(
         &self,
         session: SessionId,
         instance: InstanceId,
@@ -94,7 +94,7 @@ impl Shown<'_> {
     }
 
     /// Whether the places of all rows of the part were noted.
-    fn has_all_rows(&self, met: u64) -> bool
+    pub fn has_all_rows(&self, met: u64) -> bool
         requires { length (rows_at self.now.0 self.now.1) < 64 }
         ensures { result ≡ true
             → (k : ℕ) → k < length (rows_at self.now.0 self.now.1) → has_number met k ≡ true }

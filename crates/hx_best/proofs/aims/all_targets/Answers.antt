@@ -1,4 +1,4 @@
-use Rattle.std.proofs.Common.{◌≡◌, ℕ, List, ◌++◌, ◌∙◌, ap, sym}
+use Rattle.std.proofs.Common.{ℕ, List, ◌++◌, ◌∙◌, ap, sym}
 use Rattle.hx_cluster.specs.declared.planning.Target.{Target}
 use Rattle.hx_best.specs.Targets.{targets}
 use Rattle.hx_best.proofs.Found.{flat_map-numbers_below_more}
