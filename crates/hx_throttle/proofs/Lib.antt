@@ -1,3 +1,4 @@
 pub mod Finding
 pub mod Counting
 pub mod Walk
+pub mod Cells

@@ -1,9 +1,11 @@
 -- The walk over the accepted candidates.
 use Rattle.std.proofs.Common.{◌≡◌, ℕ, ◌+◌, ◌<◌, Bool, true, false, List, [], ◌∷◌, ◌++◌, length, drop, get_or, append_assoc, refl, sym, ap, subst, ◌∙◌, arith}
-use Rattle.std.specs.Prelude.{slice_get, Option, None, Some, is_some, not, if◌then◌else◌}
+use Rattle.std.specs.Prelude.{◌==◌, slice_get, Option, None, Some, Result, Ok, Err, IfOk, is_some, not, if◌then◌else◌}
 use Rattle.std.specs.List.{fold}
 use Rattle.std.specs.Option.{option_to_list}
-use Rattle.std.proofs.lemmas.List.{at_drop_more}
+use Rattle.std.proofs.lemmas.Bool.{false≢true}
+use Rattle.std.proofs.lemmas.Bool.Decides.{nat_tests}
+use Rattle.std.proofs.lemmas.List.{at_drop_more, append-nil}
 use Rattle.hx_lists.specs.Choices.{with_chosen, left_after}
 use Rattle.hx_lists.proofs.Choosing.{chosen_more, chosen_same, left_more, left_same}
 use Rattle.hx_ids.specs.declared.InstanceId.{InstanceId}
@@ -95,6 +97,18 @@ pub record IsSifted (rules : List Rule) (view : View) (accepted : List Candidate
 pub record IsWalked (rules : List Rule) (view : View) (accepted : List Candidate) (i : ℕ) (sent : List Candidate) (held : List Held) (table : Numbers) : Type 0 where
   pub sifted : IsSifted rules view accepted i sent table
   pub holding : held ++ left_after (is_sent rules view) (said rules view) sent (drop i accepted) ≡ held_of rules view accepted
+
+-- where there are no rules all are sent
+all_chosen : (view : View) (sent accepted : List Candidate) → fold (with_chosen (is_sent [] view)) sent accepted ≡ sent ++ accepted
+all_chosen view sent [] = sym (append-nil sent)
+all_chosen view sent (c ∷ accepted) = all_chosen view (sent ++ c ∷ []) accepted ∙ append_assoc sent (c ∷ []) accepted
+
+pub all_sent : {E : Type 0} (rules : List Rule) (view : View) (accepted : List Candidate) (result : Result (List Candidate) E) → (length rules == 0) ≡ true
+    → IfOk result (λ list. list ≡ accepted) → IfOk result (λ sent. sent ≡ sent_of rules view accepted)
+all_sent [] view accepted (Ok sent) none is = is ∙ sym (all_chosen view [] accepted)
+all_sent [] view accepted (Err e) none is = is
+all_sent (r ∷ rules) view accepted result none is =
+    let some : (length (r ∷ rules) == 0) ≡ false = grind (arith, nat_tests) in absurd (false≢true (sym some ∙ none))
 
 -- one more is sent
 pub sifted_sent : (rules : List Rule) (view : View) (accepted : List Candidate) (i : ℕ) (sent : List Candidate) (old new : Numbers) (d : Candidate) (k : Keyed)

@@ -1,6 +1,6 @@
 use Rattle.std.proofs.Common.{◌+◌, ◌∙◌, get_or, sym, ap}
 use Rattle.std.specs.Prelude.{is_some}
-use Rattle.hx_throttle.proofs.Walk.{keyed_is, sent_where_none, sifted_sent, sifted_held, sifted_same}
+use Rattle.hx_throttle.proofs.Walk.{keyed_is, all_sent, sent_where_none, sifted_sent, sifted_held, sifted_same}
 use Rattle.hx_throttle.proofs.sent_on.Goals as goal
 use Rattle.hx_throttle.proofs.sent_on.Goals.{then-is_none+in_ok-count+in_ok-push, else-is_none}
 use Rattle.hx_cluster.proofs.Absent.{no_candidate}
@@ -23,3 +23,6 @@ loop-candidate-preserved c =
           sifted_same rules view accepted (i + 1) _ _ _ _ (sym w.sent-is) (sym w.loads-is)
           (sifted_held rules view accepted i at.sent at.loads no_candidate c.loop-candidate-test.true (found ∙ w.if-is_none.false) at.invariant)
     ]
+
+pub returns-then-is_empty : goal.returns-then-is_empty
+returns-then-is_empty c = all_sent c.args.rules.now c.args.view.now c.args.accepted.now c.from_slice.result (sym c.is_empty.ensures ∙ c.if-is_empty.true) c.from_slice.ensures
