@@ -1,5 +1,5 @@
 -- The answers to runs.
-use Rattle.std.proofs.Common.{◌≡◌, ℕ, List, [], ◌++◌, None, Some, Result, Ok, Err, refl, sym, ap, ap₂, subst, ◌∙◌}
+use Rattle.std.proofs.Common.{◌≡◌, ℕ, Bool, false, List, [], ◌++◌, None, Some, Result, Ok, Err, refl, sym, ap, ap₂, subst, ◌∙◌}
 use Rattle.std.specs.Prelude.{IfOk}
 use Rattle.std.proofs.lemmas.List.{append-nil}
 use Rattle.hx_cluster.specs.Steps.{opening}
@@ -38,38 +38,39 @@ full : (r : Deed) (weight : ℕ) → full_at r ≡ Some weight → IsFull r weig
 full (GoesOn items x answer) weight e = cc
 full (Stops items x) weight e = let same = some_same x.world.weight weight e in record { status = refl; text = ap history_full_text same; summary = ap history_full_text same }
 
-module _ (s : Scenario) (run : Simulated) (is : IsSimulated s run) where
-  abbrev r : Deed
-  r = sim_run s.spec s.lines
+abbrev run_of : Scenario → Deed
+run_of s = sim_run s.spec s.lines
 
+-- of one that is printed
+module _ (s : Scenario) (run : Simulated) (is : IsSimulated s false run) where
   pub sim_done : (reply : Reply) → run.full ≡ None → reply.status.0 ≡ statuses.done → reply.text ≡ run.page → AnswersAs (sim_answer s) reply
   sim_done reply none status text =
-      let d = done r (sym is.full ∙ none) in
-      record {
-        status = status ∙ sym d.status;
-        text = text ∙ is.page ∙ sym (append-nil (items_text s.spec (opening s.spec) (items_of r))) ∙ ap (λ t. items_text s.spec (opening s.spec) (items_of r) ++ t) (sym d.text);
-      }
+      let d = done (run_of s) (sym is.full ∙ none) in
+      let log = items_text s.spec (opening s.spec) (items_of (run_of s)) in
+      record { status = status ∙ sym d.status; text = text ∙ is.page ∙ sym (append-nil log) ∙ ap (λ t. log ++ t) (sym d.text) }
 
   pub sim_full : (reply : Reply) (weight : ℕ) → run.full ≡ Some weight → reply.status.0 ≡ statuses.history_full → reply.text ≡ run.page ++ history_full_text weight → AnswersAs (sim_answer s) reply
   sim_full reply weight some status text =
-      let d = full r weight (sym is.full ∙ some) in
+      let d = full (run_of s) weight (sym is.full ∙ some) in
       record { status = status ∙ sym d.status; text = text ∙ ap₂ (λ (a b : List ℕ). a ++ b) is.page (sym d.text) }
-
-  pub summary_done : (reply : Reply) → run.full ≡ None → reply.status.0 ≡ statuses.done → reply.text ≡ summary_of run.board.history → AnswersAs (summary_answer s) reply
-  summary_done reply none status text =
-      let d = done r (sym is.full ∙ none) in
-      record { status = status ∙ sym d.status; text = text ∙ ap summary_of is.history ∙ sym d.summary }
-
-  pub summary_full : (reply : Reply) (weight : ℕ) → run.full ≡ Some weight → reply.status.0 ≡ statuses.history_full → reply.text ≡ history_full_text weight → AnswersAs (summary_answer s) reply
-  summary_full reply weight some status text =
-      let d = full r weight (sym is.full ∙ some) in
-      record { status = status ∙ sym d.status; text = text ∙ sym d.summary }
 
   -- where there was memory for the text
   pub sim_ends_full : {E : Type 0} (r : Result Reply E) (weight : ℕ) → run.full ≡ Some weight → IfOk r (λ reply. reply.status.0 ≡ statuses.history_full)
       → IfOk r (λ reply. reply.text ≡ run.page ++ history_full_text weight) → IfOk r (AnswersAs (sim_answer s))
   sim_ends_full (Ok reply) weight some status text = sim_full reply weight some status text
   sim_ends_full (Err e) weight some status text = tt
+
+-- of one whose summary alone is told
+module _ (s : Scenario) (muted : Bool) (run : Simulated) (is : IsSimulated s muted run) where
+  pub summary_done : (reply : Reply) → run.full ≡ None → reply.status.0 ≡ statuses.done → reply.text ≡ summary_of run.board.history → AnswersAs (summary_answer s) reply
+  summary_done reply none status text =
+      let d = done (run_of s) (sym is.full ∙ none) in
+      record { status = status ∙ sym d.status; text = text ∙ ap summary_of is.history ∙ sym d.summary }
+
+  pub summary_full : (reply : Reply) (weight : ℕ) → run.full ≡ Some weight → reply.status.0 ≡ statuses.history_full → reply.text ≡ history_full_text weight → AnswersAs (summary_answer s) reply
+  summary_full reply weight some status text =
+      let d = full (run_of s) weight (sym is.full ∙ some) in
+      record { status = status ∙ sym d.status; text = text ∙ sym d.summary }
 
   pub summary_ends_full : {E : Type 0} (r : Result Reply E) (weight : ℕ) (page : List ℕ) → run.full ≡ Some weight → page ≡ [] → IfOk r (λ reply. reply.status.0 ≡ statuses.history_full)
       → IfOk r (λ reply. reply.text ≡ page ++ history_full_text weight) → IfOk r (AnswersAs (summary_answer s))

@@ -1,5 +1,5 @@
 -- The world that a script begins with, and what its run comes to.
-use Rattle.std.specs.Prelude.{◌≡◌, ℕ, ◌+◌, true, List, [], ◌∷◌, map, length, Option, None, Some}
+use Rattle.std.specs.Prelude.{◌≡◌, ℕ, ◌+◌, Bool, true, List, [], ◌∷◌, map, length, Option, None, Some}
 use Rattle.hx_lists.specs.Lists.{numbers_below}
 use Rattle.hx_cluster.specs.declared.description.Spec.{Spec}
 use Rattle.hx_cluster.specs.declared.description.Failure.{Failure}
@@ -14,6 +14,7 @@ use Rattle.hx_worlds.specs.Items.{items_text}
 use Rattle.hx_worlds.specs.Runs.{Deed, GoesOn, Stops, items_of, state_of}
 use Rattle.hx_worlds.specs.Scripts.{are_next_lines, most_weight, sim_run}
 use Rattle.hx_scene.specs.Scenes.{SceneState}
+use Rattle.hx_scene.specs.Heard.{heard}
 use Rattle.hx_replies.specs.declared.input.Scenario.{Scenario}
 use Rattle.hx_replies.specs.declared.simulation.Simulated.{Simulated}
 
@@ -45,8 +46,8 @@ staff_from n (failures ∷ more) = staff_at n failures ∷ staff_from (n + 1) mo
 abbrev pub numbers_of : List Line → List ℕ
 numbers_of lines = map (λ line. line.number) lines
 
-abbrev pub opening_scene : Spec → List Line → SceneState
-opening_scene spec lines = record {
+abbrev pub opening_scene : Bool → Spec → List Line → SceneState
+opening_scene muted spec lines = record {
   spec = spec;
   board = new_board spec (numbers_of lines) most_weight;
   controllers = controllers_of spec.controllers;
@@ -54,6 +55,7 @@ opening_scene spec lines = record {
   jobs = [];
   bag = [];
   handed = 0;
+  muted = muted;
 }
 
 -- a scene on which nothing happened, and whose board takes the numbers of lines that it can be given in turn
@@ -68,8 +70,8 @@ abbrev pub full_at : Deed → Option ℕ
 full_at (GoesOn items x answer) = None
 full_at (Stops items x) = Some x.world.weight
 
--- the run of a scenario's script, up to where the history has no room
-pub record IsSimulated (s : Scenario) (run : Simulated) : Type 0 where
-  pub page : run.page ≡ items_text s.spec (opening s.spec) (items_of (sim_run s.spec s.lines))
+-- the run of a scenario's script, up to where the history has no room, in a world that is muted or prints
+pub record IsSimulated (s : Scenario) (muted : Bool) (run : Simulated) : Type 0 where
+  pub page : run.page ≡ heard muted (items_text s.spec (opening s.spec) (items_of (sim_run s.spec s.lines)))
   pub history : run.board.history ≡ (state_of (sim_run s.spec s.lines)).world.history
   pub full : run.full ≡ full_at (sim_run s.spec s.lines)

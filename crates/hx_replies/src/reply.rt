@@ -15,7 +15,7 @@ ghost use Rattle.hx_replies.specs.Answers.{
 };
 
 use crate::input::{InputFault, InputRefusal, Scenario, read_scenario};
-use crate::simulation::{print_full, simulate};
+use crate::simulation::{print_full, simulate, simulate_muted};
 use hx_answers::{Reply, Status, refuse_description, refuse_script};
 use hx_board::Board;
 use hx_genwork::make;
@@ -86,7 +86,7 @@ fn summarized(alloc: Global, scenario: Scenario) -> Result<Reply, AllocError>
     requires { IsGiven scenario }
     ensures { IfOk result (AnswersAs (summary_answer scenario)) }
 {
-    let run = simulate(alloc, scenario)?;
+    let run = simulate_muted(alloc, scenario)?;
     match run.full {
         None => Ok(done(summary_page(alloc, &run.board)?)),
         Some(weight) => ended_full(weight, Page::new(alloc)),

@@ -1,5 +1,5 @@
 //! A script that is run in a world.
-ghost use Rattle.std.specs.Prelude.{◌≡◌, ◌≤◌, ◌^◌, IfOk, length, map};
+ghost use Rattle.std.specs.Prelude.{◌≡◌, ◌≤◌, ◌^◌, true, false, IfOk, length, map};
 ghost use Rattle.hx_board.specs.Board.{new_board};
 ghost use Rattle.hx_print.specs.Texts.{history_full_text};
 ghost use Rattle.hx_replicas.specs.Participants.{failures_on};
@@ -177,7 +177,7 @@ fn parts_of(alloc: Global, spec: &Spec, lines: &[Line]) -> Result<Parts, AllocEr
 /// The world that a script begins with.
 fn opening(alloc: Global, spec: Spec, lines: &[Line]) -> Result<World<ScriptedFactory>, AllocError>
     requires { IsGiven (record { spec = spec; lines = lines.now }) }
-    ensures { IfOk result (λ world. world ≡ opening_scene spec lines.now) }
+    ensures { IfOk result (λ world. world ≡ opening_scene false spec lines.now) }
 {
     let Parts {
         board,
@@ -187,13 +187,31 @@ fn opening(alloc: Global, spec: Spec, lines: &[Line]) -> Result<World<ScriptedFa
     World::from_parts(alloc, spec, board, controllers, staff)
 }
 
-/// Runs a script in a world of its own.
-pub(crate) fn simulate(alloc: Global, scenario: Scenario) -> Result<Simulated, AllocError>
+/// The world that a script begins with, which is muted or prints.
+fn opening_as(
+    alloc: Global,
+    spec: Spec,
+    lines: &[Line],
+    muted: bool,
+) -> Result<World<ScriptedFactory>, AllocError>
+    requires { IsGiven (record { spec = spec; lines = lines.now }) }
+    ensures { IfOk result (λ world. world ≡ opening_scene muted spec lines.now) }
+{
+    let mut world = opening(alloc, spec, lines)?;
+    if !muted {
+        return Ok(world);
+    }
+    world.mute();
+    Ok(world)
+}
+
+/// Runs a script in a world of its own, which is muted or prints.
+fn run(alloc: Global, scenario: Scenario, muted: bool) -> Result<Simulated, AllocError>
     requires { IsGiven scenario }
-    ensures { IfOk result (IsSimulated scenario) }
+    ensures { IfOk result (IsSimulated scenario muted) }
 {
     let Scenario { spec, lines } = scenario;
-    let mut world = opening(alloc, spec, lines.as_slice())?;
+    let mut world = opening_as(alloc, spec, lines.as_slice(), muted)?;
     let mut page = Page::new(alloc);
     let ended = do_script(&mut world, lines.as_slice(), &mut page);
     let board = world.close();
@@ -210,6 +228,22 @@ pub(crate) fn simulate(alloc: Global, scenario: Scenario) -> Result<Simulated, A
         }),
         Err(RoomFault::OutOfMemory) => Err(AllocError),
     }
+}
+
+/// Runs a script in a world of its own.
+pub(crate) fn simulate(alloc: Global, scenario: Scenario) -> Result<Simulated, AllocError>
+    requires { IsGiven scenario }
+    ensures { IfOk result (IsSimulated scenario false) }
+{
+    run(alloc, scenario, false)
+}
+
+/// Runs a script as `simulate` does, in a world that prints nothing.
+pub(crate) fn simulate_muted(alloc: Global, scenario: Scenario) -> Result<Simulated, AllocError>
+    requires { IsGiven scenario }
+    ensures { IfOk result (IsSimulated scenario true) }
+{
+    run(alloc, scenario, true)
 }
 
 /// Prints that the history is full.

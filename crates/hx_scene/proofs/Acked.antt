@@ -12,7 +12,6 @@ use Rattle.hx_cluster.specs.declared.happenings.WriteRefusal.{WriteRefusal}
 use Rattle.hx_cluster.specs.declared.happenings.AckFault.{AckFault}
 use Rattle.hx_cluster.specs.Events.{can_write, can_ack}
 use Rattle.hx_cluster.specs.Marks.{write_refusal, ack_refusal}
-use Rattle.hx_print.specs.Texts.{entry_text}
 use Rattle.hx_print.specs.declared.Note.TheVariants as notes
 use Rattle.hx_text.specs.Texts.{PutsFront}
 use Rattle.hx_board.specs.Board.{Held, HasHistory, happened as on_board}
@@ -26,6 +25,7 @@ use Rattle.hx_worlds.specs.Runs.{Deed, GoesOn, done, and_then, make, note, items
 use Rattle.hx_worlds.specs.Items.{Happens}
 use Rattle.hx_worlds.specs.Jobs.{do_write, write_job, do_ack, ack_job, is_job, with_written, end_job}
 use Rattle.hx_scene.specs.Scenes.{SceneState, OpenState, plain_job, at, lists_of}
+use Rattle.hx_scene.specs.Heard.{entry_heard}
 use Rattle.hx_scene.specs.Doing.{Keeps, Reaches, Ends, IsCut}
 use Rattle.hx_scene.specs.Kept.{IsScene, IsListed}
 use Rattle.hx_scene.specs.Ending.{CanEnd, KeepsParts, ended_staff, plain_staff, staff_in}
@@ -56,7 +56,7 @@ module _ {s : SceneState} {i : InstanceId} {id : MsgId} {n : ℕ} {j : OpenState
 
   keeps_ended : (board : Held) → board.lines ≡ s.board.lines → Keeps s (ended_scene s board later after) []
   keeps_ended board lines =
-      keeps_unasked e.kept.lists lines (λ c. let below = e.kept.below s.handed (c.staff, c.jobs) in record { few = c.few; staff = below.0; jobs = below.1 })
+      keeps_unasked refl e.kept.lists lines (λ c. let below = e.kept.below s.handed (c.staff, c.jobs) in record { few = c.few; staff = below.0; jobs = below.1 })
 
   listed_ended : All (IsListed (map (λ (p : ParticipantState). p.listed) after)) later
   listed_ended = subst (λ (l : List (Option (List Failure))). All (IsListed l) later) (sym e.kept.lists) (e.kept.listed (lists_of s) h.scene.listed)
@@ -105,12 +105,12 @@ module _ {s : SceneState} {i : InstanceId} {id : MsgId} {n : ℕ} {j : OpenState
       ∙ ap (λ y. GoesOn (Happens event ∷ []) (end_job (plain_job j) y) tt) (at_happened event s t a refl)
       ∙ ap (λ y. GoesOn (Happens event ∷ []) y tt) (ended_at (on_board s.board event) a)
 
-  ack_ends : (v : Voice) → j.is_written ≡ true → ack_refusal s.board.cluster j.ran.message.session j.ran.message.id ≡ None → (p q : List ℕ) → q ≡ p ++ entry_text s.spec s.board.cluster event
+  ack_ends : (v : Voice) → j.is_written ≡ true → ack_refusal s.board.cluster j.ran.message.session j.ran.message.id ≡ None → (p q : List ℕ) → q ≡ p ++ entry_heard s event
       → Ends (λ x. do_ack v i id x) s p tt (ended_scene s (on_board s.board event) later after) q
   ack_ends v written free p q text =
       event_ends (λ x. do_ack v i id x) event tt [] s (ended_scene s (on_board s.board event) later after) p q (λ a _. ack_goes v a written free) refl refl (keeps_ended (on_board s.board event) refl) text
 
-  ack_cut : (v : Voice) → j.is_written ≡ true → ack_refusal s.board.cluster j.ran.message.session j.ran.message.id ≡ None → (p q : List ℕ) → PutsFront (entry_text s.spec s.board.cluster event) p q
+  ack_cut : (v : Voice) → j.is_written ≡ true → ack_refusal s.board.cluster j.ran.message.session j.ran.message.id ≡ None → (p q : List ℕ) → PutsFront (entry_heard s event) p q
       → IsCut (λ x. do_ack v i id x) s p (ended_scene s (on_board s.board event) later after) q
   ack_cut v written free p q front =
       event_cut (λ x. do_ack v i id x) event [] s (ended_scene s (on_board s.board event) later after) p q (λ a _. ([], ap items_of (ack_goes v a written free))) refl refl
@@ -119,7 +119,7 @@ module _ {s : SceneState} {i : InstanceId} {id : MsgId} {n : ℕ} {j : OpenState
   ack_scene : j.is_written ≡ true → ack_refusal s.board.cluster j.ran.message.session j.ran.message.id ≡ None → HasHistory (on_board s.board event)
       → IsScene (ended_scene s (on_board s.board event) later after)
   ack_scene written free history =
-      let kept = kept_going {spec = s.spec} (ack_ends Quiet written free [] (entry_text s.spec s.board.cluster event) refl) h.scene.of_history h.scene.in_step
+      let kept = kept_going {spec = s.spec} (ack_ends Quiet written free [] (entry_heard s event) refl) h.scene.of_history h.scene.in_step
       (λ a st. ack_keeps s.spec (valid_in s h.scene) (since s.board.cluster.line) Quiet i id (at s a) st) in
       record { own = h.scene.own; history = history; of_history = kept.0; in_step = kept.1; listed = listed_ended }
 

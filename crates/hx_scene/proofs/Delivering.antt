@@ -64,6 +64,7 @@ scene_put s i p q is scene stands = record {
 
 keeps_put : (s : SceneState) (i : InstanceId) (p q : ParticipantState) → IsIn s i p q → ((most : ℕ) → IsBelow most p → IsBelow most q) → Keeps s (put_staff s i q) []
 keeps_put s i p q is below = record {
+  muted = refl;
   lists = lists_same s i p q is;
   lines = refl;
   told = λ c. (

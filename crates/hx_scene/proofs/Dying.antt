@@ -1,5 +1,5 @@
 -- An instance's session dies in a scene, and its participant stops: the scene stays one, and what is done is the operation.
-use Rattle.std.proofs.Common.{◌≡◌, ℕ, ◌⊎◌, inl, inr, true, List, [], ◌++◌, None, Some, refl, sym, ap, subst, ◌∙◌}
+use Rattle.std.proofs.Common.{◌≡◌, ℕ, ◌⊎◌, inl, inr, true, false, List, [], ◌++◌, None, Some, refl, sym, ap, subst, ◌∙◌}
 use Rattle.std.specs.Prelude.{Option, Result, Ok, Err, IfErr}
 use Rattle.std.specs.List.{All}
 use Rattle.hx_ids.specs.declared.InstanceId.{InstanceId}
@@ -10,7 +10,6 @@ use Rattle.hx_cluster.specs.Steps.{has_instance}
 use Rattle.hx_text.specs.Texts.{Prints, PutsFront}
 use Rattle.hx_print.specs.declared.roll.Roll.{Roll}
 use Rattle.hx_print.specs.declared.Note.TheVariants as notes
-use Rattle.hx_print.specs.Texts.{event_text, entry_text}
 use Rattle.hx_board.specs.declared.faults.RoomFault.{RoomFault}
 use Rattle.hx_board.specs.declared.faults.RoomFault.TheVariants as rooms
 use Rattle.hx_board.specs.declared.faults.BoardFault.TheVariants as boards
@@ -26,6 +25,7 @@ use Rattle.hx_worlds.specs.Scripts.{died, do_die}
 use Rattle.hx_scripted.proofs.Standing.{since}
 use Rattle.hx_agreed.proofs.Operations.{die_keeps}
 use Rattle.hx_scene.specs.Scenes.{SceneState, OpenState, at, lists_of}
+use Rattle.hx_scene.specs.Heard.{event_heard, entry_heard}
 use Rattle.hx_scene.specs.Kept.{IsScene, IsListed}
 use Rattle.hx_scene.specs.Doing.{Keeps, Ends, IsCut, Fails, DoesDeed}
 use Rattle.hx_scene.specs.Rolls.{step_roll}
@@ -39,6 +39,7 @@ use Rattle.hx_scene.proofs.Turning.{printed_after}
 parts_kept : (s : SceneState) (b : Held) (later : List OpenState) (after : List ParticipantState) → b.lines ≡ s.board.lines → KeepsParts s.jobs later s.staff after
     → Keeps s (record s { board = b; jobs = later; staff = after }) []
 parts_kept s b later after lines kept = record {
+  muted = refl;
   lists = kept.lists;
   lines = lines;
   told = λ c. let below = kept.below s.handed (c.staff, c.jobs) in (record { few = c.few; staff = below.0; jobs = below.1 }, tt);
@@ -46,12 +47,12 @@ parts_kept s b later after lines kept = record {
 
 died_ends : (v : Voice) (i : InstanceId) (s : SceneState) (b : Held) (later : List OpenState) (after : List ParticipantState) → step_refusal s.board (steps.End i) ≡ None
     → b ≡ on_board s.board (end_event i) → Adopts i None s.jobs later s.staff after → KeepsParts s.jobs later s.staff after
-    → Ends (λ x. do_die v i x) s [] tt (record s { board = b; jobs = later; staff = after }) (entry_text s.spec s.board.cluster (end_event i))
+    → Ends (λ x. do_die v i x) s [] tt (record s { board = b; jobs = later; staff = after }) (entry_heard s (end_event i))
 died_ends v i s b later after free made adopts kept =
     let f = step_free s.board (steps.End i) free in
     let c = on_board s.board (end_event i) in
     let w : SceneState = record s { board = c; jobs = later; staff = after } in
-    let text = entry_text s.spec s.board.cluster (end_event i) in
+    let text = entry_heard s (end_event i) in
     subst (λ d. Ends (λ x. do_die v i x) s [] tt (record s { board = d; jobs = later; staff = after }) text) (sym made)
     (reaches_as (λ a. ap (λ (o : Option StepFault). died v i o (at s a)) f.none)
     (happens_and (end_event i) (λ x. adopt_in i None x) tt [] s w [] text f.room (λ a _. adopts (at (record s { board = c }) a)) refl refl (parts_kept s c later after refl kept) refl))
@@ -70,7 +71,7 @@ scene_died {s} i b later after is history has free made adopts kept =
     }
 
 died_cut : (v : Voice) (i : InstanceId) (s : SceneState) (b : Held) (later : List OpenState) (after : List ParticipantState) (p q : List ℕ) → step_refusal s.board (steps.End i) ≡ None
-    → b ≡ on_board s.board (end_event i) → KeepsParts s.jobs later s.staff after → PutsFront (entry_text s.spec s.board.cluster (end_event i)) p q
+    → b ≡ on_board s.board (end_event i) → KeepsParts s.jobs later s.staff after → PutsFront (entry_heard s (end_event i)) p q
     → IsCut (λ x. do_die v i x) s p (record s { board = b; jobs = later; staff = after }) q
 died_cut v i s b later after p q free made kept front =
     let f = step_free s.board (steps.End i) free in
@@ -96,8 +97,8 @@ abbrev there : InstanceId → SceneState → List OpenState → List Participant
 there i s later after = record s { board = on_board s.board (end_event i); jobs = later; staff = after }
 
 printed_end : {R : Type 0} {roll : Roll} (v : Voice) (i : InstanceId) (s : SceneState) (later : List OpenState) (after : List ParticipantState) (p q : List ℕ) (result : Result R RoomFault)
-    → step_refusal s.board (steps.End i) ≡ None → Adopts i None s.jobs later s.staff after → KeepsParts s.jobs later s.staff after → roll ≡ step_roll s.board.cluster (steps.End i)
-    → Prints (event_text s.spec roll (end_event i)) p result q → IfErr result (λ x. x ≡ rooms.OutOfMemory) → DoesDeed (λ x. do_die v i x) s p (there i s later after) q result
+    → step_refusal s.board (steps.End i) ≡ None → Adopts i None s.jobs later s.staff after → KeepsParts s.jobs later s.staff after → (s.muted ≡ false → roll ≡ step_roll s.board.cluster (steps.End i))
+    → Prints (event_heard s roll (end_event i)) p result q → IfErr result (λ x. x ≡ rooms.OutOfMemory) → DoesDeed (λ x. do_die v i x) s p (there i s later after) q result
 printed_end v i s later after p q (Ok t) free adopts kept same printed memory =
     printed_after p q (died_ends v i s (on_board s.board (end_event i)) later after free refl adopts kept) (printed.ok ∙ ap (λ text. p ++ text) (same_roll s (steps.End i) dids.Done same))
 printed_end v i s later after p q (Err fault) free adopts kept same printed memory =
@@ -105,10 +106,10 @@ printed_end v i s later after p q (Err fault) free adopts kept same printed memo
     (died_cut v i s (on_board s.board (end_event i)) later after p q free refl kept (subst (λ text. PutsFront text p q) (same_roll s (steps.End i) dids.Done same) printed.err))
 
 pub died_given : {R : Type 0} {roll : Roll} {s u : SceneState} (v : Voice) (i : InstanceId) (p q : List ℕ) (result : Result R RoomFault) → step_refusal s.board (steps.End i) ≡ None → HasEnded s u i
-    → roll ≡ step_roll s.board.cluster (steps.End i) → Prints (event_text u.spec roll (end_event i)) p result q → IfErr result (λ x. x ≡ rooms.OutOfMemory) → DoesDeed (λ x. do_die v i x) s p u q result
+    → (s.muted ≡ false → roll ≡ step_roll s.board.cluster (steps.End i)) → Prints (event_heard u roll (end_event i)) p result q → IfErr result (λ x. x ≡ rooms.OutOfMemory) → DoesDeed (λ x. do_die v i x) s p u q result
 died_given {R} {roll} {s} {u} v i p q result free ended same printed memory =
     subst (λ (w : SceneState). DoesDeed (λ x. do_die v i x) s p w q result) (sym ended.left)
-    (printed_end v i s ended.jobs ended.staff p q result free ended.adopts ended.kept same (subst (λ (w : SceneState). Prints (event_text w.spec roll (end_event i)) p result q) ended.left printed) memory)
+    (printed_end v i s ended.jobs ended.staff p q result free ended.adopts ended.kept same (subst (λ (w : SceneState). Prints (event_heard w roll (end_event i)) p result q) ended.left printed) memory)
 
 -- it is refused
 pub die_noted : {R : Type 0} {s t : SceneState} (v : Voice) (i : InstanceId) (fault : StepFault) (u : SceneState) (p q : List ℕ) (result : Result R RoomFault)

@@ -13,7 +13,6 @@ use Rattle.hx_cluster.specs.Ends.{message_of}
 use Rattle.hx_cluster.specs.Reads.{fetched}
 use Rattle.hx_cluster.specs.Steps.{has_instance, session_of}
 use Rattle.hx_text.proofs.Printing.{puts_none}
-use Rattle.hx_print.specs.Texts.{entry_text}
 use Rattle.hx_board.specs.declared.faults.RoomFault.{RoomFault}
 use Rattle.hx_board.specs.declared.faults.RoomFault.TheVariants as rooms
 use Rattle.hx_board.specs.Board.{Held, HasHistory, weight_at}
@@ -34,6 +33,7 @@ use Rattle.hx_agreed.proofs.DoingTurns.{Stands}
 use Rattle.hx_agreed.proofs.DoingLines.{kept_now}
 use Rattle.hx_agreed.proofs.Operations.{fetch_stands, fetch_keeps}
 use Rattle.hx_scene.specs.Scenes.{SceneState, OpenState, IsBagged, at, lists_of}
+use Rattle.hx_scene.specs.Heard.{entry_heard}
 use Rattle.hx_scene.specs.Doing.{Keeps, Fails, DoesDeed}
 use Rattle.hx_scene.specs.Kept.{IsScene, IsListed}
 use Rattle.hx_scene.specs.Ending.{KeepsParts, Follows}
@@ -79,14 +79,14 @@ module _ (s : SceneState) (i : InstanceId) (b : Held) (made : b ≡ on_board s.b
       (fetch_stands s.spec (valid_in s is) (since s.board.cluster.line) i (at s (Answered [])) (stands_in s is (Answered [])) there (room_is s.board.limit (weight_at s.board + 1) room))
 
   event_keeps : Keeps s (record s { board = b }) []
-  event_keeps = record { lists = refl; lines = ap (λ (c : Held). c.lines) made; told = λ c. (record { few = c.few; staff = c.staff; jobs = c.jobs }, tt) }
+  event_keeps = record { muted = refl; lists = refl; lines = ap (λ (c : Held). c.lines) made; told = λ c. (record { few = c.few; staff = c.staff; jobs = c.jobs }, tt) }
 
   event_here : (bag : List Message) → bag ≡ s.bag → IsScene s → has_instance s.board.cluster i ≡ true → HasHistory b → IsCutHere (λ x. do_fetch i x) s (record s { board = b; bag = bag })
   event_here bag same is there history =
       subst (λ (ms : List Message). IsCutHere (λ x. do_fetch i x) s (record s { board = b; bag = ms })) (sym same) (record {
         cut = λ p.
             cut_as (λ a. refl)
-            (happens_and_cut (fetch_event s i) (λ y. done (fetched_as i (fetched s.board.cluster i) y)) [] s (record s { board = b }) p p room made refl event_keeps (puts_none (entry_text s.spec s.board.cluster (fetch_event s i)) p p refl));
+            (happens_and_cut (fetch_event s i) (λ y. done (fetched_as i (fetched s.board.cluster i) y)) [] s (record s { board = b }) p p room made refl event_keeps (puts_none (entry_heard s (fetch_event s i)) p p refl));
         scene = scene_of_event is there history;
       })
 
@@ -103,6 +103,7 @@ module _ (s : SceneState) (i : InstanceId) (b : Held) (made : b ≡ on_board s.b
 
     fetched_keeps : Keeps s fetched_scene []
     fetched_keeps = record {
+      muted = refl;
       lists = kept.lists;
       lines = ap (λ (c : Held). c.lines) made;
       told = λ c. (record { few = c.few; staff = (kept.below s.handed (c.staff, c.jobs)).0; jobs = (kept.below s.handed (c.staff, c.jobs)).1 }, tt);
@@ -145,10 +146,10 @@ pub fetch_makes : {s : SceneState} {i : InstanceId} {b : Held} {mail : Mail} {la
 fetch_makes {s} {i} {b} {mail} {later} {after} {bag} {room} {ms} is there all made free follows kept put same put_them =
     fetch_makes_it s i b (event_made s i b mail all made) free later after bag (follows_mail s i mail later after all follows) kept (puts_mail s i mail bag room ms all put same put_them) is there
 
-pub fetch_made : {s u : SceneState} {b : Held} (i : InstanceId) (mail : Mail) → u.spec ≡ s.spec → mail ≡ fetched s.board.cluster i → Makes (λ x. do_fetch i x) (fetch_event s i) s b u
+pub fetch_made : {s u : SceneState} {b : Held} (i : InstanceId) (mail : Mail) → u.spec ≡ s.spec → u.muted ≡ s.muted → mail ≡ fetched s.board.cluster i → Makes (λ x. do_fetch i x) (fetch_event s i) s b u
     → IsMadeBy (λ x. do_fetch i x) (events.Fetch i mail.session (length mail.messages)) s u
-fetch_made {s} {u} {b} i mail same is made =
-    subst (λ (m : Mail). IsMadeBy (λ x. do_fetch i x) (events.Fetch i m.session (length m.messages)) s u) (sym is) (made_by same made)
+fetch_made {s} {u} {b} i mail same muted is made =
+    subst (λ (m : Mail). IsMadeBy (λ x. do_fetch i x) (events.Fetch i m.session (length m.messages)) s u) (sym is) (made_by same muted made)
 
 -- its messages are handed out
 pub fetch_gives : {R : Type 0} (i : InstanceId) (s u : SceneState) (result : Result R RoomFault) (fault : RoomFault) (p : List ℕ) → ((q : List ℕ) → Fails (λ x. do_fetch i x) s q fault u q)

@@ -35,11 +35,19 @@ use Rattle.hx_scripted.proofs.Standing.{Last, since}
 use Rattle.hx_agreed.proofs.DoingTurns.{Stands}
 use Rattle.hx_agreed.proofs.Operations.{stands_there, line_stands, step_keeps}
 use Rattle.hx_scene.specs.Scenes.{SceneState, at}
+use Rattle.hx_scene.specs.Heard.{heard, event_heard, entry_heard}
 use Rattle.hx_scene.specs.Kept.{IsScene}
 use Rattle.hx_scene.specs.Advances.{no_roll}
 use Rattle.hx_scene.specs.Rolls.{step_roll}
 use Rattle.hx_scene.specs.Doing.{Ends, Fails, DoesDeed}
+use Rattle.hx_scene.proofs.Fronts.{heard_all, heard_as}
 use Rattle.hx_scene.proofs.Reaching.{here, reaches_as, cut_here, cut_as, does_as, makes, makes_cut, at_happened, room_of, no_room_of}
+
+-- what was printed of an event, with the description that stands there
+pub prints_with : {T E : Type 0} {p q : List ℕ} {result : Result T E} {z spec : Spec} {muted : Bool} (roll : Roll) (e : Event) → muted ≡ false → z ≡ spec → Prints (event_text z roll e) p result q
+    → Prints (heard muted (event_text spec roll e)) p result q
+prints_with {T} {E} {p} {q} {result} {z} {spec} {muted} roll e prints same printed =
+    subst (λ t. Prints t p result q) (sym (heard_all (event_text spec roll e) prints)) (subst (λ y. Prints (event_text y roll e) p result q) same printed)
 
 -- the last of a history
 last_place : (h : List Event) (e : Event) → length (h ++ e ∷ []) - 1 ≡ length h
@@ -52,15 +60,10 @@ last_is es h e x is found =
     ∙ ap (λ (n : ℕ). get_or (h ++ e ∷ []) n x) (last_place h e)
     ∙ get_or-append_seam h e [] x
 
-pub prints_last : {T E : Type 0} {p q : List ℕ} {result : Result T E} (roll : Roll) (z : Spec) (x : Event) (es h : List Event) (e : Event) (spec : Spec) → es ≡ h ++ e ∷ []
-    → Some x ≡ slice_get es (length es - 1) → z ≡ spec → Prints (event_text z roll x) p result q → Prints (event_text spec roll e) p result q
-prints_last {T} {E} {p} {q} {result} roll z x es h e spec is found same printed =
-    subst (λ y. Prints (event_text spec roll y) p result q) (last_is es h e x is found) (subst (λ y. Prints (event_text y roll x) p result q) same printed)
-
--- what was printed of an event, with the description that stands there
-pub prints_with : {T E : Type 0} {p q : List ℕ} {result : Result T E} {z spec : Spec} (roll : Roll) (e : Event) → z ≡ spec → Prints (event_text z roll e) p result q
-    → Prints (event_text spec roll e) p result q
-prints_with {T} {E} {p} {q} {result} roll e same printed = subst (λ y. Prints (event_text y roll e) p result q) same printed
+pub prints_last : {T E : Type 0} {p q : List ℕ} {result : Result T E} {muted : Bool} (roll : Roll) (z : Spec) (x : Event) (es h : List Event) (e : Event) (spec : Spec) → muted ≡ false → es ≡ h ++ e ∷ []
+    → Some x ≡ slice_get es (length es - 1) → z ≡ spec → Prints (event_text z roll x) p result q → Prints (heard muted (event_text spec roll e)) p result q
+prints_last {T} {E} {p} {q} {result} roll z x es h e spec prints is found same printed =
+    prints_with {z = spec} roll e prints refl (subst (λ y. Prints (event_text spec roll y) p result q) (last_is es h e x is found) (subst (λ y. Prints (event_text y roll x) p result q) same printed))
 
 -- what was printed, by an answer of another type: memory alone can be wanting
 pub prints_failed : {R T E : Type 0} {text p q : List ℕ} {fault : E} (result : Result R RoomFault) → Prints {T = T} text p (Err fault) q → IsErrAnd result (λ x. x ≡ rooms.OutOfMemory) → Prints text p result q
@@ -116,13 +119,13 @@ refused_as f s b p fault more stops same (inr refused) =
 
 -- an event was made, and printed whole or by a front
 pub printed_event : {T E : Type 0} (f : State → Deed) (e : Event) (s : SceneState) (b : Held) (roll : Roll) (p q : List ℕ) (t : T) → ((a : Answers) → f (at s a) ≡ make e (at s a))
-    → b ≡ on_board s.board e → event_text s.spec roll e ≡ entry_text s.spec s.board.cluster e → Prints {E = E} (event_text s.spec roll e) p (Ok t) q → Ends f s p tt (record s { board = b }) q
+    → b ≡ on_board s.board e → event_heard s roll e ≡ entry_heard s e → Prints {E = E} (event_heard s roll e) p (Ok t) q → Ends f s p tt (record s { board = b }) q
 printed_event f e s b roll p q t is made same printed =
     reaches_as is (makes e s (record s { board = b }) p q (ap (λ c. record s { board = c }) made) (printed.ok ∙ ap (λ text. p ++ text) same))
 
 pub printed_front : {R T E : Type 0} (f : State → Deed) (e : Event) (s : SceneState) (b : Held) (roll : Roll) (p q : List ℕ) (fault : E) (result : Result R RoomFault)
-    → ((a : Answers) → f (at s a) ≡ make e (at s a)) → b ≡ on_board s.board e → event_text s.spec roll e ≡ entry_text s.spec s.board.cluster e
-    → Prints {T = T} (event_text s.spec roll e) p (Err fault) q → IsErrAnd result (λ x. x ≡ rooms.OutOfMemory) → DoesDeed f s p (record s { board = b }) q result
+    → ((a : Answers) → f (at s a) ≡ make e (at s a)) → b ≡ on_board s.board e → event_heard s roll e ≡ entry_heard s e
+    → Prints {T = T} (event_heard s roll e) p (Err fault) q → IsErrAnd result (λ x. x ≡ rooms.OutOfMemory) → DoesDeed f s p (record s { board = b }) q result
 printed_front f e s b roll p q fault (Ok x) is made same printed failed = absurd failed
 printed_front f e s b roll p q fault (Err x) is made same printed failed =
     subst (λ y. Fails f s p y (record s { board = b }) q) (sym failed)
@@ -147,18 +150,18 @@ line_made : (s : SceneState) (n : ℕ) (a : Answers) → next_line_of s.board �
 line_made s n a next free = made_here (events.Line n) (at s a) (room_of s.board 1 rooms.HistoryFull (sym (line_room s.board n next) ∙ free))
 
 line_printed : {T E : Type 0} (n : ℕ) (s : SceneState) (b : Held) (p q : List ℕ) (t : T) → next_line_of s.board ≡ Some n → line_refusal s.board ≡ None → b ≡ line_taken s.board (next_line_of s.board)
-    → Prints {E = E} (event_text s.spec no_roll (events.Line n)) p (Ok t) q → Ends (λ x. happen (events.Line n) x) s p tt (record s { board = b }) q
+    → Prints {E = E} (event_heard s no_roll (events.Line n)) p (Ok t) q → Ends (λ x. happen (events.Line n) x) s p tt (record s { board = b }) q
 line_printed n s b p q t next free taken printed =
     printed_event (λ x. happen (events.Line n) x) (events.Line n) s b no_roll p q t (λ a. line_made s n a next free) (line_is s.board b n next taken) refl printed
 
 line_front : {R T E : Type 0} (n : ℕ) (s : SceneState) (b : Held) (p q : List ℕ) (fault : E) (result : Result R RoomFault) → next_line_of s.board ≡ Some n → line_refusal s.board ≡ None
-    → b ≡ line_taken s.board (next_line_of s.board) → Prints {T = T} (event_text s.spec no_roll (events.Line n)) p (Err fault) q
+    → b ≡ line_taken s.board (next_line_of s.board) → Prints {T = T} (event_heard s no_roll (events.Line n)) p (Err fault) q
     → IsErrAnd result (λ x. x ≡ rooms.OutOfMemory) → DoesDeed (λ x. happen (events.Line n) x) s p (record s { board = b }) q result
 line_front n s b p q fault result next free taken printed failed =
     printed_front (λ x. happen (events.Line n) x) (events.Line n) s b no_roll p q fault result (λ a. line_made s n a next free) (line_is s.board b n next taken) refl printed failed
 
 pub line_done : {R : Type 0} (n : ℕ) (s : SceneState) (b : Held) (p q : List ℕ) (result : Result R RoomFault) → next_line_of s.board ≡ Some n → line_refusal s.board ≡ None
-    → b ≡ line_taken s.board (next_line_of s.board) → Prints (event_text s.spec no_roll (events.Line n)) p result q → IfErr result (λ x. x ≡ rooms.OutOfMemory)
+    → b ≡ line_taken s.board (next_line_of s.board) → Prints (event_heard s no_roll (events.Line n)) p result q → IfErr result (λ x. x ≡ rooms.OutOfMemory)
     → DoesDeed (λ x. happen (events.Line n) x) s p (record s { board = b }) q result
 line_done n s b p q (Ok t) next free taken printed memory = line_printed n s b p q t next free taken printed
 line_done {R} n s b p q (Err fault) next free taken printed memory = line_front {R = R} n s b p q fault (Err fault) next free taken printed memory
@@ -243,22 +246,24 @@ serves spec c (steps.Lead k) did = refl
 serves spec c (steps.Stop k) did = refl
 serves spec c (steps.Start k) did = refl
 
-pub same_roll : {roll : Roll} (s : SceneState) (step : Admin) (did : Did) → roll ≡ step_roll s.board.cluster step
-    → event_text s.spec roll (events.Admin step did) ≡ entry_text s.spec s.board.cluster (events.Admin step did)
-same_roll s step did is = ap (λ r. event_text s.spec r (events.Admin step did)) is ∙ serves s.spec s.board.cluster step did
+pub same_roll : {roll : Roll} (s : SceneState) (step : Admin) (did : Did) → (s.muted ≡ false → roll ≡ step_roll s.board.cluster step)
+    → event_heard s roll (events.Admin step did) ≡ entry_heard s (events.Admin step did)
+same_roll {roll} s step did is =
+    heard_as s.muted (event_text s.spec roll (events.Admin step did)) (entry_text s.spec s.board.cluster (events.Admin step did))
+    (λ prints. ap (λ r. event_text s.spec r (events.Admin step did)) (is prints) ∙ serves s.spec s.board.cluster step did)
 
 -- it is printed, or memory is wanted for that
 pub step_given : {R : Type 0} {roll : Roll} (v : Voice) (step : Admin) (did : Did) (s : SceneState) (b : Held) (p q : List ℕ) (result : Result R RoomFault) → step_refusal s.board step ≡ None
-    → b ≡ on_board s.board (events.Admin step (did_of s.board.cluster step)) → did ≡ did_of s.board.cluster step → roll ≡ step_roll s.board.cluster step
-    → Prints (event_text s.spec roll (events.Admin step did)) p result q → IfErr result (λ x. x ≡ rooms.OutOfMemory) → DoesDeed (λ x. do_step v step x) s p (record s { board = b }) q result
+    → b ≡ on_board s.board (events.Admin step (did_of s.board.cluster step)) → did ≡ did_of s.board.cluster step → (s.muted ≡ false → roll ≡ step_roll s.board.cluster step)
+    → Prints (event_heard s roll (events.Admin step did)) p result q → IfErr result (λ x. x ≡ rooms.OutOfMemory) → DoesDeed (λ x. do_step v step x) s p (record s { board = b }) q result
 step_given {R} {roll} v step did s b p q (Ok t) free made answer is printed memory =
     let e = events.Admin step (did_of s.board.cluster step) in
     printed_event (λ x. do_step v step x) e s b roll p q t (λ a. step_made s v step a free) made (same_roll s step (did_of s.board.cluster step) is)
-    (subst (λ d. Prints {T = R} {E = RoomFault} (event_text s.spec roll (events.Admin step d)) p (Ok t) q) answer printed)
+    (subst (λ d. Prints {T = R} {E = RoomFault} (event_heard s roll (events.Admin step d)) p (Ok t) q) answer printed)
 step_given {R} {roll} v step did s b p q (Err fault) free made answer is printed memory =
     let e = events.Admin step (did_of s.board.cluster step) in
     printed_front {R = R} (λ x. do_step v step x) e s b roll p q fault (Err fault) (λ a. step_made s v step a free) made (same_roll s step (did_of s.board.cluster step) is)
-    (subst (λ d. Prints {T = R} {E = RoomFault} (event_text s.spec roll (events.Admin step d)) p (Err fault) q) answer printed) memory
+    (subst (λ d. Prints {T = R} {E = RoomFault} (event_heard s roll (events.Admin step d)) p (Err fault) q) answer printed) memory
 
 pub scene_of_step : {s : SceneState} (b : Held) (v : Voice) (step : Admin) → IsScene s → HasHistory b → is_in_range s.board.cluster step ≡ true → step_refusal s.board step ≡ None
     → b ≡ on_board s.board (events.Admin step (did_of s.board.cluster step)) → IsScene (record s { board = b })

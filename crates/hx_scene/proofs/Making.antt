@@ -3,13 +3,14 @@ use Rattle.std.proofs.Common.{◌≡◌, ℕ, List, ◌++◌, sym, ap, subst, �
 use Rattle.std.specs.Prelude.{Result, Ok, Err, IsErrAnd, IfErr, OnErr}
 use Rattle.hx_cluster.specs.declared.happenings.Event.{Event}
 use Rattle.hx_text.specs.Texts.{Prints, PutsFront}
-use Rattle.hx_print.specs.Texts.{event_text, entry_text}
+use Rattle.hx_print.specs.Texts.{event_text}
 use Rattle.hx_board.specs.Board.{Held, HasHistory, happened}
 use Rattle.hx_board.specs.declared.faults.RoomFault.{RoomFault}
 use Rattle.hx_board.specs.declared.faults.RoomFault.TheVariants as rooms
 use Rattle.hx_worlds.specs.World.{State}
 use Rattle.hx_worlds.specs.Runs.{Run, Deed}
 use Rattle.hx_scene.specs.Scenes.{SceneState}
+use Rattle.hx_scene.specs.Heard.{heard, event_heard, entry_heard}
 use Rattle.hx_scene.specs.Advances.{no_roll}
 use Rattle.hx_scene.specs.Doing.{Reaches, Ends, IsCut, Fails, Does, DoesDeed}
 use Rattle.hx_scene.specs.Kept.{IsScene}
@@ -19,14 +20,14 @@ use Rattle.hx_scene.proofs.Reaching.{does_after}
 -- with the event made, an operation is done at a scene
 pub record Makes (f : State → Deed) (e : Event) (s : SceneState) (board : Held) (u : SceneState) : Type 0 where
   pub made : board ≡ happened s.board e
-  pub line : event_text s.spec no_roll e ≡ entry_text s.spec s.board.cluster e
-  pub ends : (p q : List ℕ) → q ≡ p ++ entry_text s.spec s.board.cluster e → Ends f s p tt u q
-  pub cut : (p q : List ℕ) → PutsFront (entry_text s.spec s.board.cluster e) p q → IsCut f s p u q
+  pub line : event_heard s no_roll e ≡ entry_heard s e
+  pub ends : (p q : List ℕ) → q ≡ p ++ entry_heard s e → Ends f s p tt u q
+  pub cut : (p q : List ℕ) → PutsFront (entry_heard s e) p q → IsCut f s p u q
   pub scene : HasHistory board → IsScene u
 
 -- from the scene that the event gives, for the one that the calls left
-pub makes_as : {f : State → Deed} {e : Event} {s u w : SceneState} {board : Held} → u ≡ w → board ≡ happened s.board e → event_text s.spec no_roll e ≡ entry_text s.spec s.board.cluster e
-    → ((p q : List ℕ) → q ≡ p ++ entry_text s.spec s.board.cluster e → Ends f s p tt w q) → ((p q : List ℕ) → PutsFront (entry_text s.spec s.board.cluster e) p q → IsCut f s p w q)
+pub makes_as : {f : State → Deed} {e : Event} {s u w : SceneState} {board : Held} → u ≡ w → board ≡ happened s.board e → event_heard s no_roll e ≡ entry_heard s e
+    → ((p q : List ℕ) → q ≡ p ++ entry_heard s e → Ends f s p tt w q) → ((p q : List ℕ) → PutsFront (entry_heard s e) p q → IsCut f s p w q)
     → (HasHistory (happened s.board e) → IsScene w) → Makes f e s board u
 makes_as {f} {e} {s} {u} {w} {board} is made line ends cut scene =
     subst (λ (z : SceneState). Makes f e s board z) (sym is) (record {
@@ -39,16 +40,16 @@ makes_as {f} {e} {s} {u} {w} {board} is made line ends cut scene =
 
 -- the event is printed, or memory is wanted for that
 pub makes_given : {R : Type 0} {f : State → Deed} {e : Event} {s u : SceneState} {board : Held} → Makes f e s board u → (p q : List ℕ) (result : Result R RoomFault)
-    → Prints (event_text s.spec no_roll e) p result q → IfErr result (λ x. x ≡ rooms.OutOfMemory) → DoesDeed f s p u q result
+    → Prints (event_heard s no_roll e) p result q → IfErr result (λ x. x ≡ rooms.OutOfMemory) → DoesDeed f s p u q result
 makes_given m p q (Ok x) printed memory = m.ends p q (printed.ok ∙ ap (λ t. p ++ t) m.line)
 makes_given {R} {f} {e} {s} {u} {board} m p q (Err x) printed memory =
     subst (λ y. Fails f s p y u q) (sym memory) (m.cut p q (subst (λ t. PutsFront t p q) m.line printed.err))
 
 -- so too where the scene with the event made comes first, and the printing after it
-pub made_by : {f : State → Deed} {e : Event} {s u : SceneState} {board : Held} → u.spec ≡ s.spec → Makes f e s board u → IsMadeBy f e s u
-made_by {f} {e} {s} {u} {board} same m = record { line = ap (λ spec. event_text spec no_roll e) same ∙ m.line; ends = m.ends; cut = m.cut }
+pub made_by : {f : State → Deed} {e : Event} {s u : SceneState} {board : Held} → u.spec ≡ s.spec → u.muted ≡ s.muted → Makes f e s board u → IsMadeBy f e s u
+made_by {f} {e} {s} {u} {board} same muted m = record { line = ap (λ spec. heard u.muted (event_text spec no_roll e)) same ∙ ap (λ t. heard t (event_text s.spec no_roll e)) muted ∙ m.line; ends = m.ends; cut = m.cut }
 
-pub made_given : {R : Type 0} {f : State → Deed} {e : Event} {s u : SceneState} → IsMadeBy f e s u → (p q : List ℕ) (result : Result R RoomFault) → Prints (event_text u.spec no_roll e) p result q
+pub made_given : {R : Type 0} {f : State → Deed} {e : Event} {s u : SceneState} → IsMadeBy f e s u → (p q : List ℕ) (result : Result R RoomFault) → Prints (event_heard u no_roll e) p result q
     → IfErr result (λ x. x ≡ rooms.OutOfMemory) → DoesDeed f s p u q result
 made_given m p q (Ok x) printed memory = m.ends p q (printed.ok ∙ ap (λ t. p ++ t) m.line)
 made_given {R} {f} {e} {s} {u} m p q (Err x) printed memory =

@@ -1,5 +1,5 @@
 -- A scene is put together of parts that agree.
-use Rattle.std.proofs.Common.{◌≡◌, [], refl, sym, subst}
+use Rattle.std.proofs.Common.{◌≡◌, Bool, false, [], refl, sym, subst}
 use Rattle.std.proofs.lemmas.List.Elements.{All-nil}
 use Rattle.std.specs.List.{All}
 use Rattle.std.specs.Prelude.{List}
@@ -18,7 +18,7 @@ use Rattle.hx_scene.specs.Kept.{IsListed, IsScene}
 use Rattle.hx_scene.specs.Ending.{plain_staff}
 
 abbrev pub fresh : Spec → Held → List Controller → List ParticipantState → SceneState
-fresh spec board ks staff = record { spec = spec; board = board; controllers = ks; staff = staff; jobs = []; bag = []; handed = 0 }
+fresh spec board ks staff = record { spec = spec; board = board; controllers = ks; staff = staff; jobs = []; bag = []; handed = 0; muted = false }
 
 module _ (spec : Spec) (board : Held) (ks : List Controller) (staff : List ParticipantState) (history : HasHistory board)
     (orderly : All IsOrderly (plain_staff staff)) (agree : Agree spec (record { spec = board.spec; history = board.history }) ks (stationed_from 0 (plain_staff staff))) where
@@ -47,3 +47,7 @@ module _ (spec : Spec) (board : Held) (ks : List Controller) (staff : List Parti
         in_step = of_parts_in_step spec (world_of s) valid of_parts legal;
         listed = All-nil (IsListed (lists_of s));
       }
+
+-- muted it is one too
+pub scene_muted : {s : SceneState} (muted : Bool) → IsScene s → IsScene (record s { muted = muted })
+scene_muted muted is = record { own = is.own; history = is.history; of_history = is.of_history; in_step = is.in_step; listed = is.listed }

@@ -26,9 +26,10 @@ use Rattle.hx_scripted.proofs.Standing.{since, scripted_since}
 use Rattle.hx_agreed.specs.InStep.{IsInStep}
 use Rattle.hx_agreed.proofs.Going.{IsGoing}
 use Rattle.hx_scene.specs.Scenes.{SceneState, at, world_of, lists_of}
+use Rattle.hx_scene.specs.Heard.{heard, entry_heard}
 use Rattle.hx_scene.specs.Telling.{IsCharged}
 use Rattle.hx_scene.specs.Doing.{Asked, Gives, left, IsToldBy, AreTold, IsCounted, Keeps, Reaches, Ends, StopsHere, IsCut, Fails, Does}
-use Rattle.hx_scene.proofs.Fronts.{texts_both, prints_none, prints_event, prints_said, prints_all, prints_both}
+use Rattle.hx_scene.proofs.Fronts.{IsAfter, still, texts_both, prints_none, prints_event, prints_said, prints_all, prints_both}
 
 -- answers to one list of questions and then to another
 pub gives_both : (xs ys : List Asked) (a : Answers) → Gives xs a → Gives ys (left xs a) → Gives (xs ++ ys) a
@@ -81,18 +82,19 @@ pub counted_same : (s : SceneState) (b : Held) → IsCounted s → IsCounted (re
 counted_same s b c = record { few = c.few; staff = c.staff; jobs = c.jobs }
 
 pub keeps_nothing : (s : SceneState) → Keeps s s []
-keeps_nothing s = record { lists = refl; lines = refl; told = λ c. (c, tt) }
+keeps_nothing s = record { muted = refl; lists = refl; lines = refl; told = λ c. (c, tt) }
 
 -- where no handler was asked
-pub keeps_unasked : {s u : SceneState} → lists_of u ≡ lists_of s → u.board.lines ≡ s.board.lines → (IsCounted s → IsCounted u) → Keeps s u []
-keeps_unasked lists lines counted = record { lists = lists; lines = lines; told = λ c. (counted c, tt) }
+pub keeps_unasked : {s u : SceneState} → u.muted ≡ s.muted → lists_of u ≡ lists_of s → u.board.lines ≡ s.board.lines → (IsCounted s → IsCounted u) → Keeps s u []
+keeps_unasked muted lists lines counted = record { muted = muted; lists = lists; lines = lines; told = λ c. (counted c, tt) }
 
 pub keeps_board : (s u : SceneState) (b : Held) → u ≡ record s { board = b } → b.lines ≡ s.board.lines → Keeps s u []
 keeps_board s u b e lines =
-    subst (λ v. Keeps s v []) (sym e) (record { lists = refl; lines = lines; told = λ c. (counted_same s b c, tt) })
+    subst (λ v. Keeps s v []) (sym e) (record { muted = refl; lists = refl; lines = lines; told = λ c. (counted_same s b c, tt) })
 
 pub keeps_both : {s u v : SceneState} {xs ys : List Asked} → Keeps s u xs → Keeps u v ys → Keeps s v (xs ++ ys)
 keeps_both {s} {u} {v} {xs} {ys} a b = record {
+  muted = b.muted ∙ a.muted;
   lists = b.lists ∙ a.lists;
   lines = b.lines ∙ a.lines;
   told = λ c.
@@ -108,9 +110,12 @@ here f s p = record {
   items = [];
   goes = λ a _. sym (after_none (f (at s a)));
   brings = λ a. brings_nothing (past_of (at s a));
-  text = sym (append-nil p);
+  text = still s.muted p;
   keeps = keeps_nothing s;
 }
+
+after_reaching : {A : Type 0} {f g : State → Run A} {s u : SceneState} {p q : List ℕ} (a : Reaches f s p g u q) → IsAfter s u a.items
+after_reaching a = record { muted = a.keeps.muted; spec = (a.brings Missing).spec; cluster = (a.brings Missing).cluster }
 
 pub there : {A : Type 0} {f g h : State → Run A} {s u v : SceneState} {p q r : List ℕ} → Reaches f s p g u q → Reaches g u q h v r → Reaches f s p h v r
 there {A} {f} {g} {h} {s} {u} {v} {p} {q} {r} a b = record {
@@ -122,7 +127,7 @@ there {A} {f} {g} {h} {s} {u} {v} {p} {q} {r} a b = record {
       ∙ sym (after_both a.items b.items (h (at v (left b.asked (left a.asked o)))))
       ∙ ap (λ z. after_items (a.items ++ b.items) (h (at v z))) (sym (left_both a.asked b.asked o));
   brings = λ o. brings_both (past_of (at s o)) (past_of (at u o)) (past_of (at v o)) a.items b.items (a.brings o) (b.brings o);
-  text = texts_both s.spec u.spec s.board.cluster u.board.cluster a.items b.items p q r (a.brings Missing).spec (a.brings Missing).cluster a.text b.text;
+  text = texts_both s u a.items b.items p q r (after_reaching a) a.text b.text;
   keeps = keeps_both a.keeps b.keeps;
 }
 
@@ -206,7 +211,7 @@ cut_after {A} {f} {g} {s} {u} {v} {p} {q} {r} a b = record {
             ∙ sym (append_assoc a.items b.items rest.0),
       );
   brings = λ o. brings_both (past_of (at s o)) (past_of (at u o)) (past_of (at v o)) a.items b.items (a.brings o) (b.brings o);
-  text = prints_both s.spec u.spec s.board.cluster u.board.cluster a.items b.items p q r (a.brings Missing).spec (a.brings Missing).cluster a.text b.text;
+  text = prints_both s u a.items b.items p q r (after_reaching a) a.text b.text;
   keeps = keeps_both a.keeps b.keeps;
 }
 
@@ -292,7 +297,7 @@ cut_here f s p = record {
   items = [];
   front = λ a _. (items_of (f (at s a)), refl);
   brings = λ a. brings_nothing (past_of (at s a));
-  text = prints_none s.spec s.board.cluster p;
+  text = prints_none s p;
   keeps = keeps_nothing s;
 }
 
@@ -311,7 +316,7 @@ cut_at_end {A} {f} {s} {u} {p} {q} e = record {
   items = e.items;
   front = λ a given. ([], ap items_of (e.goes a given));
   brings = e.brings;
-  text = prints_all s.spec s.board.cluster e.items p q e.text;
+  text = prints_all s e.items p q e.text;
   keeps = e.keeps;
 }
 
@@ -322,7 +327,7 @@ nothing_yet f s p u board spec keeps = record {
   items = [];
   front = λ a _. (items_of (f (at s a)), refl);
   brings = λ a. brings_same s u a board spec;
-  text = prints_none s.spec s.board.cluster p;
+  text = prints_none s p;
   keeps = keeps;
 }
 
@@ -333,7 +338,7 @@ one_step f g s p u asked same board spec keeps = record {
   items = [];
   goes = λ a given. same a given ∙ sym (after_none (g (at u (left asked a))));
   brings = λ a. brings_same s u a board spec;
-  text = sym (append-nil p);
+  text = still s.muted p;
   keeps = keeps;
 }
 
@@ -397,23 +402,23 @@ brings_charged n text s u a is =
     (record { spec = refl; limit = refl; history = sym (append-nil s.board.history); cluster = refl; weight = omega arith })
 
 -- an event is made, and printed whole or by a front
-pub makes : (e : Event) (s u : SceneState) (p q : List ℕ) → u ≡ record s { board = on_board s.board e } → q ≡ p ++ entry_text s.spec s.board.cluster e → Ends (make e) s p tt u q
+pub makes : (e : Event) (s u : SceneState) (p q : List ℕ) → u ≡ record s { board = on_board s.board e } → q ≡ p ++ entry_heard s e → Ends (make e) s p tt u q
 makes e s u p q is text = record {
   asked = [];
   items = Happens e ∷ [];
   goes = λ a _. ap (λ x. GoesOn (Happens e ∷ []) x tt) (at_happened e s u a is);
   brings = λ a. brings_happened e s u a is;
-  text = text ∙ ap (λ t. p ++ t) (sym (append-nil (entry_text s.spec s.board.cluster e)));
+  text = text ∙ ap (λ t. p ++ heard s.muted t) (sym (append-nil (entry_text s.spec s.board.cluster e)));
   keeps = keeps_board s u (on_board s.board e) is refl;
 }
 
-pub makes_cut : (e : Event) (s u : SceneState) (p q : List ℕ) → u ≡ record s { board = on_board s.board e } → PutsFront (entry_text s.spec s.board.cluster e) p q → IsCut (make e) s p u q
+pub makes_cut : (e : Event) (s u : SceneState) (p q : List ℕ) → u ≡ record s { board = on_board s.board e } → PutsFront (entry_heard s e) p q → IsCut (make e) s p u q
 makes_cut e s u p q is front = record {
   asked = [];
   items = Happens e ∷ [];
   front = λ a _. ([], refl);
   brings = λ a. brings_happened e s u a is;
-  text = prints_event s.spec s.board.cluster e p q front;
+  text = prints_event s e p q front;
   keeps = keeps_board s u (on_board s.board e) is refl;
 }
 
@@ -422,7 +427,7 @@ happen_made : (e : Event) (s : SceneState) (a : Answers) → nat_lt s.board.limi
 happen_made e s a room = ap (λ (t : Bool). if t then Stops [] (at s a) else make e (at s a)) room
 
 pub happens : (e : Event) (s u : SceneState) (p q : List ℕ) → nat_lt s.board.limit (weight_at s.board + weight_of e) ≡ false → u ≡ record s { board = on_board s.board e }
-    → q ≡ p ++ entry_text s.spec s.board.cluster e → Ends (happen e) s p tt u q
+    → q ≡ p ++ entry_heard s e → Ends (happen e) s p tt u q
 happens e s u p q room is text = reaches_as (λ a. happen_made e s a room) (makes e s u p q is text)
 
 -- it has none
@@ -456,6 +461,7 @@ refused_at f n s u p fault stops same why =
 -- an event, and a pure change after it
 keeps_from : (s u : SceneState) (b : Held) (asked : List Asked) → b.lines ≡ s.board.lines → Keeps s u asked → Keeps (record s { board = b }) u asked
 keeps_from s u b asked lines k = record {
+  muted = k.muted;
   lists = k.lists;
   lines = k.lines ∙ sym lines;
   told = λ c. k.told (record { few = c.few; staff = c.staff; jobs = c.jobs });
@@ -463,7 +469,7 @@ keeps_from s u b asked lines k = record {
 
 pub makes_and : {A : Type 0} (e : Event) (change : State → State) (answer : A) (asked : List Asked) (s u : SceneState) (p q : List ℕ)
     → ((a : Answers) → Gives asked a → change (at (record s { board = on_board s.board e }) a) ≡ at u (left asked a))
-    → u.board ≡ on_board s.board e → u.spec ≡ s.spec → Keeps s u asked → q ≡ p ++ entry_text s.spec s.board.cluster e
+    → u.board ≡ on_board s.board e → u.spec ≡ s.spec → Keeps s u asked → q ≡ p ++ entry_heard s e
     → Ends (λ x. and_then (make e x) (λ y. gives (change y) answer)) s p answer u q
 makes_and e change answer asked s u p q same board spec keeps text =
     let w : SceneState = record s { board = on_board s.board e } in
@@ -474,7 +480,7 @@ makes_and e change answer asked s u p q same board spec keeps text =
 pub happens_and : {A : Type 0} (e : Event) (change : State → State) (answer : A) (asked : List Asked) (s u : SceneState) (p q : List ℕ)
     → nat_lt s.board.limit (weight_at s.board + weight_of e) ≡ false
     → ((a : Answers) → Gives asked a → change (at (record s { board = on_board s.board e }) a) ≡ at u (left asked a))
-    → u.board ≡ on_board s.board e → u.spec ≡ s.spec → Keeps s u asked → q ≡ p ++ entry_text s.spec s.board.cluster e
+    → u.board ≡ on_board s.board e → u.spec ≡ s.spec → Keeps s u asked → q ≡ p ++ entry_heard s e
     → Ends (λ x. and_then (happen e x) (λ y. gives (change y) answer)) s p answer u q
 happens_and e change answer asked s u p q room same board spec keeps text =
     reaches_as (λ a. ap (λ r. and_then r (λ y. gives (change y) answer)) (happen_made e s a room)) (makes_and e change answer asked s u p q same board spec keeps text)
@@ -488,36 +494,36 @@ brings_first e s u a board spec =
 -- an operation whose first item is an event, which was made, and maybe more of it done, but printed by a front
 pub event_cut : {A : Type 0} (f : State → Run A) (e : Event) (asked : List Asked) (s u : SceneState) (p q : List ℕ)
     → ((a : Answers) → Gives asked a → (more : List Item) × (items_of (f (at s a)) ≡ Happens e ∷ more))
-    → u.board ≡ on_board s.board e → u.spec ≡ s.spec → Keeps s u asked → PutsFront (entry_text s.spec s.board.cluster e) p q → IsCut f s p u q
+    → u.board ≡ on_board s.board e → u.spec ≡ s.spec → Keeps s u asked → PutsFront (entry_heard s e) p q → IsCut f s p u q
 event_cut f e asked s u p q is board spec keeps front = record {
   asked = asked;
   items = Happens e ∷ [];
   front = is;
   brings = λ a. brings_first e s u a board spec;
-  text = prints_event s.spec s.board.cluster e p q front;
+  text = prints_event s e p q front;
   keeps = keeps;
 }
 
 -- one that is that event, and with it is done
 pub event_ends : {A : Type 0} (f : State → Run A) (e : Event) (answer : A) (asked : List Asked) (s u : SceneState) (p q : List ℕ)
     → ((a : Answers) → Gives asked a → f (at s a) ≡ GoesOn (Happens e ∷ []) (at u (left asked a)) answer)
-    → u.board ≡ on_board s.board e → u.spec ≡ s.spec → Keeps s u asked → q ≡ p ++ entry_text s.spec s.board.cluster e → Ends f s p answer u q
+    → u.board ≡ on_board s.board e → u.spec ≡ s.spec → Keeps s u asked → q ≡ p ++ entry_heard s e → Ends f s p answer u q
 event_ends f e answer asked s u p q is board spec keeps text = record {
   asked = asked;
   items = Happens e ∷ [];
   goes = is;
   brings = λ a. brings_first e s u a board spec;
-  text = text ∙ ap (λ t. p ++ t) (sym (append-nil (entry_text s.spec s.board.cluster e)));
+  text = text ∙ ap (λ t. p ++ heard s.muted t) (sym (append-nil (entry_text s.spec s.board.cluster e)));
   keeps = keeps;
 }
 
 pub makes_and_cut : {B : Type 0} (e : Event) (g : State → Run B) (asked : List Asked) (s u : SceneState) (p q : List ℕ) → u.board ≡ on_board s.board e → u.spec ≡ s.spec → Keeps s u asked
-    → PutsFront (entry_text s.spec s.board.cluster e) p q → IsCut (λ x. and_then (make e x) g) s p u q
+    → PutsFront (entry_heard s e) p q → IsCut (λ x. and_then (make e x) g) s p u q
 makes_and_cut e g asked s u p q board spec keeps front =
     event_cut (λ x. and_then (make e x) g) e asked s u p q (λ a _. (items_of (g (happened e (at s a))), items_after (Happens e ∷ []) (g (happened e (at s a))))) board spec keeps front
 
 pub happens_and_cut : {B : Type 0} (e : Event) (g : State → Run B) (asked : List Asked) (s u : SceneState) (p q : List ℕ) → nat_lt s.board.limit (weight_at s.board + weight_of e) ≡ false
-    → u.board ≡ on_board s.board e → u.spec ≡ s.spec → Keeps s u asked → PutsFront (entry_text s.spec s.board.cluster e) p q → IsCut (λ x. and_then (happen e x) g) s p u q
+    → u.board ≡ on_board s.board e → u.spec ≡ s.spec → Keeps s u asked → PutsFront (entry_heard s e) p q → IsCut (λ x. and_then (happen e x) g) s p u q
 happens_and_cut e g asked s u p q room board spec keeps front =
     cut_as (λ a. ap (λ r. and_then r g) (happen_made e s a room)) (makes_and_cut e g asked s u p q board spec keeps front)
 
@@ -526,24 +532,24 @@ say_said : (n : ℕ) (text : List ℕ) (s : SceneState) (a : Answers) → nat_lt
 say_said n text s a room = ap (λ (t : Bool). if t then Stops [] (at s a) else GoesOn (Says n text ∷ []) (charged n (at s a)) tt) room
 
 pub says : (f : State → Deed) (n : ℕ) (text : List ℕ) (s u : SceneState) (p q : List ℕ) → ((a : Answers) → f (at s a) ≡ say n text (at s a))
-    → nat_lt s.board.limit (weight_at s.board + n) ≡ false → u ≡ record s { board = charged_board s.board n } → q ≡ p ++ text → Ends f s p tt u q
+    → nat_lt s.board.limit (weight_at s.board + n) ≡ false → u ≡ record s { board = charged_board s.board n } → q ≡ p ++ heard s.muted text → Ends f s p tt u q
 says f n text s u p q is room after printed = record {
   asked = [];
   items = Says n text ∷ [];
   goes = λ a _. is a ∙ say_said n text s a room ∙ ap (λ x. GoesOn (Says n text ∷ []) x tt) (at_charged n s u a after);
   brings = λ a. brings_charged n text s u a after;
-  text = printed ∙ ap (λ t. p ++ t) (sym (append-nil text));
+  text = printed ∙ ap (λ t. p ++ heard s.muted t) (sym (append-nil text));
   keeps = keeps_board s u (charged_board s.board n) after refl;
 }
 
 pub says_cut : (f : State → Deed) (n : ℕ) (text : List ℕ) (s u : SceneState) (p q : List ℕ) → ((a : Answers) → f (at s a) ≡ say n text (at s a))
-    → nat_lt s.board.limit (weight_at s.board + n) ≡ false → u ≡ record s { board = charged_board s.board n } → PutsFront text p q → IsCut f s p u q
+    → nat_lt s.board.limit (weight_at s.board + n) ≡ false → u ≡ record s { board = charged_board s.board n } → PutsFront (heard s.muted text) p q → IsCut f s p u q
 says_cut f n text s u p q is room after front = record {
   asked = [];
   items = Says n text ∷ [];
   front = λ a _. ([], ap items_of (is a ∙ say_said n text s a room));
   brings = λ a. brings_charged n text s u a after;
-  text = prints_said s.spec s.board.cluster n text p q front;
+  text = prints_said s n text p q front;
   keeps = keeps_board s u (charged_board s.board n) after refl;
 }
 
@@ -555,11 +561,11 @@ says_none f n text s p is full =
 
 -- by what the board's charge came to: it was made and the text printed; a front of the text was printed; the charge was refused
 pub said : {R : Type 0} (f : State → Deed) (n : ℕ) (text : List ℕ) (s u : SceneState) (p q : List ℕ) (r : R) → ((a : Answers) → f (at s a) ≡ say n text (at s a))
-    → IsCharged n s u (Ok r) → q ≡ p ++ text → Ends f s p tt u q
+    → IsCharged n s u (Ok r) → q ≡ p ++ heard s.muted text → Ends f s p tt u q
 said f n text s u p q r is charge printed = says f n text s u p q is (room_of s.board n rooms.HistoryFull charge.refused) charge.ok printed
 
 pub said_cut : {R : Type 0} (f : State → Deed) (n : ℕ) (text : List ℕ) (s u : SceneState) (p q : List ℕ) (r : R) (fault : RoomFault) → ((a : Answers) → f (at s a) ≡ say n text (at s a))
-    → IsCharged n s u (Ok r) → PutsFront text p q → fault ≡ rooms.OutOfMemory → Fails f s p fault u q
+    → IsCharged n s u (Ok r) → PutsFront (heard s.muted text) p q → fault ≡ rooms.OutOfMemory → Fails f s p fault u q
 said_cut f n text s u p q r fault is charge front memory =
     subst (λ x. Fails f s p x u q) (sym memory) (says_cut f n text s u p q is (room_of s.board n rooms.HistoryFull charge.refused) charge.ok front)
 

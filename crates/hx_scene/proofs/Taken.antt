@@ -23,7 +23,6 @@ use Rattle.hx_cluster.specs.Marks.{take_refusal}
 use Rattle.hx_lists.specs.Counts.{count_up, CountsOn}
 use Rattle.hx_handler.specs.Makings.{tried_of}
 use Rattle.hx_handler.specs.Told.{IsTold}
-use Rattle.hx_print.specs.Texts.{entry_text}
 use Rattle.hx_print.specs.declared.Note.{Note}
 use Rattle.hx_print.specs.declared.Note.TheVariants as notes
 use Rattle.hx_text.specs.Texts.{PutsFront}
@@ -43,6 +42,7 @@ use Rattle.hx_worlds.specs.Runs.{Deed, GoesOn, done, and_then, make, note, happe
 use Rattle.hx_worlds.specs.Items.{Happens}
 use Rattle.hx_worlds.specs.Jobs.{do_take, take_accepted, put_back, ran}
 use Rattle.hx_scene.specs.Scenes.{SceneState, OpenState, plain_job, world_of, at, staff_of, new_staff, lists_of}
+use Rattle.hx_scene.specs.Heard.{entry_heard}
 use Rattle.hx_scene.specs.Doing.{Asked, Gives, left, IsToldBy, AreTold, IsRunsBelow, IsBelow, IsCounted, Keeps, Reaches, Ends, IsCut}
 use Rattle.hx_scene.specs.Kept.{IsScene, IsListed}
 use Rattle.hx_scene.specs.Taking.{HandsOut, IsStill, IsRunBy, IsPutBack, IsTaken, IsRefused, TakesJob, TakesTo, opened}
@@ -173,6 +173,7 @@ module _ {s : SceneState} {i : InstanceId} {id : MsgId} {b : ParticipantState} {
 
   keeps_taken : (e : Event) (r : Ran) → IsRunBy job r → Keeps s (taken_scene s i b e r) (asked_by s i job ++ running_for i job.message job.handler r.outcome)
   keeps_taken e r k = record {
+    muted = refl;
     lists = lists_with;
     lines = refl;
     told = λ c. (
@@ -208,7 +209,7 @@ module _ {s : SceneState} {i : InstanceId} {id : MsgId} {b : ParticipantState} {
 
   -- the event is made, the scene is as that tells, and it is printed, whole or by a front
   take_ends : (v : Voice) (r : Ran) → IsRunBy job r → take_refusal s.board.cluster job.message.session job.message.id ≡ None → (p q : List ℕ)
-      → q ≡ p ++ entry_text s.spec s.board.cluster (events.Take job.message.session job.message.id)
+      → q ≡ p ++ entry_heard s (events.Take job.message.session job.message.id)
       → Ends (λ x. do_take v i id x) s p tt (taken_scene s i b (events.Take job.message.session job.message.id) r) q
   take_ends v r k free p q text =
       let e : Event = events.Take job.message.session job.message.id in
@@ -216,7 +217,7 @@ module _ {s : SceneState} {i : InstanceId} {id : MsgId} {b : ParticipantState} {
       (keeps_taken e r k) text
 
   take_cut : (v : Voice) (r : Ran) → IsRunBy job r → take_refusal s.board.cluster job.message.session job.message.id ≡ None → (p q : List ℕ)
-      → PutsFront (entry_text s.spec s.board.cluster (events.Take job.message.session job.message.id)) p q
+      → PutsFront (entry_heard s (events.Take job.message.session job.message.id)) p q
       → IsCut (λ x. do_take v i id x) s p (taken_scene s i b (events.Take job.message.session job.message.id) r) q
   take_cut v r k free p q front =
       let e : Event = events.Take job.message.session job.message.id in
@@ -227,7 +228,7 @@ module _ {s : SceneState} {i : InstanceId} {id : MsgId} {b : ParticipantState} {
       → HasHistory (on_board s.board (events.Take job.message.session job.message.id)) → IsScene (taken_scene s i b (events.Take job.message.session job.message.id) r)
   take_scene r k free history =
       let e : Event = events.Take job.message.session job.message.id in
-      let text = entry_text s.spec s.board.cluster e in
+      let text = entry_heard s e in
       let kept = kept_going {spec = s.spec} (take_ends Quiet r k free [] text refl) h.scene.of_history h.scene.in_step (λ a st. take_keeps s.spec (valid_in s h.scene) (since s.board.cluster.line) Quiet i id (at s a) st) in
       record {
         own = h.scene.own;
@@ -274,6 +275,7 @@ module _ {s : SceneState} {i : InstanceId} {id : MsgId} {b : ParticipantState} {
 
   keeps_back : (c : ParticipantState) → IsPutBack b c job → Keeps s (back_scene s i b c) (asked_by s i job)
   keeps_back c k = record {
+    muted = refl;
     lists = lists_back c k;
     lines = refl;
     told = λ n. (
@@ -311,7 +313,7 @@ module _ {s : SceneState} {i : InstanceId} {b : ParticipantState} (scene : IsSce
   still_lists = map-set_same (λ (p : ParticipantState). p.listed) s.staff i.0 b new_staff still.listed
 
   keeps_still : Keeps s (with_staff s i b) []
-  keeps_still = keeps_unasked still_lists refl (λ c. record {
+  keeps_still = keeps_unasked refl still_lists refl (λ c. record {
     few = c.few;
     staff = All-set (IsBelow s.handed) s.staff i.0 b (below_still s.handed (staff_of s i) b still (below_at s i lt c.staff)) c.staff;
     jobs = c.jobs;
@@ -441,7 +443,7 @@ run_comes {s} {i} {id} {b} {job} {reserved} h kept c board jobs (Ok told) t =
     (subst
     (λ (z : ParticipantState).
     IsMadeBy (λ x. do_take v i id x) (events.Take job.message.session job.message.id) s (record s { board = board; staff = slice_set s.staff i.0 z; jobs = jobs; handed = s.handed + 1 }))
-    (sym t.1) (made_by refl (took h t.0 kept v)))
+    (sym t.1) (made_by refl refl (took h t.0 kept v)))
 run_comes h kept c board jobs (Err why) r = λ v p. (refused h r kept v).reaches p
 
 pub run_scene : {s : SceneState} {i : InstanceId} {id : MsgId} {b : ParticipantState} {job : Job} {reserved : List OpenState} → IsHandedOut s i id b job → reserved ≡ s.jobs

@@ -1,6 +1,6 @@
 -- A controller takes a step of its turn in a scene: the scene stays one, and what is done is the operation.
 use Rattle.std.proofs.Common.{◌≡◌, ℕ, ◌⊎◌, inl, inr, not, Bool, true, false, List, [], ◌∷◌, ◌++◌, length, Option, None, Some, refl, sym, ap, subst, ◌∙◌}
-use Rattle.std.specs.Prelude.{if◌then◌else◌, slice_index_or, slice_set, Result, Ok, Err, IsErrAnd}
+use Rattle.std.specs.Prelude.{if◌then◌else◌, slice_index_or, slice_set, Result, Ok, Err, IfOk, IsErrAnd}
 use Rattle.std.proofs.lemmas.List.{set-get_or, get_or_read}
 use Rattle.std.proofs.Math.Seq.{take-nil}
 use Rattle.hx_ids.specs.declared.ControllerId.{ControllerId}
@@ -34,9 +34,11 @@ use Rattle.hx_worlds.specs.Runs.{Run, gives, and_then}
 use Rattle.hx_scripted.proofs.Standing.{since}
 use Rattle.hx_agreed.proofs.Operations.{controller_is, turn_planned, restart_stands}
 use Rattle.hx_scene.specs.Scenes.{SceneState, at, world_of}
+use Rattle.hx_scene.specs.Heard.{event_heard, entry_heard}
 use Rattle.hx_scene.specs.Kept.{IsScene}
 use Rattle.hx_scene.specs.Doing.{Keeps, Ends, IsCut, Fails, Does}
 use Rattle.hx_scene.specs.Advances.{advanced, advance, with_turn, IsStepped, IsRollFor}
+use Rattle.hx_scene.proofs.Fronts.{heard_as}
 use Rattle.hx_scene.proofs.Reaching.{reaches_as, cut_as, cut_here, cut_at_end, happens_and, happens_and_cut, changed_gives, room_of, no_room_of, kept_going}
 use Rattle.hx_scene.proofs.Standing.{valid_in, stands_in, has_turn}
 use Rattle.hx_scene.proofs.Advancing.{keeps_advance}
@@ -77,10 +79,15 @@ pub scene_restarted : {s : SceneState} (k : ControllerId) (x y : Controller) →
     → IsScene (record s { controllers = slice_set s.controllers k.0 y })
 scene_restarted k x y is there e idle = subst IsScene (sym (idle_is k x y is there e idle)) (scene_idle k is)
 
+-- a roll that serves it serves where it is printed
+pub rolls_printed : {E : Type 0} (s : SceneState) (k : ControllerId) (result : Result Roll E) → IfOk result (λ roll. IsRollFor s k roll) → IfOk result (λ roll. s.muted ≡ false → IsRollFor s k roll)
+rolls_printed s k (Ok roll) serves = λ printed. serves
+rolls_printed s k (Err e) serves = tt
+
 -- what a step prints
-abbrev printed_of : Spec → Cluster → Step → List ℕ
-printed_of spec c (Calls e o) = entry_text spec c e
-printed_of spec c _ = []
+abbrev printed_of : SceneState → Step → List ℕ
+printed_of s (Calls e o) = entry_heard s e
+printed_of s _ = []
 
 -- the scene after a step, by what is known of its parts
 turn_same : (s : SceneState) (j k : ControllerId) (b c : Held) (x y : Controller) → j ≡ k → b ≡ c → x ≡ y → with_turn s j b x ≡ with_turn s k c y
@@ -90,22 +97,22 @@ turn_kept : (s : SceneState) (k : ControllerId) → with_turn s k s.board (turn_
 turn_kept s k = ap (λ l. record s { controllers = l }) (set-get_or s.controllers k.0 (idle_controller k))
 
 keeps_turn : (s : SceneState) (k : ControllerId) (e : Event) (y : Controller) → Keeps s (with_turn s k (on_board s.board e) y) []
-keeps_turn s k e y = record { lists = refl; lines = refl; told = λ c. (record { few = c.few; staff = c.staff; jobs = c.jobs }, tt) }
+keeps_turn s k e y = record { muted = refl; lists = refl; lines = refl; told = λ c. (record { few = c.few; staff = c.staff; jobs = c.jobs }, tt) }
 
 keeps_same : (s : SceneState) (k : ControllerId) (y : Controller) → Keeps s (with_turn s k s.board y) []
-keeps_same s k y = record { lists = refl; lines = refl; told = λ c. (record { few = c.few; staff = c.staff; jobs = c.jobs }, tt) }
+keeps_same s k y = record { muted = refl; lists = refl; lines = refl; told = λ c. (record { few = c.few; staff = c.staff; jobs = c.jobs }, tt) }
 
 -- a step that is made, as if nothing had been printed before
 made_ends : {s : SceneState} (k : ControllerId) (b : Held) (y : Controller) (outcome : Option PassOutcome) (step : Step) → IsScene s → next_in s k ≡ step → step_fault s.board step ≡ None
-    → IsMade step s.board b (turn_in s k) y outcome → Ends (λ x. advance k x) s [] (Ok outcome) (with_turn s k b y) (printed_of s.spec s.board.cluster step)
+    → IsMade step s.board b (turn_in s k) y outcome → Ends (λ x. advance k x) s [] (Ok outcome) (with_turn s k b y) (printed_of s step)
 made_ends {s} k b y outcome (Calls e o) is next free made =
     let c = turn_in s k in
     let z = after_step s.board.cluster c (Calls e o) in
     let u = with_turn s c.id (on_board s.board e) z in
-    subst (λ v. Ends (λ x. advance k x) s [] (Ok outcome) v (entry_text s.spec s.board.cluster e)) (turn_same s c.id k (on_board s.board e) b z y (turn_id k is) (sym made.board) (sym made.controller))
-    (subst (λ r. Ends (λ x. advance k x) s [] (Ok r) u (entry_text s.spec s.board.cluster e)) (sym made.answer)
+    subst (λ v. Ends (λ x. advance k x) s [] (Ok outcome) v (entry_heard s e)) (turn_same s c.id k (on_board s.board e) b z y (turn_id k is) (sym made.board) (sym made.controller))
+    (subst (λ r. Ends (λ x. advance k x) s [] (Ok r) u (entry_heard s e)) (sym made.answer)
     (reaches_as (λ a. ap (λ t. advanced c t (at s a)) next)
-    (happens_and e (λ x. with_controller z x) (Ok o) [] s u [] (entry_text s.spec s.board.cluster e) (room_of s.board (weight_of e) faults.HistoryFull free) (λ a _. refl) refl refl (keeps_turn s c.id e z) refl)))
+    (happens_and e (λ x. with_controller z x) (Ok o) [] s u [] (entry_heard s e) (room_of s.board (weight_of e) faults.HistoryFull free) (λ a _. refl) refl refl (keeps_turn s c.id e z) refl)))
 made_ends {s} k b y outcome (Plans p) is next free made =
     let c = turn_in s k in
     let z = after_step s.board.cluster c (Plans p) in
@@ -131,7 +138,7 @@ printed_after p q e printed = record { asked = e.asked; items = e.items; goes = 
 
 -- a step that is made, printed by a front
 made_cut : {s : SceneState} (k : ControllerId) (b : Held) (y : Controller) (outcome : Option PassOutcome) (step : Step) (p q : List ℕ) → IsScene s → next_in s k ≡ step → step_fault s.board step ≡ None
-    → IsMade step s.board b (turn_in s k) y outcome → PutsFront (printed_of s.spec s.board.cluster step) p q → IsCut (λ x. advance k x) s p (with_turn s k b y) q
+    → IsMade step s.board b (turn_in s k) y outcome → PutsFront (printed_of s step) p q → IsCut (λ x. advance k x) s p (with_turn s k b y) q
 made_cut {s} k b y outcome (Calls e o) p q is next free made front =
     let c = turn_in s k in
     let z = after_step s.board.cluster c (Calls e o) in
@@ -178,11 +185,11 @@ stepped_is k x b y result is there e takes = record { board = b; turn = y; takes
 
 -- a step that was made is printed
 printed_step : {T E : Type 0} {s u : SceneState} {k : ControllerId} {outcome : Option PassOutcome} (roll : Roll) (p q : List ℕ) (printed : Result T E) (before : ℕ) (step : Step) → next_in s k ≡ step
-    → (made : IsStepped s u k (Ok outcome)) → step_fault s.board step ≡ None → IsMade step s.board made.board (turn_in s k) made.turn outcome → IsRollFor s k roll → before ≡ length s.board.history
-    → ((h : List Event) (e : Event) → u.board.history ≡ h ++ e ∷ [] → length h ≡ before → Prints (event_text u.spec roll e) p printed q)
-    → (length u.board.history ≡ before → Prints [] p printed q) → Prints (printed_of s.spec s.board.cluster step) p printed q
+    → (made : IsStepped s u k (Ok outcome)) → step_fault s.board step ≡ None → IsMade step s.board made.board (turn_in s k) made.turn outcome → (s.muted ≡ false → IsRollFor s k roll) → before ≡ length s.board.history
+    → ((h : List Event) (e : Event) → u.board.history ≡ h ++ e ∷ [] → length h ≡ before → Prints (event_heard u roll e) p printed q)
+    → (length u.board.history ≡ before → Prints [] p printed q) → Prints (printed_of s step) p printed q
 printed_step {T} {E} {s} {u} {k} {outcome} roll p q printed before (Calls e o) next stepped free made serves count more same =
-    subst (λ t. Prints t p printed q) (ap (λ v. event_text v.spec roll e) stepped.left ∙ serves e o next)
+    subst (λ t. Prints t p printed q) (ap (λ v. event_heard v roll e) stepped.left ∙ heard_as s.muted (event_text s.spec roll e) (entry_text s.spec s.board.cluster e) (λ prints. serves prints e o next))
     (more s.board.history e (ap (λ v. v.board.history) stepped.left ∙ ap (λ d. d.history) made.board) (sym count))
 printed_step {T} {E} {s} {u} {k} {outcome} roll p q printed before (Plans x) next stepped free made serves count more same =
     same (ap (λ v. length v.board.history) stepped.left ∙ ap (λ d. length d.history) made.board ∙ sym count)
@@ -192,22 +199,22 @@ printed_step {T} {E} {s} {u} {k} {outcome} roll p q printed before (Refuses f) n
     none fault e = cc
 
 ends_of : {s u : SceneState} {k : ControllerId} {outcome : Option PassOutcome} → IsScene s → (stepped : IsStepped s u k (Ok outcome))
-    → Ends (λ x. advance k x) s [] (Ok outcome) u (printed_of s.spec s.board.cluster (next_in s k))
+    → Ends (λ x. advance k x) s [] (Ok outcome) u (printed_of s (next_in s k))
 ends_of {s} {u} {k} {outcome} is stepped =
-    subst (λ v. Ends (λ x. advance k x) s [] (Ok outcome) v (printed_of s.spec s.board.cluster (next_in s k))) (sym stepped.left)
+    subst (λ v. Ends (λ x. advance k x) s [] (Ok outcome) v (printed_of s (next_in s k))) (sym stepped.left)
     (made_ends k stepped.board stepped.turn outcome (next_in s k) is refl stepped.takes.refused stepped.takes.made)
 
 pub advance_printed : {T E : Type 0} {s u : SceneState} {k : ControllerId} {outcome : Option PassOutcome} (roll : Roll) (p q : List ℕ) (t : T) (before : ℕ) → IsScene s → IsStepped s u k (Ok outcome)
-    → IsRollFor s k roll → before ≡ length s.board.history
-    → ((h : List Event) (e : Event) → u.board.history ≡ h ++ e ∷ [] → length h ≡ before → Prints {E = E} (event_text u.spec roll e) p (Ok t) q)
+    → (s.muted ≡ false → IsRollFor s k roll) → before ≡ length s.board.history
+    → ((h : List Event) (e : Event) → u.board.history ≡ h ++ e ∷ [] → length h ≡ before → Prints {E = E} (event_heard u roll e) p (Ok t) q)
     → (length u.board.history ≡ before → Prints {E = E} [] p (Ok t) q) → Ends (λ x. advance k x) s p (Ok outcome) u q
 advance_printed {T} {E} {s} {u} {k} {outcome} roll p q t before is stepped serves count more same =
     printed_after p q (ends_of is stepped)
     (printed_step {T = T} {E = E} roll p q (Ok t) before (next_in s k) refl stepped stepped.takes.refused stepped.takes.made serves count more same).ok
 
 pub advance_front : {R T E : Type 0} {s u : SceneState} {k : ControllerId} {outcome : Option PassOutcome} (answer : R → Result (Option PassOutcome) ControlFault) (roll : Roll) (p q : List ℕ) (fault : E)
-    (before : ℕ) (result : Result R RoomFault) → IsScene s → IsStepped s u k (Ok outcome) → IsRollFor s k roll → before ≡ length s.board.history
-    → ((h : List Event) (e : Event) → u.board.history ≡ h ++ e ∷ [] → length h ≡ before → Prints {T = T} (event_text u.spec roll e) p (Err fault) q)
+    (before : ℕ) (result : Result R RoomFault) → IsScene s → IsStepped s u k (Ok outcome) → (s.muted ≡ false → IsRollFor s k roll) → before ≡ length s.board.history
+    → ((h : List Event) (e : Event) → u.board.history ≡ h ++ e ∷ [] → length h ≡ before → Prints {T = T} (event_heard u roll e) p (Err fault) q)
     → (length u.board.history ≡ before → Prints {T = T} [] p (Err fault) q) → IsErrAnd result (λ x. x ≡ rooms.OutOfMemory) → Does (λ x. advance k x) answer s p u q result
 advance_front answer roll p q fault before (Ok x) is stepped serves count more same failed = absurd failed
 advance_front {R} {T} {E} {s} {u} {k} {outcome} answer roll p q fault before (Err x) is stepped serves count more same failed =

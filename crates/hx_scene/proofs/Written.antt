@@ -15,7 +15,6 @@ use Rattle.hx_cluster.specs.declared.happenings.Event.TheVariants as events
 use Rattle.hx_cluster.specs.declared.happenings.WriteRefusal.{WriteRefusal}
 use Rattle.hx_cluster.specs.Events.{can_write}
 use Rattle.hx_cluster.specs.Marks.{write_refusal}
-use Rattle.hx_print.specs.Texts.{entry_text}
 use Rattle.hx_print.specs.declared.Note.TheVariants as notes
 use Rattle.hx_text.specs.Texts.{PutsFront}
 use Rattle.hx_board.specs.Board.{Held, HasHistory, happened as on_board}
@@ -33,6 +32,7 @@ use Rattle.hx_worlds.specs.Runs.{GoesOn, done, and_then, make, note, items_of}
 use Rattle.hx_worlds.specs.Items.{Happens}
 use Rattle.hx_worlds.specs.Jobs.{do_write, write_job, is_job, as_written_job, with_written, end_job}
 use Rattle.hx_scene.specs.Scenes.{SceneState, OpenState, plain_job, world_of, at, lists_of}
+use Rattle.hx_scene.specs.Heard.{entry_heard}
 use Rattle.hx_scene.specs.Doing.{IsRunsBelow, Keeps, Reaches, Ends, IsCut}
 use Rattle.hx_scene.specs.Kept.{IsScene, IsListed}
 use Rattle.hx_scene.proofs.Reaching.{at_happened, event_cut, event_ends, here, reaches_as, kept_going, keeps_unasked}
@@ -141,26 +141,26 @@ module _ {s : SceneState} {i : InstanceId} {id : MsgId} {n : ℕ} {j : OpenState
       ∙ ap (λ js. GoesOn (Happens event ∷ []) (record { world = record (world_of t) { jobs = js }; answers = a }) tt) jobs_written
 
   keeps_written : Keeps s (written_scene s n j event) []
-  keeps_written = keeps_unasked refl refl (λ c. record {
+  keeps_written = keeps_unasked refl refl refl (λ c. record {
     few = c.few;
     staff = c.staff;
     jobs = All-set (λ k. IsRunsBelow s.handed (plain_job k).handler) s.jobs n (written_job j)
         (subst (λ (k : OpenState). IsRunsBelow s.handed (plain_job k).handler) (sym h.here) (All-get_or (λ k. IsRunsBelow s.handed (plain_job k).handler) s.jobs n j within c.jobs)) c.jobs;
   })
 
-  write_ends : (v : Voice) → j.is_written ≡ false → write_refusal s.board.cluster j.ran.message.session j.ran.message.id ≡ None → (p q : List ℕ) → q ≡ p ++ entry_text s.spec s.board.cluster event
+  write_ends : (v : Voice) → j.is_written ≡ false → write_refusal s.board.cluster j.ran.message.session j.ran.message.id ≡ None → (p q : List ℕ) → q ≡ p ++ entry_heard s event
       → Ends (λ x. do_write v i id x) s p tt (written_scene s n j event) q
   write_ends v unwritten free p q text =
       event_ends (λ x. do_write v i id x) event tt [] s (written_scene s n j event) p q (λ a _. write_goes v a unwritten free) refl refl keeps_written text
 
-  write_cut : (v : Voice) → j.is_written ≡ false → write_refusal s.board.cluster j.ran.message.session j.ran.message.id ≡ None → (p q : List ℕ) → PutsFront (entry_text s.spec s.board.cluster event) p q
+  write_cut : (v : Voice) → j.is_written ≡ false → write_refusal s.board.cluster j.ran.message.session j.ran.message.id ≡ None → (p q : List ℕ) → PutsFront (entry_heard s event) p q
       → IsCut (λ x. do_write v i id x) s p (written_scene s n j event) q
   write_cut v unwritten free p q front =
       event_cut (λ x. do_write v i id x) event [] s (written_scene s n j event) p q (λ a _. ([], ap items_of (write_goes v a unwritten free))) refl refl keeps_written front
 
   write_scene : j.is_written ≡ false → write_refusal s.board.cluster j.ran.message.session j.ran.message.id ≡ None → HasHistory (on_board s.board event) → IsScene (written_scene s n j event)
   write_scene unwritten free history =
-      let kept = kept_going {spec = s.spec} (write_ends Quiet unwritten free [] (entry_text s.spec s.board.cluster event) refl) h.scene.of_history h.scene.in_step
+      let kept = kept_going {spec = s.spec} (write_ends Quiet unwritten free [] (entry_heard s event) refl) h.scene.of_history h.scene.in_step
       (λ a st. write_keeps s.spec (valid_in s h.scene) (since s.board.cluster.line) Quiet i id (at s a) st) in
       record {
         own = h.scene.own;

@@ -1,12 +1,10 @@
 -- How code does an operation on a world: what it brings is printed, also where the history has no room for the rest; and for want of
--- memory a front of it was brought, and that printed, up to a front of the last of it.
+-- memory a front of it was brought, and that printed, up to a front of the last of it. A muted scene leaves its page as it was.
 use Rattle.std.specs.Prelude.{◌≡◌, ℕ, ◌-◌, ◌≤◌, ◌^◌, Bool, List, [], ◌∷◌, ◌++◌, length, take, Option, None, Some, Result, MatchResult, slice_index_or}
 use Rattle.std.specs.List.{All}
 use Rattle.hx_ids.specs.declared.InstanceId.{InstanceId}
 use Rattle.hx_ids.specs.declared.PartId.{PartId}
-use Rattle.hx_cluster.specs.declared.description.Spec.{Spec}
 use Rattle.hx_cluster.specs.declared.description.Failure.{Failure}
-use Rattle.hx_cluster.specs.declared.state.Cluster.{Cluster}
 use Rattle.hx_cluster.specs.declared.happenings.Outcome.{Outcome}
 use Rattle.hx_handler.specs.Failures.{has_failure}
 use Rattle.hx_handler.specs.Makings.{tried_of}
@@ -20,6 +18,7 @@ use Rattle.hx_worlds.specs.Items.{Item, items_text}
 use Rattle.hx_worlds.specs.Runs.{Run, Deed, GoesOn, Stops, items_of, after_items}
 use Rattle.hx_worlds.specs.Brings.{Brings, past_of}
 use Rattle.hx_scene.specs.Scenes.{SceneState, plain_job, at, lists_of}
+use Rattle.hx_scene.specs.Heard.{heard, items_heard}
 
 -- how a making or a run of a handler ended: the k-th of its part on its instance
 pub record Asked : Type 0 where
@@ -64,18 +63,19 @@ pub record IsCounted (s : SceneState) : Type 0 where
 
 -- what an operation keeps of a scene
 pub record Keeps (s u : SceneState) (asked : List Asked) : Type 0 where
+  pub muted : u.muted ≡ s.muted
   pub lists : lists_of u ≡ lists_of s
   pub lines : u.board.lines ≡ s.board.lines
   pub told : IsCounted s → IsCounted u × AreTold (lists_of s) asked
 
 -- an operation f on a scene has come to where g goes on from another scene: with these answers of handlers, and having brought these
--- items, which were printed on a page
+-- items, which were printed on a page, unless it is muted
 pub record Reaches {A : Type 0} (f : State → Run A) (s : SceneState) (page : List ℕ) (g : State → Run A) (u : SceneState) (later : List ℕ) : Type 0 where
   pub asked : List Asked
   pub items : List Item
   pub goes : (a : Answers) → Gives asked a → f (at s a) ≡ after_items items (g (at u (left asked a)))
   pub brings : (a : Answers) → Brings (past_of (at s a)) items (past_of (at u a))
-  pub text : later ≡ page ++ items_text s.spec s.board.cluster items
+  pub text : later ≡ page ++ items_heard s items
   pub keeps : Keeps s u asked
 
 -- it went on to its end, with an answer
@@ -86,12 +86,15 @@ Ends f s page answer u later = Reaches f s page (λ x. GoesOn [] x answer) u lat
 abbrev pub StopsHere : {A : Type 0} → (State → Run A) → SceneState → List ℕ → SceneState → List ℕ → Type 0
 StopsHere f s page u later = Reaches f s page (λ x. Stops [] x) u later
 
--- items are printed from a cluster on: all but the last one whole, and a front of that
+-- items are printed from a scene on: all but the last one whole, and a front of that
 abbrev pub but_last : List Item → List Item
 but_last items = take (length items - 1) items
 
-abbrev pub PrintsToLast : Spec → Cluster → List Item → List ℕ → List ℕ → Type 0
-PrintsToLast spec c items page later = (n : ℕ) × (length (items_text spec c (but_last items)) ≤ n) × (later ≡ page ++ take n (items_text spec c items))
+abbrev pub PrintsToLast : SceneState → List Item → List ℕ → List ℕ → Type 0
+PrintsToLast s items page later =
+    (n : ℕ)
+    × (length (items_text s.spec s.board.cluster (but_last items)) ≤ n)
+    × (later ≡ page ++ heard s.muted (take n (items_text s.spec s.board.cluster items)))
 
 -- it came as far as a front of its items, which were printed, up to a front of the last one
 pub record IsCut {A : Type 0} (f : State → Run A) (s : SceneState) (page : List ℕ) (u : SceneState) (later : List ℕ) : Type 0 where
@@ -99,7 +102,7 @@ pub record IsCut {A : Type 0} (f : State → Run A) (s : SceneState) (page : Lis
   pub items : List Item
   pub front : (a : Answers) → Gives asked a → (more : List Item) × (items_of (f (at s a)) ≡ items ++ more)
   pub brings : (a : Answers) → Brings (past_of (at s a)) items (past_of (at u a))
-  pub text : PrintsToLast s.spec s.board.cluster items page later
+  pub text : PrintsToLast s items page later
   pub keeps : Keeps s u asked
 
 abbrev pub Fails : {A : Type 0} → (State → Run A) → SceneState → List ℕ → RoomFault → SceneState → List ℕ → Type 0

@@ -11,4 +11,5 @@ scene_of a = record {
   jobs = a.jobs.items;
   bag = a.bag.items;
   handed = a.handed;
+  muted = a.muted;
 }

@@ -1,6 +1,7 @@
 pub mod Bags
 pub mod Scenes
 pub mod Fields
+pub mod Heard
 pub mod Doing
 pub mod Kept
 pub mod Telling

@@ -30,7 +30,7 @@ plain_job j = record {
 
 -- the board, the controllers by number, the participants by instance, the open jobs, and the bag of what was fetched. So many messages
 -- were handed out: in a scene that was put together of new participants, at most so many makings of a part's handler were tried, and at
--- most so many runs of a handler there were
+-- most so many runs of a handler there were. A muted scene prints nothing
 pub record SceneState : Type 0 where
   pub spec : Spec
   pub board : Held
@@ -39,6 +39,7 @@ pub record SceneState : Type 0 where
   pub jobs : List OpenState
   pub bag : List Message
   pub handed : ℕ
+  pub muted : Bool
 
 -- the plain world
 abbrev pub world_of : SceneState → World

@@ -5,7 +5,7 @@ ghost use Rattle.std.specs.Prelude.{length, position, slice_get, Some, IfOk};
 ghost use Rattle.std.specs.List.{All};
 ghost use Rattle.hx_lists.specs.Lists.{sort_by};
 ghost use Rattle.hx_worlds.specs.Jobs.{is_job, is_job_of, job_before};
-ghost use Rattle.hx_scene.specs.Scenes.{OpenState, plain_job, world_of};
+ghost use Rattle.hx_scene.specs.Scenes.{OpenState, plain_job, open_numbers};
 ghost use Rattle.hx_scene.specs.Ending.{CanEnd, AreOfScene, KeepsParts, Adopts, Follows, IsAtRest};
 ghost use Rattle.hx_scene.specs.Ending.{ended_staff, plain_staff, staff_in};
 
@@ -188,9 +188,7 @@ fn numbers_of<H: Handler>(
 impl<F: Factory> Scene<F> {
     /// The numbers of an instance's open jobs, rising.
     pub fn open_jobs(&self, instance: InstanceId) -> Result<Vec<MsgId>, AllocError>
-        ensures { IfOk result (λ numbers. numbers.items
-            ≡ map (λ j. j.message.id)
-            (sort_by job_before (filter (is_job_of instance) (world_of self.now).jobs))) }
+        ensures { IfOk result (λ numbers. numbers.items ≡ open_numbers self.now instance) }
     {
         numbers_of(self.alloc(), self.jobs.as_slice(), instance)
     }

@@ -1,11 +1,12 @@
-//! How events are printed.
+//! How events are printed: not at all in a muted scene.
 
-ghost use Rattle.std.specs.Prelude.{◌≡◌, [], ◌∷◌, ◌++◌, List, length, IfOk, IfErr};
+ghost use Rattle.std.specs.Prelude.{◌≡◌, false, [], ◌∷◌, ◌++◌, List, length, IfOk, IfErr};
 ghost use Rattle.hx_cluster.specs.declared.happenings.Event.{Event as Happening};
 ghost use Rattle.hx_cluster.specs.declared.happenings.Event.TheVariants as events;
 ghost use Rattle.hx_text.specs.Texts.{Prints};
-ghost use Rattle.hx_print.specs.Texts.{event_text, names_of, roll_of};
+ghost use Rattle.hx_print.specs.Texts.{names_of, roll_of};
 ghost use Rattle.hx_scene.specs.Advances.{no_roll};
+ghost use Rattle.hx_scene.specs.Heard.{event_heard};
 ghost use Rattle.hx_scene.specs.Rolls.{names_resources, names_sessions, step_roll};
 
 use crate::{Deed, Scene};
@@ -55,11 +56,15 @@ impl<F: Factory> Scene<F> {
         })
     }
 
-    /// What the names in a step's log line need of the cluster.
+    /// What the names in a step's log line need of the cluster, if it is printed.
     pub(crate) fn step_roll(&self, step: &Admin) -> Result<Roll, AllocError>
-        ensures { IfOk result (λ roll. roll ≡ step_roll self.now.board.cluster step.now) }
+        ensures { IfOk result (λ roll.
+            self.now.muted ≡ false → roll ≡ step_roll self.now.board.cluster step.now) }
     {
         let mut roll = self.no_roll();
+        if self.muted {
+            return Ok(roll);
+        }
         if names_resources(step) {
             roll.resources = Seq::from_vec(names_of(self.alloc(), self.board.resources())?);
         }
@@ -83,8 +88,11 @@ impl<F: Factory> Scene<F> {
     /// Prints the last event, with the roll before it.
     pub(crate) fn print_last(&self, roll: &Roll, out: &mut Page) -> Result<(), AllocError>
         ensures { (h : List Happening) (e : Happening) → self.now.board.history ≡ h ++ e ∷ []
-            → Prints (event_text self.now.spec roll.now e) out.old result out.new }
+            → Prints (event_heard self.now roll.now e) out.old result out.new }
     {
+        if self.muted {
+            return Ok(());
+        }
         match self.board.history().entries.last() {
             Some(told) => print_event(told.event(), roll, &self.spec, out),
             None => Ok(()),
@@ -94,10 +102,13 @@ impl<F: Factory> Scene<F> {
     /// Prints an event whose log line needs nothing of the cluster.
     #[inline(always)]
     pub(crate) fn print_given(&self, event: &Event, out: &mut Page) -> Deed
-        ensures prints { Prints (event_text self.now.spec no_roll event.now)
+        ensures prints { Prints (event_heard self.now no_roll event.now)
             out.old result out.new }
         ensures memory { IfErr result (λ fault. fault ≡ RoomFault.OutOfMemory) }
     {
+        if self.muted {
+            return Ok(());
+        }
         print_event(event, &self.no_roll(), &self.spec, out)?;
         Ok(())
     }
@@ -106,17 +117,20 @@ impl<F: Factory> Scene<F> {
     #[inline(always)]
     pub(crate) fn print_made(&self, step: &Admin, did: &Did, roll: &Roll, out: &mut Page) -> Deed
         ensures prints { Prints
-            (event_text self.now.spec roll.now (events.Admin step.now did.now))
+            (event_heard self.now roll.now (events.Admin step.now did.now))
             out.old result out.new }
         ensures memory { IfErr result (λ fault. fault ≡ RoomFault.OutOfMemory) }
     {
+        if self.muted {
+            return Ok(());
+        }
         print_step(step, did, roll, &self.spec, out)?;
         Ok(())
     }
 
     /// Prints the fetch of an instance's messages.
     pub(crate) fn print_fetch(&self, instance: InstanceId, mail: &Mail, out: &mut Page) -> Deed
-        ensures prints { Prints (event_text self.now.spec no_roll
+        ensures prints { Prints (event_heard self.now no_roll
             (events.Fetch instance mail.now.session (length mail.now.messages)))
             out.old result out.new }
         ensures memory { IfErr result (λ fault. fault ≡ RoomFault.OutOfMemory) }
@@ -140,7 +154,7 @@ impl<F: Factory> Scene<F> {
         out: &mut Page,
     ) -> Result<(), AllocError>
         ensures more { (h : List Happening) (e : Happening) → self.now.board.history ≡ h ++ e ∷ []
-            → length h ≡ before → Prints (event_text self.now.spec roll.now e) out.old result out.new }
+            → length h ≡ before → Prints (event_heard self.now roll.now e) out.old result out.new }
         ensures same { length self.now.board.history ≡ before → Prints [] out.old result out.new }
     {
         if self.board.history().entries.len() > before {

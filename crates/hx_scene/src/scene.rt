@@ -1,6 +1,6 @@
 //! The parts of a world, and what stands in them.
 
-ghost use Rattle.std.specs.Prelude.{◌≡◌, true, [], IfOk};
+ghost use Rattle.std.specs.Prelude.{◌≡◌, true, false, [], IfOk};
 ghost use Rattle.std.specs.List.{All};
 ghost use Rattle.hx_cluster.specs.Steps.{has_instance, has_controller};
 ghost use Rattle.hx_board.specs.Board.{HasHistory};
@@ -48,6 +48,8 @@ pub struct Scene<F: Factory> {
     pub(crate) bag: Bag,
     /// At least as many as the makings that were tried of a part, and as the runs of a handler.
     pub(crate) handed: u64,
+    /// Whether it prints nothing.
+    pub(crate) muted: bool,
 }
 
 impl<F: Factory> Model for Scene<F> {
@@ -86,8 +88,8 @@ fn close_all<F: Factory>(mut participants: Vec<Participant<F>>)
 }
 
 impl<F: Factory> Scene<F> {
-    /// A scene of its parts, in which nothing is open. For want of memory its participants are
-    /// closed.
+    /// A scene of its parts, in which nothing is open, and which prints. For want of memory its
+    /// participants are closed.
     pub fn from_parts(alloc: Global, parts: Parts<F>) -> Result<Scene<F>, AllocError>
         requires history { HasHistory parts.board }
         requires orderly { All IsOrderly (plain_staff parts.participants.items) }
@@ -102,6 +104,7 @@ impl<F: Factory> Scene<F> {
           jobs = [];
           bag = [];
           handed = 0;
+          muted = false;
         }) }
     {
         let Parts {
@@ -120,12 +123,20 @@ impl<F: Factory> Scene<F> {
                 jobs: Vec::new(alloc),
                 bag: Bag::new(alloc),
                 handed: 0,
+                muted: false,
             }),
             Err(fault) => {
                 close_all(participants);
                 Err(fault)
             }
         }
+    }
+
+    /// Prints nothing from then on, and does all else as before. It takes no memory.
+    pub fn mute(&mut self)
+        ensures { self.new ≡ record self.old { muted = true } }
+    {
+        self.muted = true;
     }
 
     /// Ends all that is open and closes the participants, and gives the board. It takes no memory.
@@ -141,6 +152,7 @@ impl<F: Factory> Scene<F> {
             mut jobs,
             bag: _,
             handed: _,
+            muted: _,
         } = self;
         end_all(&mut jobs, &mut participants);
         jobs.destroy_empty();

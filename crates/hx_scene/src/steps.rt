@@ -1,6 +1,6 @@
 //! Lines that are taken, and steps of the cluster.
 
-ghost use Rattle.std.specs.Prelude.{◌≡◌, true, Some, OnOk, OnErr};
+ghost use Rattle.std.specs.Prelude.{◌≡◌, true, false, Some, OnOk, OnErr};
 ghost use Rattle.hx_lists.specs.Answers.{RefusedBy};
 ghost use Rattle.hx_cluster.specs.Steps.{has_instance, is_in_range};
 ghost use Rattle.hx_cluster.specs.Events.{is_later};
@@ -57,10 +57,10 @@ impl<F: Factory> Scene<F> {
         self.make(voice, step, &roll, out)
     }
 
-    /// Makes a step whose log line needs this roll, or notes why not.
+    /// Makes a step whose log line, if it is printed, needs this roll, or notes why not.
     fn make(&mut self, voice: Voice, step: &Admin, roll: &Roll, out: &mut Page) -> Deed
         requires range { is_in_range self.old.board.cluster step.now ≡ true }
-        requires roll { roll.now ≡ step_roll self.old.board.cluster step.now }
+        requires roll { self.old.muted ≡ false → roll.now ≡ step_roll self.old.board.cluster step.now }
         ensures { DoesDeed (do_step voice step.now) self.old out.old self.new out.new result }
     {
         match self.board.admin(step) {
@@ -104,10 +104,12 @@ impl<F: Factory> Scene<F> {
         Ok(())
     }
 
-    /// Ends an instance's session, where the log line needs this roll, or notes why not.
+    /// Ends an instance's session, where the log line, if it is printed, needs this roll, or notes why
+    /// not.
     fn end(&mut self, voice: Voice, instance: InstanceId, roll: &Roll, out: &mut Page) -> Deed
         requires instance { has_instance self.old.board.cluster instance ≡ true }
-        requires roll { roll.now ≡ step_roll self.old.board.cluster (Admin.End instance) }
+        requires roll { self.old.muted ≡ false
+            → roll.now ≡ step_roll self.old.board.cluster (Admin.End instance) }
         ensures { DoesDeed (do_die voice instance) self.old out.old self.new out.new result }
     {
         match self.end_session(instance) {

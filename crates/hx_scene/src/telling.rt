@@ -1,4 +1,5 @@
-//! What is said beside the log: notes, outcomes and views, each charged before it is printed.
+//! What is said beside the log: notes, outcomes and views, each charged before it is printed. A
+//! muted scene is charged the same.
 ghost use Rattle.std.specs.Prelude.{◌≡◌, ◌+◌, length};
 ghost use Rattle.hx_cluster.specs.Reads.{live_shown};
 ghost use Rattle.hx_print.specs.Texts.{accept_text, sent_text, waiting_text, moved_text, settled_text};
@@ -98,6 +99,9 @@ impl<F: Factory> Scene<F> {
         ensures { DoesDeed (say 1 (line_text line)) self.old out.old self.new out.new result }
     {
         self.charge(1)?;
+        if self.muted {
+            return Ok(());
+        }
         print_line(line, out)?;
         Ok(())
     }
@@ -111,6 +115,9 @@ impl<F: Factory> Scene<F> {
             return Ok(());
         };
         self.charge(1)?;
+        if self.muted {
+            return Ok(());
+        }
         print_note(line, note, &self.spec, out)?;
         Ok(())
     }
@@ -140,6 +147,9 @@ impl<F: Factory> Scene<F> {
         ensures bag { self.new.bag ≡ self.old.bag }
     {
         self.charge(1)?;
+        if self.muted {
+            return Ok(());
+        }
         print_accept(instance, id, &self.spec, out)?;
         Ok(())
     }
@@ -197,6 +207,9 @@ impl<F: Factory> Scene<F> {
             self.old out.old self.new out.new result }
     {
         self.charge(1)?;
+        if self.muted {
+            return Ok(());
+        }
         print_failed(
             instance,
             name_in(&self.spec, &self.board, part),
@@ -221,6 +234,9 @@ impl<F: Factory> Scene<F> {
     {
         let holders = full.holders.as_slice();
         self.charge(1 + holders.len() as u64)?;
+        if self.muted {
+            return Ok(());
+        }
         let part = full.candidate.part;
         print_full(
             full,
@@ -242,6 +258,9 @@ impl<F: Factory> Scene<F> {
         ensures { DoesDeed (say_view_of part holders.now) self.old out.old self.new out.new result }
     {
         self.charge(1 + holders.len() as u64)?;
+        if self.muted {
+            return Ok(());
+        }
         print_seen(
             name_in(&self.spec, &self.board, part),
             part,
@@ -264,6 +283,9 @@ impl<F: Factory> Scene<F> {
             self.old out.old self.new out.new result }
     {
         self.charge(1 + instances.len() as u64)?;
+        if self.muted {
+            return Ok(());
+        }
         print_route(
             name_in(&self.spec, &self.board, part),
             part,

@@ -1,6 +1,6 @@
 //! The steps of controllers.
 
-ghost use Rattle.std.specs.Prelude.{◌≡◌, true, slice_set, IfOk};
+ghost use Rattle.std.specs.Prelude.{◌≡◌, true, false, slice_set, IfOk};
 ghost use Rattle.hx_cluster.specs.Steps.{has_controller};
 ghost use Rattle.hx_control.specs.Controllers.{idle_controller};
 ghost use Rattle.hx_scene.specs.Advances.{advance as advances, IsRollFor, IsStepped};
@@ -27,7 +27,7 @@ impl<F: Factory> Scene<F> {
     }
 
     /// What the log lines of a controller's next step need.
-    fn roll_for(&self, controller: ControllerId) -> Result<Roll, AllocError>
+    fn turn_roll(&self, controller: ControllerId) -> Result<Roll, AllocError>
         requires { has_controller self.now.board.cluster controller ≡ true }
         ensures { IfOk result (λ roll. IsRollFor self.now controller roll) }
     {
@@ -36,6 +36,18 @@ impl<F: Factory> Scene<F> {
         } else {
             Ok(self.no_roll())
         }
+    }
+
+    /// What the log lines of a controller's next step need, if they are printed.
+    fn roll_for(&self, controller: ControllerId) -> Result<Roll, AllocError>
+        requires { has_controller self.now.board.cluster controller ≡ true }
+        ensures { IfOk result (λ roll.
+            self.now.muted ≡ false → IsRollFor self.now controller roll) }
+    {
+        if self.muted {
+            return Ok(self.no_roll());
+        }
+        self.turn_roll(controller)
     }
 
     /// Takes the next step of a controller's turn.
@@ -64,7 +76,8 @@ impl<F: Factory> Scene<F> {
         self.advance_with(controller, &roll, out)
     }
 
-    /// Makes the next step of a controller's turn, whose log lines need this roll.
+    /// Makes the next step of a controller's turn, whose log lines, if they are printed, need this
+    /// roll.
     fn advance_with(
         &mut self,
         controller: ControllerId,
@@ -72,7 +85,7 @@ impl<F: Factory> Scene<F> {
         out: &mut Page,
     ) -> Result<Result<Option<PassOutcome>, ControlFault>, RoomFault>
         requires controller { has_controller self.old.board.cluster controller ≡ true }
-        requires roll { IsRollFor self.old controller roll.now }
+        requires roll { self.old.muted ≡ false → IsRollFor self.old controller roll.now }
         ensures { Does (λ x. advances controller x) (λ answer. answer)
             self.old out.old self.new out.new result }
     {

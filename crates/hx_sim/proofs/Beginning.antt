@@ -14,6 +14,7 @@ given_up s k = record s { controllers = slice_set s.controllers k.0 (idle_contro
 
 keeps_given_up : (s : SceneState) (k : ControllerId) → Keeps s (given_up s k) []
 keeps_given_up s k = record {
+  muted = refl;
   lists = refl;
   lines = refl;
   told = λ c. (record { few = c.few; staff = c.staff; jobs = c.jobs }, tt);

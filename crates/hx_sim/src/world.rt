@@ -1,6 +1,6 @@
 //! A world: a board with controllers and participants, one script line at a time.
 
-ghost use Rattle.std.specs.Prelude.{◌≡◌, true, [], Some, IfOk};
+ghost use Rattle.std.specs.Prelude.{◌≡◌, true, false, [], Some, IfOk};
 ghost use Rattle.std.specs.List.{All};
 ghost use Rattle.hx_board.specs.Board.{HasHistory, next_line_of};
 ghost use Rattle.hx_worlds.specs.Scripts.{do_line, is_next_line};
@@ -39,8 +39,8 @@ impl<F: Factory> Model for World<F> {
 }
 
 impl<F: Factory> World<F> {
-    /// A world of its parts, in which nothing is open. For want of memory its participants are
-    /// closed.
+    /// A world of its parts, in which nothing is open, and which prints. For want of memory its
+    /// participants are closed.
     pub fn from_parts(
         alloc: Global,
         spec: Spec,
@@ -60,6 +60,7 @@ impl<F: Factory> World<F> {
           jobs = [];
           bag = [];
           handed = 0;
+          muted = false;
         }) }
     {
         let parts = Parts {
@@ -80,6 +81,13 @@ impl<F: Factory> World<F> {
         self.scene.board()
     }
 
+    /// Prints nothing from then on, and does all else as before. It takes no memory.
+    pub fn mute(&mut self)
+        ensures { self.new ≡ record self.old { muted = true } }
+    {
+        self.scene.mute();
+    }
+
     /// Closes every participant, and gives the board. It takes no memory.
     pub fn close(self) -> Board
         ensures { result ≡ self.board }
@@ -88,7 +96,8 @@ impl<F: Factory> World<F> {
         scene.close()
     }
 
-    /// Takes a script line, the next of the board's, and does it, and prints what it brings.
+    /// Takes a script line, the next of the board's, and does it, and prints what it brings, unless
+    /// the world is muted.
     pub fn line(&mut self, line: &Line, out: &mut Page) -> Result<(), RoomFault>
         requires next { next_line_of self.old.board ≡ Some line.now.number }
         requires given { is_next_line self.old.spec self.old.board.cluster.line line.now ≡ true }

@@ -48,7 +48,7 @@ pub returns-clause-mail : goal.returns-clause-mail
 returns-clause-mail g c = rw (← c.self.view_is) c.in_ok-mail.ensures.mail
 
 pub returns-clause-made : goal.returns-clause-made
-returns-clause-made g c = rw (← c.self.view_is) (fetch_made c.args.instance c.in_ok-mail.mail refl c.in_ok-mail.ensures.mail (fetched g (goal.at.returns-clause-made g c).After-put_all))
+returns-clause-made g c = rw (← c.self.view_is) (fetch_made c.args.instance c.in_ok-mail.mail refl refl c.in_ok-mail.ensures.mail (fetched g (goal.at.returns-clause-made g c).After-put_all))
 
 pub returns-clause-bagged : goal.returns-clause-bagged
 returns-clause-bagged g c =

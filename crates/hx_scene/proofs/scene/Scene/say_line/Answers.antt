@@ -1,12 +1,16 @@
 use Rattle.std.proofs.Common.{refl}
-use Rattle.hx_scene.proofs.Saying.{say_full, say_cut, say_whole}
+use Rattle.hx_scene.proofs.Fronts.{muted_as}
+use Rattle.hx_scene.proofs.Saying.{say_full, say_muted, say_cut, say_whole}
 use Rattle.hx_scene.proofs.scene.Scene.say_line.Goals as goal
 
 pub returns-in_err-charge : goal.returns-in_err-charge
 returns-in_err-charge g c = say_full _ _ c.args.out.now c.from_residual.result c.in_err-charge.ensures (λ a. refl) c.from_residual.ensures.1
 
+pub returns-then-self : goal.returns-then-self
+returns-then-self g c = say_muted _ _ c.args.out.now c.in_ok-charge.ensures (muted_as c.self.view_is c.if-self.true) (λ a. refl)
+
 pub returns-in_err-print_line : goal.returns-in_err-print_line
-returns-in_err-print_line g c = say_cut _ c.from_residual-in_err-print_line.result c.in_ok-charge.ensures c.in_err-print_line.ensures (λ a. refl) c.from_residual-in_err-print_line.ensures.1
+returns-in_err-print_line g c = say_cut _ c.from_residual-in_err-print_line.result c.in_ok-charge.ensures (muted_as c.self.view_is c.if-self.false) c.in_err-print_line.ensures (λ a. refl) c.from_residual-in_err-print_line.ensures.1
 
 pub returns : goal.returns
-returns g c = say_whole _ c.in_ok-charge.ensures c.in_ok-print_line.ensures (λ a. refl)
+returns g c = say_whole _ c.in_ok-charge.ensures (muted_as c.self.view_is c.if-self.false) c.in_ok-print_line.ensures (λ a. refl)

@@ -1,17 +1,21 @@
 use Rattle.std.proofs.Common.{refl}
-use Rattle.hx_scene.proofs.Saying.{say_full, say_cut, say_whole, same_line}
+use Rattle.hx_scene.proofs.Fronts.{muted_as}
+use Rattle.hx_scene.proofs.Saying.{say_full, say_muted, say_cut, say_whole, same_line}
 use Rattle.hx_print.specs.Texts.{route_line}
 use Rattle.hx_scene.proofs.scene.Scene.say_route.Goals as goal
 
 pub returns-in_err-charge : goal.returns-in_err-charge
 returns-in_err-charge g c = say_full _ _ c.args.out.now c.from_residual.result c.in_err-charge.ensures (λ a. refl) c.from_residual.ensures.1
 
+pub returns-then-self : goal.returns-then-self
+returns-then-self g c = say_muted _ _ c.args.out.now c.in_ok-charge.ensures (muted_as c.self.view_is c.if-self.true) (λ a. refl)
+
 pub returns-in_err-print_route : goal.returns-in_err-print_route
 returns-in_err-print_route g c =
-    say_cut _ c.from_residual-in_err-print_route.result c.in_ok-charge.ensures c.in_err-print_route.ensures
+    say_cut _ c.from_residual-in_err-print_route.result c.in_ok-charge.ensures (muted_as c.self.view_is c.if-self.false) c.in_err-print_route.ensures
     (λ a. same_line (λ spec name. route_line spec name c.args.part c.args.state c.args.instances.now) c.args.part.resource c.name_in.result.now c.in_ok-charge.ensures c.self.view_is c.name_in.ensures a) c.from_residual-in_err-print_route.ensures.1
 
 pub returns : goal.returns
 returns g c =
-    say_whole _ c.in_ok-charge.ensures c.in_ok-print_route.ensures
+    say_whole _ c.in_ok-charge.ensures (muted_as c.self.view_is c.if-self.false) c.in_ok-print_route.ensures
     (λ a. same_line (λ spec name. route_line spec name c.args.part c.args.state c.args.instances.now) c.args.part.resource c.name_in.result.now c.in_ok-charge.ensures c.self.view_is c.name_in.ensures a)
