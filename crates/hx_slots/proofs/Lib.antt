@@ -8,3 +8,4 @@ pub mod Growing
 pub mod Placing
 pub mod Mirrored
 pub mod Mirroring
+pub mod Ready

@@ -8,11 +8,13 @@ ghost use Rattle.std.specs.List.{list_any, list_all};
 ghost use Rattle.hx_cluster.specs.Ends.{state_of, message_of, is_row};
 ghost use Rattle.hx_cluster.specs.Messages.{has_id, as_taken, as_written, row_put};
 
+mod cell_rows;
 mod cells;
 mod owned;
 mod slot;
 
-use cells::{Cells, push_cells};
+use cell_rows::push_cells;
+use cells::Cells;
 use hx_cluster::{Message, Row};
 use hx_ids::{MsgId, PartId, ResourceId, SessionId, StateId};
 use hx_lists::Seq;
