@@ -5,7 +5,7 @@ ghost use Rattle.std.specs.Prelude.{MatchOption, OnOk, take, not, ◌&&◌};
 ghost use Rattle.hx_cluster.specs.Steps.{is_drained, is_error};
 ghost use Rattle.hx_cluster.specs.declared.planning.Target.{Target};
 ghost use Rattle.hx_best.specs.Lookups.{IsPlain};
-ghost use Rattle.hx_best.specs.Wants.{Listed};
+ghost use Rattle.hx_best.specs.Wants.{Listed, in_turn, open_instances};
 ghost use Rattle.hx_best.specs.Goals.{is_eligible};
 ghost use Rattle.hx_best.specs.Targets.{targets_at};
 ghost use Rattle.hx_best.specs.Places.{rows_at, wants_at};
@@ -136,10 +136,11 @@ impl Shown<'_> {
         match index.session_in(instance) {
             Some(session) => {
                 let target = self.entry_target(session, instance, wanted, place, met);
+                let eligible = self.takes_state(instance, target.state);
                 if !put(found, first, target)? {
                     return Ok(None);
                 }
-                Ok(Some(self.takes_state(instance, target.state)))
+                Ok(Some(eligible))
             }
             None => Ok(Some(false)),
         }
@@ -199,10 +200,35 @@ impl Shown<'_> {
         Ok(all)
     }
 
+    /// Whether the part is of a resource that isn't dropped, no session and no instance is shown
+    /// twice, and the part has few rows.
+    #[inline(always)]
+    fn is_simple(&self) -> bool
+        ensures few { result ≡ true → length (rows_at self.now.0 self.now.1) < 64 }
+        ensures plain { result ≡ true → IsPlain self.now.0.view.live }
+        ensures kept { result ≡ true → self.now.0.resource.dropped ≡ false }
+    {
+        let places = self.places();
+        !places.resource().dropped && places.index().is_plain() && self.rows().len() < 64
+    }
+
+    /// Fills a list with the instances whose turn the part is.
+    fn fill_list(&self, list: &mut Vec<InstanceId>) -> Result<(), AllocError>
+        ensures { OnOk result (list.new.items
+            ≡ in_turn (open_instances self.now.0.view) self.now.0.resource.ideal.replicas
+            self.now.1.index) }
+    {
+        let places = self.places();
+        let replicas = places.resource().ideal.replicas();
+        let instances = places.index().open_instances();
+        fill_turn(list, instances, replicas, self.part().index)?;
+        Ok(())
+    }
+
     /// Adds the targets of a part whose rows are all on instances of its list, if it has one, or
     /// none. It may add none where it is so: for 64 rows or more, where a session or an instance is
-    /// shown twice, and where the part's list is long or has an instance twice. The list given is for instances in turn; what
-    /// it has doesn't matter.
+    /// shown twice, and where the part's list is long or has an instance twice. The list that is
+    /// passed is for instances in turn; what it has doesn't matter.
     pub fn add_listed(
         &self,
         list: &mut Vec<InstanceId>,
@@ -213,23 +239,15 @@ impl Shown<'_> {
             ++ targets_at self.now.0.models self.now.0.view self.now.0.resource self.now.1) }
         ensures none { IfOk result (λ all. all ≡ false → found.new.items ≡ found.old.items) }
     {
-        let index = self.places().index();
-        let resource = self.places().resource();
-        let part = self.part().index;
-        if resource.dropped || !index.is_plain() || self.rows().len() >= 64 {
+        if !self.is_simple() {
             return Ok(false);
         }
-        match resource.ideal.mode() {
+        match self.places().resource().ideal.mode() {
             Mode::Full => {
-                fill_turn(
-                    list,
-                    index.open_instances(),
-                    resource.ideal.replicas(),
-                    part,
-                )?;
+                self.fill_list(list)?;
                 self.add_all_or_none(list.as_slice(), found)
             }
-            Mode::Semi(lists) => self.add_all_or_none(items_in(lists, part), found),
+            Mode::Semi(lists) => self.add_all_or_none(items_in(lists, self.part().index), found),
             Mode::Custom(_) => Ok(false),
         }
     }

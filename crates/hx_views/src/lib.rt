@@ -97,20 +97,6 @@ fn count_over(
     if has_none(rows, mail, state) {
         return 0;
     }
-    count_each(live, rows, mail, part, state)
-}
-
-/// The same, by a walk over the live sessions.
-fn count_each(
-    live: &[(SessionId, InstanceId)],
-    rows: &[Row],
-    mail: &[Message],
-    part: PartId,
-    state: StateId,
-) -> u32
-    requires { length live.now < 2 ^ 32 }
-    ensures { result ≡ count_over (map (λ e. e.0) live.now) rows.now mail.now part state }
-{
     live.iter()
         .map(|l| l.0)
         .filter(|session| has_end(rows, mail, part, state, *session))

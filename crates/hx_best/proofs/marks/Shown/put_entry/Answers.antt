@@ -34,7 +34,7 @@ returns-else-not-branch-clause-put c =
     let on = on_session (goal.at.returns-else-not-branch-clause-put c).In-Some in
     let is = c.entry_target-target.ensures.target in
     let has = ap (λ (t : Target). t.state) is in (
-      c.takes_state.ensures ∙ sym (eligible_is x p i s on c.entry_target-target.result.state has),
+      c.takes_state-eligible.ensures ∙ sym (eligible_is x p i s on c.entry_target-target.result.state has),
       entry_put x p c.args.first i c.args.wanted c.args.place c.args.found.now.items c.put.new.found.items s c.entry_target-target.result on is
           (c.in_ok-put-in-Some.ensures.yes c.if-not-branch.false),
     )
