@@ -96,12 +96,8 @@ impl Listed for Row {
         self.session
     }
 
-    // In the order in which the fields lie.
     fn same(&self, other: &Row) -> bool {
-        self.session == other.session
-            && self.part.resource == other.part.resource
-            && self.part.index == other.part.index
-            && self.state == other.state
+        *self == *other
     }
 
     fn comes_before(&self, other: &Row) -> bool {
