@@ -5,10 +5,14 @@ use Rattle.hx_board.specs.Board.{charged}
 use Rattle.hx_board.specs.Refusals.{full}
 use Rattle.hx_board.specs.declared.faults.RoomFault.{RoomFault}
 use Rattle.hx_board.specs.declared.faults.RoomFault.TheVariants as rooms
-use Rattle.hx_print.specs.Texts.{sent_text, waiting_text, moved_text, settled_text, settle_text, summary_text}
+use Rattle.hx_ids.specs.declared.PartId.{PartId}
+use Rattle.hx_cluster.specs.declared.description.Spec.{Spec}
+use Rattle.hx_print.specs.Texts.{sent_text, waiting_text, moved_text, settled_text, settle_text, summary_text, failed_line, seen_line, route_line}
 use Rattle.hx_scene.specs.declared.telling.Summary.{Summary}
 use Rattle.hx_scene.specs.declared.telling.Line.{Line}
 use Rattle.hx_scene.specs.declared.telling.Line.TheVariants as lines
+use Rattle.hx_scene.specs.declared.telling.PartLine.{PartLine}
+use Rattle.hx_scene.specs.declared.telling.PartLine.TheVariants.{Failed, Seen, Route}
 use Rattle.hx_scene.specs.Scenes.{SceneState}
 
 -- the charge is made, unless the history has no room for it
@@ -28,3 +32,9 @@ line_text (lines.Moved k from to) = moved_text k from to
 line_text (lines.Settled k) = settled_text k
 line_text (lines.Settle k n) = settle_text k n
 line_text (lines.Summary summary) = text_of summary
+
+-- what is said in one line on a part, by its resource's name
+abbrev pub part_line : Spec → List ℕ → PartId → PartLine → List ℕ
+part_line spec name p (Failed i) = failed_line spec name i p
+part_line spec name p (Seen holders) = seen_line spec name p holders.now
+part_line spec name p (Route state instances) = route_line spec name p state instances.now

@@ -146,13 +146,13 @@ impl<F: Factory> Scene<F> {
         let Scene {
             spec: _,
             hops: _,
+            muted: _,
             board,
             controllers: _,
             mut participants,
             mut jobs,
             bag: _,
             handed: _,
-            muted: _,
         } = self;
         end_all(&mut jobs, &mut participants);
         jobs.destroy_empty();

@@ -8,7 +8,7 @@ ghost use Rattle.hx_text.specs.Texts.{Prints};
 ghost use Rattle.hx_worlds.specs.Runs.{say, say_if_loud, note as noted};
 ghost use Rattle.hx_worlds.specs.Scripts.{say_view_of, say_route};
 ghost use Rattle.hx_scene.specs.Doing.{DoesDeed};
-ghost use Rattle.hx_scene.specs.Telling.{IsCharged, text_of, line_text};
+ghost use Rattle.hx_scene.specs.Telling.{IsCharged, text_of, line_text, part_line};
 
 use crate::{Deed, Scene};
 use hx_board::{Board, RoomFault};
@@ -71,6 +71,36 @@ fn print_line(line: Line, out: &mut Page) -> Result<(), AllocError>
         Line::Settled(controller) => print_settled(controller, out),
         Line::Settle(controller, n) => print_settle(controller, n, out),
         Line::Summary(summary) => print_counts(&summary, out),
+    }
+}
+
+/// What is said in one line on a part.
+#[derive(Clone, Copy)]
+enum PartLine<'a> {
+    /// A replica of an instance is in ERROR.
+    Failed(InstanceId),
+    /// Who has a replica.
+    Seen(&'a [(InstanceId, StateId)]),
+    /// Which instances are in a state.
+    Route(StateId, &'a [InstanceId]),
+}
+
+/// Prints a line on a part by its resource's name.
+fn print_part_line(
+    line: &PartLine<'_>,
+    name: &str,
+    part: PartId,
+    spec: &Spec,
+    out: &mut Page,
+) -> Result<(), AllocError>
+    ensures { Prints (part_line spec.now name.now part line.now) out.old result out.new }
+{
+    match line {
+        PartLine::Failed(instance) => print_failed(*instance, name, part, spec, out),
+        PartLine::Seen(holders) => print_seen(name, part, holders, spec, out),
+        PartLine::Route(state, instances) => {
+            print_route(name, part, *state, instances, spec, out)
+        }
     }
 }
 
@@ -200,24 +230,28 @@ impl<F: Factory> Scene<F> {
         self.say_line(Line::Settle(controller, n), out)
     }
 
+    /// Charges the board for a line on a part, and prints it.
+    fn say_of_part(&mut self, n: u64, part: PartId, line: &PartLine<'_>, out: &mut Page) -> Deed
+        ensures { DoesDeed (λ x. say n (part_line x.world.spec
+            (name_at x.world.spec x.world.cluster.resources part.resource) part line.now) x)
+            self.old out.old self.new out.new result }
+    {
+        self.charge(n)?;
+        if self.muted {
+            return Ok(());
+        }
+        let name = name_in(&self.spec, &self.board, part);
+        print_part_line(line, name, part, &self.spec, out)?;
+        Ok(())
+    }
+
     /// Says that a replica is in ERROR, and nobody asked it to leave.
     pub fn say_failed(&mut self, instance: InstanceId, part: PartId, out: &mut Page) -> Deed
         ensures { DoesDeed (λ x.
             say 1 (failed_text x.world.spec x.world.cluster.resources instance part) x)
             self.old out.old self.new out.new result }
     {
-        self.charge(1)?;
-        if self.muted {
-            return Ok(());
-        }
-        print_failed(
-            instance,
-            name_in(&self.spec, &self.board, part),
-            part,
-            &self.spec,
-            out,
-        )?;
-        Ok(())
+        self.say_of_part(1, part, &PartLine::Failed(instance), out)
     }
 
     /// Says that a bound keeps a replica from a state.
@@ -257,18 +291,8 @@ impl<F: Factory> Scene<F> {
     ) -> Deed
         ensures { DoesDeed (say_view_of part holders.now) self.old out.old self.new out.new result }
     {
-        self.charge(1 + holders.len() as u64)?;
-        if self.muted {
-            return Ok(());
-        }
-        print_seen(
-            name_in(&self.spec, &self.board, part),
-            part,
-            holders,
-            &self.spec,
-            out,
-        )?;
-        Ok(())
+        let charge = 1 + holders.len() as u64;
+        self.say_of_part(charge, part, &PartLine::Seen(holders), out)
     }
 
     /// Says which instances are in a state of a part.
@@ -282,19 +306,8 @@ impl<F: Factory> Scene<F> {
         ensures { DoesDeed (say_route part state instances.now)
             self.old out.old self.new out.new result }
     {
-        self.charge(1 + instances.len() as u64)?;
-        if self.muted {
-            return Ok(());
-        }
-        print_route(
-            name_in(&self.spec, &self.board, part),
-            part,
-            state,
-            instances,
-            &self.spec,
-            out,
-        )?;
-        Ok(())
+        let charge = 1 + instances.len() as u64;
+        self.say_of_part(charge, part, &PartLine::Route(state, instances), out)
     }
 
     /// Says what happened so far, in numbers.
