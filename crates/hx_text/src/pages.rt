@@ -11,7 +11,7 @@ use std::marker::Model;
 const MOST_DIGITS: usize = 20;
 
 /// How many bytes a page grows by, at least.
-const BLOCK: usize = 1024;
+const BLOCK: usize = 4096;
 
 /// A text that grows at its end. Contracts see it as its bytes.
 #[derive(Debug, Drop)]
@@ -140,6 +140,31 @@ impl Page {
         make_room(&mut self.bytes, self.len, 1 + MOST_DIGITS)?;
         self.bytes[self.len] = sign;
         self.len = write_u64(self.bytes.as_mut_slice(), self.len + 1, n);
+        Ok(())
+    }
+
+    /// Puts a space at the end, and a text behind it.
+    #[inline(always)]
+    pub fn push_word(&mut self, text: &str) -> Result<(), AllocError>
+        ensures ok { OnOk result (self.new ≡ self.old ++ 32 ∷ text.now) }
+        ensures err { OnErr result (self.new ≡ self.old) }
+    {
+        make_room(&mut self.bytes, self.len, 1 + text.len())?;
+        self.bytes[self.len] = b' ';
+        self.len = write_str(self.bytes.as_mut_slice(), self.len + 1, text);
+        Ok(())
+    }
+
+    /// Puts a space at the end, and behind it a sign and a number's decimal digits.
+    #[inline(always)]
+    pub fn push_numbered_word(&mut self, sign: u8, n: u64) -> Result<(), AllocError>
+        ensures ok { OnOk result (self.new ≡ self.old ++ 32 ∷ sign ∷ decimal n) }
+        ensures err { OnErr result (self.new ≡ self.old) }
+    {
+        make_room(&mut self.bytes, self.len, 2 + MOST_DIGITS)?;
+        self.bytes[self.len] = b' ';
+        self.bytes[self.len + 1] = sign;
+        self.len = write_u64(self.bytes.as_mut_slice(), self.len + 2, n);
         Ok(())
     }
 

@@ -34,13 +34,27 @@ fn write_short(bytes: &mut [u8], at: usize, n: u64) -> usize
     write_pair(bytes, at, n)
 }
 
-/// Writes a number's decimal digits, all but the last two by a call of itself.
-fn write_long(bytes: &mut [u8], at: usize, n: u64) -> usize
-    requires { at + length (decimal n) ≤ length bytes.old }
+/// Writes a number of one to four digits.
+fn write_middle(bytes: &mut [u8], at: usize, n: u64) -> usize
+    requires { (n < 10000) × (at + length (decimal n) ≤ length bytes.old) }
     ensures { Writes (decimal n) at bytes.old result bytes.new }
 {
     if n < 100 {
         return write_short(bytes, at, n);
+    }
+    let between = write_short(bytes, at, n / 100);
+    write_pair(bytes, between, n % 100)
+}
+
+/// Writes a number of three digits or more. Where it has more than six, all but the last two are
+/// written by a call of itself.
+fn write_long(bytes: &mut [u8], at: usize, n: u64) -> usize
+    requires { (100 ≤ n) × (at + length (decimal n) ≤ length bytes.old) }
+    ensures { Writes (decimal n) at bytes.old result bytes.new }
+{
+    if n < 1_000_000 {
+        let between = write_middle(bytes, at, n / 100);
+        return write_pair(bytes, between, n % 100);
     }
     let between = write_long(bytes, at, n / 100);
     write_pair(bytes, between, n % 100)
@@ -52,12 +66,8 @@ pub(crate) fn write_u64(bytes: &mut [u8], at: usize, n: u64) -> usize
     requires { at + length (decimal n) ≤ length bytes.old }
     ensures { Writes (decimal n) at bytes.old result bytes.new }
 {
-    if n < 100 {
-        return write_short(bytes, at, n);
-    }
     if n < 10_000 {
-        let between = write_short(bytes, at, n / 100);
-        return write_pair(bytes, between, n % 100);
+        return write_middle(bytes, at, n);
     }
     write_long(bytes, at, n)
 }
