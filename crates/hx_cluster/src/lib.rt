@@ -5,6 +5,7 @@ mod admin;
 mod description;
 mod edits;
 mod ends;
+mod entries;
 mod happenings;
 mod opening;
 mod planning;
@@ -18,6 +19,7 @@ mod steps;
 
 pub use description::{Failure, Resource, Rule, Scope, Spec};
 pub use ends::has_end;
+pub use entries::Entries;
 pub use happenings::{
     AckFault, Admin, Begun, Did, Dispatched, Event, Mail, Outcome, Placed, Proposal, Seen,
     StepFault, TakeFault, WriteRefusal,

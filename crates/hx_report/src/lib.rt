@@ -11,7 +11,7 @@ ghost use Rattle.hx_cluster.specs.Steps.{is_error};
 ghost use Rattle.hx_report.specs.Findings.{report, is_failed, finding_of};
 
 pub use fates::Fates;
-use hx_cluster::{Entry, Finding, Report, Selection, Target, Throttled, View};
+use hx_cluster::{Entries, Finding, Report, Selection, Target, Throttled, View};
 use hx_lists::Seq;
 use hx_model::ERROR;
 use hx_views::ViewIndex;
@@ -31,36 +31,27 @@ pub fn report(
 {
     let index = ViewIndex::new(alloc, view)?;
     let fates = Fates::new(alloc, selection, throttled)?;
-    report_on(alloc, targets, &index, &fates)
+    report_on(alloc, Seq::from_slice(alloc, targets)?, &index, &fates)
 }
 
 /// The same by the index of a view.
 pub fn report_on(
     alloc: Global,
-    targets: &[Target],
+    targets: Seq<Target>,
     index: &ViewIndex,
     fates: &Fates,
 ) -> Result<Report, AllocError>
-    ensures { IfOk result (λ all. all ≡ report targets.now index.now fates.now.0 fates.now.1) }
+    ensures { IfOk result (λ all. all ≡ report targets index.now fates.now.0 fates.now.1) }
 {
-    let mut entries = Vec::with_capacity(alloc, targets.len())?;
-    let quiet = is_quiet(index, fates);
-    for target in targets {
-        if quiet && !is_error(target) {
-            entries.push(Entry {
-                target: *target,
-                finding: Finding::AtBest,
-            })?;
-        } else {
-            entries.push(Entry {
-                target: *target,
-                finding: finding_of(index, fates, target)?,
-            })?;
-        }
+    if is_quiet(index, fates) && !targets.iter().any(is_error) {
+        let entries = Entries::at_best(targets);
+        return Ok(Report { entries });
     }
-    Ok(Report {
-        entries: Seq::from_vec(entries),
-    })
+    let mut entries = Entries::at_best(Seq::new(alloc));
+    for target in &targets {
+        entries.push(*target, finding_of(index, fates, target)?)?;
+    }
+    Ok(Report { entries })
 }
 
 /// Whether no message was shown, and nothing selected, so that replicas that aren't in ERROR are at
