@@ -7,6 +7,7 @@ mod edits;
 mod ends;
 mod entries;
 mod happenings;
+mod numbers;
 mod opening;
 mod planning;
 mod posted;
@@ -25,6 +26,7 @@ pub use happenings::{
     StepFault, TakeFault, WriteRefusal,
 };
 pub use hx_ids::Live;
+pub use numbers::is_same_part;
 pub use planning::{
     Candidate, Entry, Finding, Full, Held, Ideals, Plan, Report, Selection, Target, Throttled, View,
 };
