@@ -5,3 +5,4 @@ pub mod Allowed
 pub mod Bare
 pub mod Rooms
 pub mod Stepping
+pub mod PartNumbers

@@ -5,7 +5,9 @@ mod admin;
 mod description;
 mod edits;
 mod ends;
+mod entries;
 mod happenings;
+mod numbers;
 mod opening;
 mod planning;
 mod posted;
@@ -18,11 +20,13 @@ mod steps;
 
 pub use description::{Failure, Resource, Rule, Scope, Spec};
 pub use ends::has_end;
+pub use entries::Entries;
 pub use happenings::{
     AckFault, Admin, Begun, Did, Dispatched, Event, Mail, Outcome, Placed, Proposal, Seen,
     StepFault, TakeFault, WriteRefusal,
 };
 pub use hx_ids::Live;
+pub use numbers::is_same_part;
 pub use planning::{
     Candidate, Entry, Finding, Full, Held, Ideals, Plan, Report, Selection, Target, Throttled, View,
 };

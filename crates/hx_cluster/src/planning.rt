@@ -2,6 +2,7 @@
 ghost use Rattle.std.specs.Prelude.{◌≡◌};
 
 use crate::description::Resource;
+use crate::entries::Entries;
 use crate::happenings::Proposal;
 use crate::state::{Message, Row};
 use hx_ids::{InstanceId, MsgId, PartId, SessionId, StateId};
@@ -121,7 +122,7 @@ pub struct Throttled {
 }
 
 /// Why a replica is where it is.
-#[derive(Debug, PartialEq, Drop)]
+#[derive(Debug, Drop)]
 pub enum Finding {
     /// It is in ERROR, and nobody asked for a reset.
     Failed,
@@ -134,20 +135,20 @@ pub enum Finding {
 }
 
 /// What a pass found of one target.
-#[derive(Debug, PartialEq, Drop)]
+#[derive(Debug, Drop)]
 pub struct Entry {
     pub target: Target,
     pub finding: Finding,
 }
 
 /// One entry for each target, in their order.
-#[derive(Debug, PartialEq, Drop)]
+#[derive(Debug, Drop)]
 pub struct Report {
-    pub entries: Seq<Entry>,
+    pub entries: Entries,
 }
 
 /// What a pass proposes, and its report.
-#[derive(Debug, PartialEq, Drop)]
+#[derive(Debug, Drop)]
 pub struct Plan {
     pub proposals: Seq<Proposal>,
     pub report: Report,

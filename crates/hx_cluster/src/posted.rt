@@ -3,6 +3,7 @@ ghost use Rattle.std.specs.Prelude.{◌≡◌, ◌↔◌, [], length, IfOk, IfSo
 ghost use Rattle.hx_cluster.specs.Posted.{part_ahead, row_of};
 
 use crate::Seen;
+use crate::numbers::part_number;
 use hx_ids::{PartId, StateId};
 use std::alloc::{AllocError, Global};
 use std::marker::Model;
@@ -44,15 +45,17 @@ impl Model for Steps {
 }
 
 /// How far a part is ahead of another one, if it is by a step.
+#[tactic(auto, using(crate::proofs::PartNumbers::same_part, crate::proofs::PartNumbers::next_part))]
 fn ahead_of(last: PartId, part: PartId) -> Option<Ahead>
     ensures { IfSome result (λ ahead. part ≡ part_ahead last ahead) }
 {
-    if part.resource == last.resource {
-        return match part.index.checked_sub(last.index)? {
-            0 => Some(Ahead::Here),
-            1 => Some(Ahead::Next),
-            _ => None,
-        };
+    let from = part_number(last);
+    let to = part_number(part);
+    if to == from {
+        return Some(Ahead::Here);
+    }
+    if to.checked_sub(from)? == 0x1_0000_0000 {
+        return Some(Ahead::Next);
     }
     if part.index == 0 && part.resource.0.checked_sub(last.resource.0)? == 1 {
         Some(Ahead::NextResource)

@@ -39,7 +39,7 @@ pub enum Stage {
 }
 
 /// How the dispatch of a turn ended.
-#[derive(PartialEq, Drop)]
+#[derive(Drop)]
 pub enum PassOutcome {
     /// Proposals were dispatched, and that many became messages.
     Sent(u32),

@@ -19,7 +19,7 @@ use crate::controller::Next;
 use crate::views::{is_of_board, keep_of_board};
 use crate::{ControlFault, Controller, PassOutcome};
 use hx_board::Board;
-use hx_cluster::{Dispatched, Placed, Plan, Proposal, Report, Spec};
+use hx_cluster::{Dispatched, Entries, Placed, Plan, Proposal, Report, Spec};
 use hx_hops::Hops;
 use hx_lists::Seq;
 use hx_pass::Draft;
@@ -100,7 +100,7 @@ impl Controller {
     {
         let alloc = self.view.live.allocator();
         if !proposals.is_empty() || !self.view.mail.is_empty() {
-            let entries = Seq::new(alloc);
+            let entries = Entries::at_best(Seq::new(alloc));
             return Ok(Report { entries });
         }
         draft.report(alloc, &self.view)

@@ -32,9 +32,10 @@ pub fn plan_on(
     let selection = select_on(alloc, models, index.shown(), candidates.as_slice())?;
     let throttled = throttle_on(alloc, rules, view, selection.accepted.as_slice())?;
     let fates = Fates::new(alloc, &selection, &throttled)?;
+    let targets = Seq::from_vec(targets);
     Ok(Plan {
         proposals: proposals_of(alloc, throttled.sent.as_slice())?,
-        report: report_on(alloc, targets.as_slice(), index.shown(), &fates)?,
+        report: report_on(alloc, targets, index.shown(), &fates)?,
     })
 }
 

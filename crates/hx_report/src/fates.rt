@@ -1,6 +1,5 @@
 //! What became of the candidates of targets.
-ghost use Rattle.std.specs.Prelude.{◌≡◌, true, IfOk};
-ghost use Rattle.hx_cluster.specs.declared.planning.Target.{Target};
+ghost use Rattle.std.specs.Prelude.{◌≡◌, ◌↔◌, [], IsTrue, IfOk};
 ghost use Rattle.hx_cluster.specs.declared.planning.Finding.TheVariants as findings;
 ghost use Rattle.hx_report.specs.Findings.{fate_of};
 
@@ -64,9 +63,11 @@ impl<'a> Fates<'a> {
         })
     }
 
-    /// Whether nothing was sent, held back or without room, so that no target has a candidate.
+    /// Whether nothing was sent, held back or without room, so that no target has a candidate. It
+    /// takes no memory.
     pub fn is_empty(&self) -> bool
-        ensures { result ≡ true → (t : Target) → findings.AtBest ≡ fate_of self.now.0 self.now.1 t }
+        ensures { IsTrue result
+            ↔ ((self.now.1.sent ≡ []) × (self.now.1.held ≡ []) × (self.now.0.full ≡ [])) }
     {
         let Throttled { sent, held } = self.throttled;
         sent.is_empty() && held.is_empty() && self.selection.full.is_empty()

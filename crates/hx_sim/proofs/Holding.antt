@@ -3,7 +3,7 @@ use Rattle.std.proofs.Common.{◌≡◌, ◌≤◌, ◌++◌, not, ◌==◌, ◌
 use Rattle.std.specs.Prelude.{filter, find, option_map}
 use Rattle.std.specs.List.{filter_map, cons_option}
 use Rattle.std.proofs.lemmas.List.{map-append, nil_from_length}
-use Rattle.std.proofs.lemmas.List.Elements.{filter-append}
+use Rattle.std.proofs.lemmas.List.Elements.{filter-append, filter_agree}
 use Rattle.hx_lists.specs.Lists.{count}
 use Rattle.hx_ids.specs.declared.InstanceId.{InstanceId}
 use Rattle.hx_ids.specs.declared.SessionId.{SessionId}
@@ -74,9 +74,5 @@ shown_as c rows view dropped p =
     ap (λ (b : Bool). not dropped || not b)
     (empty_map (λ (r : Seen). (r.instance, r.state)) (items_at (λ r. r.part) p rows) ∙ ap (λ (hs : List (InstanceId × StateId)). is_empty_list hs) (view p))
 
-filter_as : {X : Type 0} (p q : X → Bool) → ((x : X) → p x ≡ q x) → (xs : List X) → filter p xs ≡ filter q xs
-filter_as p q same [] = refl
-filter_as p q same (x ∷ xs) = rw (same x, filter_as p q same xs) refl
-
 pub all_shown_as : (c : Cluster) (rows : List Seen) → IsViewOf rows c → (dropped : Bool) (ps : List PartId) → filter (is_shown_by rows dropped) ps ≡ filter (is_viewed c dropped) ps
-all_shown_as c rows view dropped ps = filter_as (is_shown_by rows dropped) (is_viewed c dropped) (shown_as c rows view dropped) ps
+all_shown_as c rows view dropped ps = filter_agree (is_shown_by rows dropped) (is_viewed c dropped) (shown_as c rows view dropped) ps

@@ -1,13 +1,15 @@
 -- A step of a turn is an advance, and then what is said of its answer.
-use Rattle.std.proofs.Common.{◌≡◌, ℕ, List, Option, None, refl, ap, sym, subst, ◌∙◌}
-use Rattle.std.specs.Prelude.{Result, Ok, Err}
+use Rattle.std.proofs.Common.{◌≡◌, ℕ, List, [], ◌∷◌, Option, None, refl, ap, sym, subst, ◌∙◌}
+use Rattle.std.specs.Prelude.{Result, Ok, Err, ◌++◌, map}
 use Rattle.std.proofs.lemmas.List.{append-nil}
 use Rattle.hx_ids.specs.declared.ControllerId.{ControllerId}
 use Rattle.hx_ids.specs.declared.Epoch.{Epoch}
 use Rattle.hx_cluster.specs.declared.planning.Full.{Full}
 use Rattle.hx_cluster.specs.declared.planning.Target.{Target}
+use Rattle.hx_cluster.specs.declared.planning.Entry.{Entry}
 use Rattle.hx_cluster.specs.declared.planning.Finding.{Finding}
 use Rattle.hx_cluster.specs.declared.planning.Finding.TheVariants as findings
+use Rattle.hx_cluster.specs.Bests.{at_best}
 use Rattle.hx_control.specs.declared.PassOutcome.{PassOutcome}
 use Rattle.hx_control.specs.declared.ControlFault.{ControlFault}
 use Rattle.hx_control.specs.declared.ControlFault.TheVariants as faults
@@ -18,12 +20,12 @@ use Rattle.hx_worlds.specs.declared.Voice.{Voice}
 use Rattle.hx_worlds.specs.declared.Voice.TheVariants.{Loud, Quiet}
 use Rattle.hx_worlds.specs.World.{Answers, State, with_controller, controller_of}
 use Rattle.hx_worlds.specs.Runs.{Run, Deed, GoesOn, Stops, gives, done, go_on, and_then, happen, after_items}
-use Rattle.hx_worlds.specs.Turns.{say_finding, tell_outcome, note_fault, stepped, step}
+use Rattle.hx_worlds.specs.Turns.{say_finding, say_entries, tell_outcome, note_fault, stepped, step}
 use Rattle.hx_scene.specs.Scenes.{SceneState, at, world_of}
 use Rattle.hx_scene.specs.Kept.{IsScene}
 use Rattle.hx_scene.specs.Advances.{advanced, advance}
-use Rattle.hx_scene.specs.Doing.{Reaches, Ends, Fails}
-use Rattle.hx_scene.proofs.Reaching.{after_none, fails_as, fails_inside, fails_inside_deed, fails_after, reaches_as, there, then_on, then_do}
+use Rattle.hx_scene.specs.Doing.{Reaches, Ends, Fails, DoesDeed}
+use Rattle.hx_scene.proofs.Reaching.{after_none, does_as, fails_as, fails_inside, fails_inside_deed, fails_after, reaches_as, there, then_on, then_do}
 
 abbrev pub told : Voice → ControllerId → Result (Option PassOutcome) ControlFault → State → Run (Option PassOutcome)
 told v k (Ok outcome) x = and_then (tell_outcome v k outcome x) (λ y. gives y outcome)
@@ -82,6 +84,16 @@ pub step_note_fails : (v : Voice) (k : ControllerId) (s : SceneState) (p : List 
     → (u : SceneState) (q : List ℕ) → Ends (advance k) s p answer u q → (fault : RoomFault) (w : SceneState) (r : List ℕ) → Fails (note_fault v why) u q fault w r → Fails (step v k) s p fault w r
 step_note_fails v k s p good answer why is u q e fault w r f =
     fails_after (step_then v k s p good u q (subst (λ o. Ends (advance k) s p o u q) is e)) fault w r (fails_inside_deed (note_fault v why) u q fault w r f (λ y. gives y None))
+
+-- nothing is said of replicas at their best
+said_of_rest : (ts : List Target) (es : List Entry) (x : State) → say_entries (map at_best ts ++ es) x ≡ say_entries es x
+said_of_rest [] es x = refl
+said_of_rest (t ∷ ts) es x = after_none (say_entries (map at_best ts ++ es) x) ∙ said_of_rest ts es x
+
+pub said_behind : (all : List Entry) (ts : List Target) (es : List Entry) → all ≡ map at_best ts ++ es → (s : SceneState) (p : List ℕ) (u : SceneState) (q : List ℕ) (result : Result (Unit {0}) RoomFault)
+    → DoesDeed (say_entries es) s p u q result → DoesDeed (say_entries all) s p u q result
+said_behind all ts es is s p u q result e =
+    does_as (say_entries all) (say_entries es) s (λ a. ap (λ l. say_entries l (at s a)) is ∙ said_of_rest ts es (at s a)) (λ r. tt) p u q result e
 
 -- findings and refusals of which nothing is said
 pub nothing_found : (t : Target) (f : Finding) (x : State) → (f ≡ findings.Failed → ⊥) → ((full : Full) → f ≡ findings.Full full → ⊥) → say_finding t f x ≡ done x

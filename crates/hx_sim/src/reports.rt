@@ -7,7 +7,7 @@ ghost use Rattle.hx_scene.specs.Doing.{Does, DoesDeed};
 
 use crate::World;
 use crate::passes::Passed;
-use hx_cluster::{Entry, Finding};
+use hx_cluster::{Entries, Entry, Finding};
 use hx_control::{ControlFault, PassOutcome};
 use hx_handler::Factory;
 use hx_ids::ControllerId;
@@ -34,14 +34,23 @@ impl<F: Factory> World<F> {
         }
     }
 
-    /// Says which replicas failed, and which a bound holds back.
-    pub(crate) fn say_entries(&mut self, entries: &[Entry], out: &mut Page) -> Deed
+    fn say_each(&mut self, entries: &[Entry], out: &mut Page) -> Deed
         ensures { DoesDeed (say_entries entries.now) self.old out.old self.new out.new result }
     {
         for entry in entries {
             self.say_entry(entry, out)?;
         }
         Ok(())
+    }
+
+    /// Says which replicas failed, and which a bound holds back.
+    #[tactic(auto, using(crate::proofs::Said::said_behind))]
+    pub(crate) fn say_entries(&mut self, entries: &Entries, out: &mut Page) -> Deed
+        ensures { DoesDeed (say_entries entries.now) self.old out.old self.new out.new result }
+    {
+        // Nothing is said of replicas at their best.
+        let (_, rest) = entries.parts();
+        self.say_each(rest, out)
     }
 
     fn say_outcome(
@@ -59,7 +68,7 @@ impl<F: Factory> World<F> {
             PassOutcome::Moved { from, to } => self.scene.say_moved(controller, *from, *to, out),
             PassOutcome::Settled(report) => {
                 self.scene.say_settled(controller, out)?;
-                self.say_entries(report.entries.as_slice(), out)
+                self.say_entries(&report.entries, out)
             }
         }
     }

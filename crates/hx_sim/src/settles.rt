@@ -154,7 +154,7 @@ impl<F: Factory> World<F> {
     {
         self.scene.say_settle(controller, settled.passes, out)?;
         match &settled.report {
-            Some(report) => self.say_entries(report.entries.as_slice(), out),
+            Some(report) => self.say_entries(&report.entries, out),
             None => Ok(()),
         }
     }

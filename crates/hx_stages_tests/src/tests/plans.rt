@@ -13,7 +13,7 @@ use crate::tests::texts::{
     MIXED, NO_RULES, RULES, SECOND_FIRST, SWAP, SWAPPED, THREE_REPLICAS, THROTTLED, TWO_MASTERS,
 };
 use hx_cluster::{
-    Candidate, Entry, Finding, Plan, Proposal, Report, Selection, Spec, Target, Throttled, View,
+    Candidate, Finding, Plan, Proposal, Report, Selection, Spec, Target, Throttled, View,
 };
 use hx_formed::is_well_formed;
 use hx_ids::{InstanceId, MsgId, SessionId, StateId};
@@ -551,16 +551,22 @@ fn finding_of(finding: &Finding) -> Found<'_> {
     }
 }
 
-fn expect_entry(rt: &impl Abort, entry: &Entry, wanted: &(u32, InstanceId, Found<'_>)) {
-    assert_eq!(rt; entry.target.part.index, wanted.0);
-    assert_eq!(rt; entry.target.instance, wanted.1);
-    assert_eq!(rt; finding_of(&entry.finding), wanted.2);
+fn expect_target(rt: &impl Abort, target: &Target, wanted: &(u32, InstanceId, Found<'_>)) {
+    assert_eq!(rt; target.part.index, wanted.0);
+    assert_eq!(rt; target.instance, wanted.1);
 }
 
 fn expect_found(rt: &impl Abort, report: &Report, wanted: &[(u32, InstanceId, Found<'_>)]) {
-    assert_eq!(rt; report.entries.len(), wanted.len());
-    for (entry, wanted) in report.entries.iter().zip(wanted) {
-        expect_entry(rt, entry, wanted);
+    let (best, rest) = report.entries.parts();
+    let (front, back) = wanted.split_at(best.len());
+    for (target, wanted) in best.iter().zip(front) {
+        expect_target(rt, target, wanted);
+        assert_eq!(rt; Found::AtBest, wanted.2);
+    }
+    assert_eq!(rt; rest.len(), back.len());
+    for (entry, wanted) in rest.iter().zip(back) {
+        expect_target(rt, &entry.target, wanted);
+        assert_eq!(rt; finding_of(&entry.finding), wanted.2);
     }
 }
 

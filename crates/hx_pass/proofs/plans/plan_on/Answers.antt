@@ -30,6 +30,6 @@ returns c =
     let selected = selection_is models view c.shown.result.now c.shown.ensures c.as_slice-2.result.now c.in_ok-selection.selection (c.as_slice-2.ensures.value ∙ made) c.in_ok-selection.ensures in
     let held = throttled_is models rules view c.view-view.result.now c.as_slice-3.result.now c.in_ok-throttled.throttled c.view-view.ensures (c.as_slice-3.ensures ∙ ap (λ (s : Selection). s.accepted) selected) c.in_ok-throttled.ensures in
     let proposes = c.in_ok-proposals_of.ensures ∙ ap (map proposal) (c.as_slice-4.ensures ∙ ap (λ (t : Throttled). t.sent) held) in
-    let reports = report_is models view c.shown-2.result.now c.shown-2.ensures rules c.as_slice-5.result.now c.in_ok-selection.selection c.in_ok-throttled.throttled c.in_ok-fates.fates c.in_ok-report_on.field-0
-    (c.as_slice-5.ensures.value ∙ c.in_ok-targets.ensures) selected held c.in_ok-fates.ensures c.in_ok-report_on.ensures in
+    let reports = report_is models view c.shown-2.result.now c.shown-2.ensures rules c.from_vec-targets.result c.in_ok-selection.selection c.in_ok-throttled.throttled c.in_ok-fates.fates c.in_ok-report_on.field-0
+    (c.from_vec-targets.ensures ∙ c.in_ok-targets.ensures) selected held c.in_ok-fates.ensures c.in_ok-report_on.ensures in
     λ j. record { proposals = proposes j; report = reports j }
