@@ -13,7 +13,7 @@ use Rattle.hx_cluster.specs.declared.description.Scope.{Scope}
 use Rattle.hx_cluster.specs.declared.description.Scope.TheVariants as scopes
 use Rattle.hx_cluster.specs.declared.happenings.Proposal.{Proposal}
 use Rattle.hx_cluster.specs.declared.state.Message.{Message}
-use Rattle.hx_cluster.specs.Ends.{matches, key_of, is_counted, load_over}
+use Rattle.hx_cluster.specs.Ends.{matches, key_of, is_counted, is_shown, load_over}
 use Rattle.hx_throttle.specs.declared.shown.Keyed.{Keyed}
 use Rattle.hx_throttle.specs.Loads.{keyed_of, key_in, counts_under}
 
@@ -84,3 +84,13 @@ count-push p (y ∷ xs) x = grind (arith, count-push p xs x)
 pub load-push : (live : List (SessionId × InstanceId)) (mail : List Message) (m : Message) (r : Rule) (key : ℕ)
     → load_over live (mail ++ m ∷ []) r key ≡ load_over live mail r key + (if is_counted live r key m then 1 else 0)
 load-push live mail m r key = count-push (is_counted live r key) mail m
+
+-- what a rule's load is after a message more, whether its session is shown or not
+pub message_loaded : (live : List (SessionId × InstanceId)) (m : Message) (r : Rule) (key : ℕ) (counts : Bool) (before all old new : ℕ)
+    → all ≡ before + (if is_counted live r key m then 1 else 0) → old ≡ before → is_shown live m.session ≡ true
+    → new ≡ old + (if counts then 1 else 0) → counts ≡ (matches r m.from m.to && (key_of r.scope live m.session m.part == key)) → new ≡ all
+message_loaded live m r key counts before all old new more is shown gives are = grind (arith, nat_tests, more, is, shown, gives, are)
+
+pub message_passed : (live : List (SessionId × InstanceId)) (m : Message) (r : Rule) (key before all old : ℕ)
+    → all ≡ before + (if is_counted live r key m then 1 else 0) → old ≡ before → is_shown live m.session ≡ false → old ≡ all
+message_passed live m r key before all old more is unshown = grind (arith, nat_tests, more, is, unshown)

@@ -1,6 +1,6 @@
 -- The walk over the accepted candidates.
 use Rattle.std.proofs.Common.{◌≡◌, ℕ, ◌+◌, ◌<◌, Bool, true, false, List, [], ◌∷◌, ◌++◌, length, drop, get_or, append_assoc, refl, sym, ap, subst, ◌∙◌, arith}
-use Rattle.std.specs.Prelude.{◌==◌, slice_get, Option, None, Some, Result, Ok, Err, IfOk, is_some, not, if◌then◌else◌}
+use Rattle.std.specs.Prelude.{◌==◌, slice_get, Option, None, Some, Result, Ok, Err, IfOk, is_some, option_map, not, if◌then◌else◌}
 use Rattle.std.specs.List.{fold}
 use Rattle.std.specs.Option.{option_to_list}
 use Rattle.std.proofs.lemmas.Bool.{false≢true}
@@ -10,7 +10,7 @@ use Rattle.hx_lists.specs.Choices.{with_chosen, left_after}
 use Rattle.hx_lists.proofs.Choosing.{chosen_more, chosen_same, left_more, left_same}
 use Rattle.hx_ids.specs.declared.InstanceId.{InstanceId}
 use Rattle.hx_ids.specs.declared.SessionId.{SessionId}
-use Rattle.hx_counts.specs.Tally.{Numbers, loads_of}
+use Rattle.hx_throttle.specs.Table.{Table, load_at}
 use Rattle.hx_cluster.specs.declared.description.Rule.{Rule}
 use Rattle.hx_cluster.specs.declared.description.Scope.TheVariants as scopes
 use Rattle.hx_cluster.specs.declared.happenings.Proposal.{Proposal}
@@ -24,9 +24,9 @@ use Rattle.hx_throttle.specs.Loads.{AreLoads, keyed_of, key_in, counts_under, tr
 use Rattle.hx_throttle.proofs.Counting.{count-push, key_found, counted_found}
 
 -- what the table says is a rule's load under a candidate's key
-pub load_found : (rules : List Rule) (view : View) (sent : List Candidate) (table : Numbers) (k : Keyed) (c : Candidate) (place m key load : ℕ) (rule : Rule)
+pub load_found : (rules : List Rule) (view : View) (sent : List Candidate) (table : Table) (k : Keyed) (c : Candidate) (place m key load : ℕ) (rule : Rule)
     → k ≡ keyed_of view.live (transition_of c) → AreLoads rules (loading view sent) table → slice_get rules place ≡ Some rule
-    → m ≡ place → key ≡ key_in rule.scope k → load ≡ loads_of table m key → load ≡ loading view sent rule (key_for view rule c)
+    → m ≡ place → key ≡ key_in rule.scope k → load ≡ load_at table m key → load ≡ loading view sent rule (key_for view rule c)
 load_found rules view sent table k c place m key load rule k_is loads here m_is key_is is =
     let at : slice_get rules m ≡ Some rule = ap (slice_get rules) m_is ∙ here in
     let for : key ≡ key_for view rule c = key_is ∙ ap (key_in rule.scope) k_is ∙ key_found rule.scope view.live (transition_of c) in
@@ -84,17 +84,22 @@ sent_where_none rules view sent c b is = one (held_by rules 0 view sent c) refl 
     one (Some x) e true h = cc
     one (Some x) e false h = held_where_not rules 0 view sent c x e
 
+-- a candidate is held back by a rule that is found
+pub found_some : {X Y : Type 0} (f : X → Y) (o : Option X) → is_some (option_map f o) ≡ is_some o
+found_some f None = refl
+found_some f (Some x) = refl
+
 -- what is said of a candidate that is held back
 abbrev pub said : List Rule → View → List Candidate → Candidate → List Held
 said rules view sent c = option_to_list (held_by rules 0 view sent c)
 
 -- so many of the accepted are sent or not
-pub record IsSifted (rules : List Rule) (view : View) (accepted : List Candidate) (i : ℕ) (sent : List Candidate) (table : Numbers) : Type 0 where
+pub record IsSifted (rules : List Rule) (view : View) (accepted : List Candidate) (i : ℕ) (sent : List Candidate) (table : Table) : Type 0 where
   pub sending : fold (with_chosen (is_sent rules view)) sent (drop i accepted) ≡ sent_of rules view accepted
   pub loaded : AreLoads rules (loading view sent) table
 
 -- and those that are held are listed
-pub record IsWalked (rules : List Rule) (view : View) (accepted : List Candidate) (i : ℕ) (sent : List Candidate) (held : List Held) (table : Numbers) : Type 0 where
+pub record IsWalked (rules : List Rule) (view : View) (accepted : List Candidate) (i : ℕ) (sent : List Candidate) (held : List Held) (table : Table) : Type 0 where
   pub sifted : IsSifted rules view accepted i sent table
   pub holding : held ++ left_after (is_sent rules view) (said rules view) sent (drop i accepted) ≡ held_of rules view accepted
 
@@ -111,9 +116,9 @@ all_sent (r ∷ rules) view accepted result none is =
     let some : (length (r ∷ rules) == 0) ≡ false = grind (arith, nat_tests) in absurd (false≢true (sym some ∙ none))
 
 -- one more is sent
-pub sifted_sent : (rules : List Rule) (view : View) (accepted : List Candidate) (i : ℕ) (sent : List Candidate) (old new : Numbers) (d : Candidate) (k : Keyed)
+pub sifted_sent : (rules : List Rule) (view : View) (accepted : List Candidate) (i : ℕ) (sent : List Candidate) (old new : Table) (d : Candidate) (k : Keyed)
     → k ≡ keyed_of view.live (transition_of (get_or accepted i d)) → i < length accepted → is_sent rules view sent (get_or accepted i d) ≡ true
-    → ((n : ℕ) (r : Rule) (key : ℕ) → slice_get rules n ≡ Some r → loads_of new n key ≡ loads_of old n key + (if counts_under r key k then 1 else 0))
+    → ((n : ℕ) (r : Rule) (key : ℕ) → slice_get rules n ≡ Some r → load_at new n key ≡ load_at old n key + (if counts_under r key k then 1 else 0))
     → IsSifted rules view accepted i sent old → IsSifted rules view accepted (i + 1) (sent ++ get_or accepted i d ∷ []) new
 sifted_sent rules view accepted i sent old new d k is_its lt is more w =
     let c = get_or accepted i d in
@@ -129,7 +134,7 @@ sifted_sent rules view accepted i sent old new d k is_its lt is more w =
     }
 
 -- one more isn't
-pub sifted_held : (rules : List Rule) (view : View) (accepted : List Candidate) (i : ℕ) (sent : List Candidate) (table : Numbers) (d : Candidate)
+pub sifted_held : (rules : List Rule) (view : View) (accepted : List Candidate) (i : ℕ) (sent : List Candidate) (table : Table) (d : Candidate)
     → i < length accepted → is_sent rules view sent (get_or accepted i d) ≡ false
     → IsSifted rules view accepted i sent table → IsSifted rules view accepted (i + 1) sent table
 sifted_held rules view accepted i sent table d lt is w =
@@ -141,9 +146,9 @@ sifted_held rules view accepted i sent table d lt is w =
     }
 
 -- the same where those that are held are listed
-pub walked_sent : (rules : List Rule) (view : View) (accepted : List Candidate) (i : ℕ) (sent : List Candidate) (held : List Held) (old new : Numbers) (d : Candidate) (k : Keyed)
+pub walked_sent : (rules : List Rule) (view : View) (accepted : List Candidate) (i : ℕ) (sent : List Candidate) (held : List Held) (old new : Table) (d : Candidate) (k : Keyed)
     → k ≡ keyed_of view.live (transition_of (get_or accepted i d)) → i < length accepted → held_by rules 0 view sent (get_or accepted i d) ≡ None
-    → ((n : ℕ) (r : Rule) (key : ℕ) → slice_get rules n ≡ Some r → loads_of new n key ≡ loads_of old n key + (if counts_under r key k then 1 else 0))
+    → ((n : ℕ) (r : Rule) (key : ℕ) → slice_get rules n ≡ Some r → load_at new n key ≡ load_at old n key + (if counts_under r key k then 1 else 0))
     → IsWalked rules view accepted i sent held old → IsWalked rules view accepted (i + 1) (sent ++ get_or accepted i d ∷ []) held new
 walked_sent rules view accepted i sent held old new d k is_its lt free more w =
     let c = get_or accepted i d in
@@ -154,7 +159,7 @@ walked_sent rules view accepted i sent held old new d k is_its lt free more w =
       holding = sym (ap (λ (xs : List Held). held ++ xs) (at_drop_more (left_after (is_sent rules view) (said rules view) sent) accepted i d lt ∙ left_more (is_sent rules view) (said rules view) sent c rest is)) ∙ w.holding;
     }
 
-pub walked_held : (rules : List Rule) (view : View) (accepted : List Candidate) (i : ℕ) (sent : List Candidate) (held : List Held) (table : Numbers) (d : Candidate) (h : Held)
+pub walked_held : (rules : List Rule) (view : View) (accepted : List Candidate) (i : ℕ) (sent : List Candidate) (held : List Held) (table : Table) (d : Candidate) (h : Held)
     → i < length accepted → held_by rules 0 view sent (get_or accepted i d) ≡ Some h
     → IsWalked rules view accepted i sent held table → IsWalked rules view accepted (i + 1) sent (held ++ h ∷ []) table
 walked_held rules view accepted i sent held table d h lt some w =
@@ -176,17 +181,17 @@ abbrev pub no_rule : Rule
 no_rule = record { scope = scopes.Cluster; transition = None; limit = 0 }
 
 -- the same under other names
-pub sifted_same : (rules : List Rule) (view : View) (accepted : List Candidate) (i : ℕ) (sent other_sent : List Candidate) (table other_table : Numbers)
+pub sifted_same : (rules : List Rule) (view : View) (accepted : List Candidate) (i : ℕ) (sent other_sent : List Candidate) (table other_table : Table)
     → sent ≡ other_sent → table ≡ other_table → IsSifted rules view accepted i sent table → IsSifted rules view accepted i other_sent other_table
 sifted_same rules view accepted i sent other_sent table other_table a b w =
     let P : List Candidate → Type 0 = λ x. IsSifted rules view accepted i x other_table in
-    let Q : Numbers → Type 0 = λ x. IsSifted rules view accepted i sent x in
+    let Q : Table → Type 0 = λ x. IsSifted rules view accepted i sent x in
     subst P a (subst Q b w)
 
-pub walked_same : (rules : List Rule) (view : View) (accepted : List Candidate) (i : ℕ) (sent other_sent : List Candidate) (held other_held : List Held) (table other_table : Numbers)
+pub walked_same : (rules : List Rule) (view : View) (accepted : List Candidate) (i : ℕ) (sent other_sent : List Candidate) (held other_held : List Held) (table other_table : Table)
     → sent ≡ other_sent → held ≡ other_held → table ≡ other_table → IsWalked rules view accepted i sent held table → IsWalked rules view accepted i other_sent other_held other_table
 walked_same rules view accepted i sent other_sent held other_held table other_table a b c w =
     let P : List Candidate → Type 0 = λ x. IsWalked rules view accepted i x other_held other_table in
     let Q : List Held → Type 0 = λ x. IsWalked rules view accepted i sent x other_table in
-    let R : Numbers → Type 0 = λ x. IsWalked rules view accepted i sent held x in
+    let R : Table → Type 0 = λ x. IsWalked rules view accepted i sent held x in
     subst P a (subst Q b (subst R c w))

@@ -1,3 +1,4 @@
 pub mod Throttle
 pub mod Index
 pub mod Loads
+pub mod Table

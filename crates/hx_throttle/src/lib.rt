@@ -3,6 +3,7 @@
 
 mod loads;
 mod shown;
+mod table;
 
 ghost use Rattle.std.specs.Prelude.{◌≡◌, List, Bool, IfOk};
 ghost use Rattle.std.specs.List.{items_where_true};
@@ -12,7 +13,7 @@ ghost use Rattle.hx_cluster.specs.declared.planning.Candidate.{Candidate};
 ghost use Rattle.hx_throttle.specs.Loads.{transition_of};
 ghost use Rattle.hx_throttle.specs.Throttle.{sent_of, throttled, IsSending};
 
-use crate::loads::{count, held_by, shown_loads};
+use crate::loads::{count, first_holding, held_back, shown_loads};
 use crate::shown::Shown;
 use hx_cluster::{Candidate, Proposal, Rule, Spec, Throttled, View};
 use hx_lists::Seq;
@@ -46,8 +47,8 @@ pub fn throttle_on(
     let mut held = Seq::new(alloc);
     for candidate in accepted {
         let keyed = shown.keyed(&transition(candidate));
-        match held_by(&loads, rules, keyed, candidate)? {
-            Some(entry) => held.push(entry)?,
+        match first_holding(&loads, rules, keyed) {
+            Some(holding) => held.push(held_back(candidate, holding)?)?,
             None => {
                 count(&mut loads, rules, keyed)?;
                 sent.push(*candidate)?;
@@ -74,7 +75,7 @@ pub fn sent_on(
     let mut sent = Seq::new(alloc);
     for candidate in accepted {
         let keyed = shown.keyed(&transition(candidate));
-        if held_by(&loads, rules, keyed, candidate)?.is_none() {
+        if first_holding(&loads, rules, keyed).is_none() {
             count(&mut loads, rules, keyed)?;
             sent.push(*candidate)?;
         }

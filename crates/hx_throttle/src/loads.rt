@@ -1,16 +1,16 @@
-//! How many messages each rule counts under each key, in a table.
-ghost use Rattle.std.specs.Prelude.{◌≡◌, ℕ, ◌+◌, List, Some, slice_get, IfOk, OnOk, if◌then◌else◌};
-ghost use Rattle.hx_counts.specs.Tally.{loads_of, is_load};
+//! What each rule counts, and the rule that holds a transition back.
+ghost use Rattle.std.specs.Prelude.{◌≡◌, ℕ, ◌+◌, List, Some, slice_get, option_map, IfOk, OnOk, if◌then◌else◌};
 ghost use Rattle.hx_cluster.specs.declared.description.Rule.{Rule};
 ghost use Rattle.hx_cluster.specs.declared.planning.View.{View};
 ghost use Rattle.hx_cluster.specs.declared.planning.Candidate.{Candidate};
 ghost use Rattle.hx_cluster.specs.Ends.{load_over};
-ghost use Rattle.hx_throttle.specs.Loads.{AreLoads, counts_under, keyed_of, transition_of};
+ghost use Rattle.hx_throttle.specs.Table.{load_at};
+ghost use Rattle.hx_throttle.specs.Loads.{AreLoads, counts_under, held_as, keyed_of, transition_of};
 ghost use Rattle.hx_throttle.specs.Throttle.{loading, held_by};
 
 use crate::shown::{Keyed, Shown};
+use crate::table::Loads;
 use hx_cluster::{Candidate, Held, Message, Proposal, Rule};
-use hx_counts::Counts;
 use std::alloc::{AllocError, Global};
 
 /// A number of 32 bits. A larger one is want of memory.
@@ -20,29 +20,17 @@ fn number(n: usize) -> Result<u32, AllocError>
     u32::try_from(n).map_err(|_| AllocError)
 }
 
-/// A load more. One past the end of its type is want of memory.
-fn raise(loads: &mut Counts, rule: usize, key: u32) -> Result<(), AllocError>
-    ensures { OnOk result ((r : ℕ) (k : ℕ)
-        → loads_of loads.new r k
-        ≡ loads_of loads.old r k + (if is_load r k (rule, key) then 1 else 0)) }
-{
-    if loads.load(rule, key) == u32::MAX {
-        return Err(AllocError);
-    }
-    loads.raise_load(rule, key)
-}
-
 /// Counts a transition under each rule that matches it.
-pub fn count(loads: &mut Counts, rules: &[Rule], keyed: Keyed) -> Result<(), AllocError>
+pub fn count(loads: &mut Loads, rules: &[Rule], keyed: Keyed) -> Result<(), AllocError>
     ensures { OnOk result ((n : ℕ) (r : Rule) (key : ℕ)
         → slice_get rules.now n ≡ Some r
-        → loads_of loads.new n key
-        ≡ loads_of loads.old n key
+        → load_at loads.new n key
+        ≡ load_at loads.old n key
         + (if counts_under r key keyed then 1 else 0)) }
 {
     for (place, rule) in rules.iter().enumerate() {
         if rule.matches(keyed.from, keyed.to) {
-            raise(loads, place, keyed.key(rule.scope))?;
+            loads.raise(place, keyed.key(rule.scope))?;
         }
     }
     Ok(())
@@ -54,10 +42,10 @@ pub fn shown_loads(
     rules: &[Rule],
     shown: &Shown,
     mail: &[Message],
-) -> Result<Counts, AllocError>
+) -> Result<Loads, AllocError>
     ensures { IfOk result (AreLoads rules.now (load_over shown.now mail.now)) }
 {
-    let mut loads = Counts::new(alloc);
+    let mut loads = Loads::new(alloc, rules.len())?;
     for message in mail {
         let keyed = shown.keyed(&Proposal {
             session: message.session,
@@ -72,31 +60,45 @@ pub fn shown_loads(
     Ok(loads)
 }
 
-/// The first rule that holds a candidate back.
-pub fn held_by(
-    loads: &Counts,
-    rules: &[Rule],
-    keyed: Keyed,
-    candidate: &Candidate,
-) -> Result<Option<Held>, AllocError>
-    ensures { (view : View) (sent : List Candidate)
-        → keyed ≡ keyed_of view.live (transition_of candidate.now)
+/// A rule that holds a transition back, with its load under the transition's key.
+#[derive(Clone, Copy)]
+pub struct Holding {
+    pub rule: usize,
+    pub load: u32,
+    pub limit: u32,
+}
+
+/// The first rule that holds a candidate's transition back.
+#[inline(always)]
+pub fn first_holding(loads: &Loads, rules: &[Rule], keyed: Keyed) -> Option<Holding>
+    ensures { (view : View) (sent : List Candidate) (candidate : Candidate)
+        → keyed ≡ keyed_of view.live (transition_of candidate)
         → AreLoads rules.now (loading view sent) loads.now
-        → IfOk result (λ held. held ≡ held_by rules.now 0 view sent candidate.now) }
+        → option_map (held_as candidate) result ≡ held_by rules.now 0 view sent candidate }
 {
     for (place, rule) in rules.iter().enumerate() {
         if rule.matches(keyed.from, keyed.to) {
-            let number = number(place)?;
             let load = loads.load(place, keyed.key(rule.scope));
             if rule.limit <= load {
-                return Ok(Some(Held {
-                    candidate: *candidate,
-                    rule: number,
+                return Some(Holding {
+                    rule: place,
                     load,
                     limit: rule.limit,
-                }));
+                });
             }
         }
     }
-    Ok(None)
+    None
+}
+
+/// A candidate that a rule holds back. A rule whose place doesn't fit its type is want of memory.
+pub fn held_back(candidate: &Candidate, holding: Holding) -> Result<Held, AllocError>
+    ensures { IfOk result (λ held. held ≡ held_as candidate.now holding) }
+{
+    Ok(Held {
+        candidate: *candidate,
+        rule: number(holding.rule)?,
+        load: holding.load,
+        limit: holding.limit,
+    })
 }

@@ -1,6 +1,6 @@
 use Rattle.std.proofs.Common.{◌+◌, ◌∙◌, get_or, sym, ap}
 use Rattle.std.specs.Prelude.{is_some}
-use Rattle.hx_throttle.proofs.Walk.{keyed_is, all_sent, sent_where_none, sifted_sent, sifted_held, sifted_same}
+use Rattle.hx_throttle.proofs.Walk.{keyed_is, all_sent, found_some, sent_where_none, sifted_sent, sifted_held, sifted_same}
 use Rattle.hx_throttle.proofs.sent_on.Goals as goal
 use Rattle.hx_throttle.proofs.sent_on.Goals.{then-is_none+in_ok-count+in_ok-push, else-is_none}
 use Rattle.hx_cluster.proofs.Absent.{no_candidate}
@@ -14,7 +14,7 @@ loop-candidate-preserved c =
     let view = c.args.view.now in
     let shown = c.in_ok-shown.ensures ∙ c.as_slice.ensures in
     let is = keyed_is view _ _ (get_or accepted i no_candidate) _ shown c.transition.ensures c.keyed-keyed.ensures in
-    let found = sent_where_none rules view at.sent _ c.is_none.result (sym (ap is_some (c.in_ok-held_by.ensures view at.sent is at.invariant.loaded)) ∙ c.is_none.ensures) in
+    let found = sent_where_none rules view at.sent _ c.is_none.result (sym (ap is_some (c.first_holding.ensures view at.sent (get_or accepted i no_candidate) is at.invariant.loaded)) ∙ found_some _ _ ∙ c.is_none.ensures) in
     elim c.if-is_none.branch [
       | then-is_none+in_ok-count+in_ok-push w ↦
           sifted_same rules view accepted (i + 1) _ _ _ _ (sym (w.sent-is ∙ w.in_ok-push.ensures.ok)) (sym w.loads-is)
