@@ -3,6 +3,7 @@
 #![tactic(auto)]
 
 mod changes;
+mod keeping;
 mod splicing;
 
 ghost use Rattle.std.specs.Prelude.{◌≡◌, ◌||◌, false, true, IsTrue, IfOk, OnOk, [], ◌++◌};
@@ -16,6 +17,7 @@ pub use changes::{Listed, mark_changes};
 use hx_cluster::Resource;
 use hx_ids::{PartId, ResourceId};
 use hx_lists::Seq;
+pub use keeping::keep_marked;
 pub use splicing::splice;
 use std::alloc::{AllocError, Global};
 use std::marker::Model;
@@ -60,7 +62,7 @@ fn push_marked(
 }
 
 /// Whether there is a marked cell in a place.
-pub fn is_marked_at(cells: &[bool], index: u32) -> bool
+fn is_marked_at(cells: &[bool], index: u32) -> bool
     ensures { result ≡ slice_index_or cells.now index false }
 {
     match cells.get(index as usize) {
@@ -83,7 +85,7 @@ impl Marks {
     }
 
     /// The cells of a resource's parts. It takes no memory.
-    pub fn of_resource(&self, resource: ResourceId) -> &[bool]
+    fn of_resource(&self, resource: ResourceId) -> &[bool]
         ensures { result.now ≡ slice_index_or self.now resource.0 [] }
     {
         match self.cells.get(resource.0 as usize) {
