@@ -2,3 +2,4 @@ pub mod Stretches
 pub mod Pieces
 pub mod InPlace
 pub mod Cells
+pub mod Numbers

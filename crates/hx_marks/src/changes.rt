@@ -1,12 +1,12 @@
 //! The parts of which two lists have other items.
-ghost use Rattle.std.specs.Prelude.{◌≡◌, ◌≤◌, [], false, take, length, IsTrue};
+ghost use Rattle.std.specs.Prelude.{◌≡◌, ◌+◌, ◌*◌, ◌^◌, ◌<◌, ◌≤◌, [], false, take, length, IsTrue};
 ghost use Rattle.hx_ids.specs.declared.PartId.{PartId};
 ghost use Rattle.hx_parts.specs.Parts.{items_at};
 ghost use Rattle.hx_marks.specs.Marks.{is_marked};
 
 use crate::Marks;
 use hx_cluster::{Message, Row};
-use hx_ids::SessionId;
+use hx_ids::{PartId, SessionId};
 use hx_parts::OfPart;
 
 /// What a list has of sessions one after another. Where an item stands among those of its session
@@ -42,15 +42,35 @@ fn mark_all<T: Listed>(marks: &mut Marks, items: &[T]) -> bool
     true
 }
 
-/// How many items at the front of two lists are the same.
+/// Whether two lists have the same item in a place.
+fn is_same_at<T: Listed>(old: &[T], new: &[T], place: usize) -> bool
+    requires old { place < length old.now }
+    requires new { place < length new.now }
+    ensures { IsTrue result → take place old.now ≡ take place new.now
+        → take (place + 1) old.now ≡ take (place + 1) new.now }
+{
+    old[place].same(&new[place])
+}
+
+/// How many items at the front of two lists are the same. Four are gone over at a time, since most
+/// are.
 fn same_front<T: Listed>(old: &[T], new: &[T]) -> usize
     ensures old { result ≤ length old.now }
     ensures new { result ≤ length new.now }
     ensures same { take result old.now ≡ take result new.now }
 {
     let most = old.len().min(new.len());
-    for place in 0..most {
-        if !old[place].same(&new[place]) {
+    let mut from = 0;
+    while most - from >= 4
+        && is_same_at(old, new, from)
+        && is_same_at(old, new, from + 1)
+        && is_same_at(old, new, from + 2)
+        && is_same_at(old, new, from + 3)
+    {
+        from += 4;
+    }
+    for place in from..most {
+        if !is_same_at(old, new, place) {
             return place;
         }
     }
@@ -91,13 +111,31 @@ pub fn mark_changes<T: Listed>(marks: &mut Marks, old: &[T], new: &[T]) -> bool
     mark_all(marks, old) && mark_all(marks, new)
 }
 
+/// A part as one number.
+fn number(part: PartId) -> u64
+    ensures { result ≡ part.resource.0 + part.index * 2 ^ 32 }
+{
+    part.resource.0 as u64 + part.index as u64 * 0x1_0000_0000
+}
+
+/// Whether two parts are the same. They are compared by one number, which is fewer steps than by
+/// two.
+#[tactic(auto, using(crate::proofs::Numbers::same_numbers))]
+fn is_same_part(part: PartId, other: PartId) -> bool
+    ensures { IsTrue result → part ≡ other }
+{
+    number(part) == number(other)
+}
+
 impl Listed for Row {
     fn session(&self) -> SessionId {
         self.session
     }
 
     fn same(&self, other: &Row) -> bool {
-        *self == *other
+        self.session == other.session
+            && is_same_part(self.part, other.part)
+            && self.state == other.state
     }
 
     fn comes_before(&self, other: &Row) -> bool {

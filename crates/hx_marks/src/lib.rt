@@ -3,9 +3,11 @@
 #![tactic(auto)]
 
 mod changes;
+mod keeping;
 mod splicing;
 
-ghost use Rattle.std.specs.Prelude.{◌≡◌, ◌||◌, false, true, IsTrue, IfOk, OnOk, ◌++◌};
+ghost use Rattle.std.specs.Prelude.{◌≡◌, ◌||◌, false, true, IsTrue, IfOk, OnOk, [], ◌++◌};
+ghost use Rattle.std.specs.Prelude.{slice_index_or};
 ghost use Rattle.std.specs.List.{list_any};
 ghost use Rattle.hx_ids.specs.declared.PartId.{PartId};
 ghost use Rattle.hx_cluster.specs.Ends.{part_eq};
@@ -15,6 +17,7 @@ pub use changes::{Listed, mark_changes};
 use hx_cluster::Resource;
 use hx_ids::{PartId, ResourceId};
 use hx_lists::Seq;
+pub use keeping::keep_marked;
 pub use splicing::splice;
 use std::alloc::{AllocError, Global};
 use std::marker::Model;
@@ -58,6 +61,16 @@ fn push_marked(
     Ok(())
 }
 
+/// Whether there is a marked cell in a place.
+fn is_marked_at(cells: &[bool], index: u32) -> bool
+    ensures { result ≡ slice_index_or cells.now index false }
+{
+    match cells.get(index as usize) {
+        Some(marked) => *marked,
+        None => false,
+    }
+}
+
 impl Marks {
     /// No parts, with room for those of some resources.
     pub fn none(alloc: Global, resources: &[Resource]) -> Result<Marks, AllocError>
@@ -71,17 +84,21 @@ impl Marks {
         Ok(Marks { cells })
     }
 
+    /// The cells of a resource's parts. It takes no memory.
+    fn of_resource(&self, resource: ResourceId) -> &[bool]
+        ensures { result.now ≡ slice_index_or self.now resource.0 [] }
+    {
+        match self.cells.get(resource.0 as usize) {
+            Some(cells) => cells.as_slice(),
+            None => &[],
+        }
+    }
+
     /// Whether a part is in the set. It takes no memory.
     pub fn has(&self, part: PartId) -> bool
         ensures { result ≡ is_marked self.now part }
     {
-        match self.cells.get(part.resource.0 as usize) {
-            Some(cells) => match cells.get(part.index as usize) {
-                Some(marked) => *marked,
-                None => false,
-            },
-            None => false,
-        }
+        is_marked_at(self.of_resource(part.resource), part.index)
     }
 
     /// Puts a part into the set, if there is room for it. It takes no memory.
