@@ -1,5 +1,5 @@
 -- Keys in order: one more, one less, and the first from one on.
-use Rattle.std.proofs.Common.{Less, ◌≡◌, ℕ, zero, suc, ◌-◌, ◌≤◌, ◌<◌, Bool, true, false, not, ◌&&◌, ◌||◌, List, [], ◌∷◌, length, take, drop, slice_get, slice_index_or, insert, remove, None, Some, Option, Result, OnSome, IsSome, MatchOption, HoldsAt, option_copied, nat_lt, Bor, refl, sym, ap, ◌∙◌, arith}
+use Rattle.std.proofs.Common.{Less, ◌≡◌, ℕ, zero, suc, ◌-◌, ◌≤◌, ◌<◌, Bool, true, false, not, ◌&&◌, ◌||◌, List, [], ◌∷◌, length, slice_get, slice_index_or, insert, remove, None, Some, Option, Result, OnSome, IsSome, MatchOption, HoldsAt, option_copied, nat_lt, Bor, refl, ap, arith}
 use Rattle.std.specs.Prelude.{◌==◌}
 use Rattle.std.specs.List.{AllByRecursion, list_any}
 use Rattle.std.specs.List.Sorted.{IsStrictlySortedBy, IsBinarySearchResult}
