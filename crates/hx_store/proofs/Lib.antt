@@ -1,5 +1,6 @@
 pub mod Entries
-pub mod Sets
+pub mod Listed
+pub mod Placing
 pub mod Owning
 pub mod Drafting
 pub mod InOrder

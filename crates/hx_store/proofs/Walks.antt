@@ -5,27 +5,25 @@ use Rattle.std.specs.List.{AllByRecursion, list_any}
 use Rattle.std.specs.List.Sorted.{IsStrictlySortedBy}
 use Rattle.std.specs.Ordering.{nat_cmp}
 use Rattle.std.specs.Map.{keys_of, lookup}
-use Rattle.std.specs.BTreeSet.{BTreeSet}
 use Rattle.std.proofs.lemmas.Bool.{eq-eqb}
 use Rattle.std.proofs.lemmas.Bool.Decides.{nat_tests}
 use Rattle.std.proofs.lemmas.Map.Keys.{sorted_tail, IsDistinct-from_sorted}
 use Rattle.hx_ids.specs.declared.SessionId.{SessionId}
 use Rattle.hx_store.specs.declared.Record.{Record}
 use Rattle.hx_store.specs.Records.{record_at, owns, is_owned_by, owned_from}
-use Rattle.hx_store.specs.Owners.{has, owner_of, keys_by_session, IsStore}
+use Rattle.hx_store.specs.Owners.{has, owner_of, IsStore}
 use Rattle.hx_store.specs.Walks.{values_at, HaveRecords, AreThose}
 use Rattle.hx_store.proofs.Entries.{absent-past_head}
 use Rattle.hx_store.proofs.Sorted.{same_keys, sorted-where}
-use Rattle.hx_store.proofs.Sets.{has_none}
+use Rattle.hx_store.proofs.Listed.{has_none}
 
--- the keys of a session that has no set, and of one that has
-pub no_keys : (s : SessionId) (es : List (SessionId × BTreeSet ℕ)) (now : List (SessionId × List ℕ)) → keys_by_session es ≡ now → None ≡ lookup (λ u. s.0 == u.0) es → AreThose (has now s) []
+-- the keys of a session that has no list, and of one that has
+pub no_keys : (s : SessionId) (es now : List (SessionId × List ℕ)) → es ≡ now → None ≡ lookup (λ u. s.0 == u.0) es → AreThose (has now s) []
 unfolding IsStrictlySortedBy
 no_keys s es now same none = record { ordered = tt; passing = λ k. sym (has_none s es now same none k) }
 
-pub set_keys : (s : SessionId) (set : BTreeSet ℕ) (ks : List ℕ) (now : List (SessionId × List ℕ)) → ((k : ℕ) → has now s k ≡ list_any (λ j. k == j) set.keys) → ks ≡ set.keys → IsStrictlySortedBy nat_cmp set.keys
-    → AreThose (has now s) ks
-set_keys s set ks now keys is ordered =
+pub list_keys : (s : SessionId) (list ks : List ℕ) (now : List (SessionId × List ℕ)) → ((k : ℕ) → has now s k ≡ list_any (λ j. k == j) list) → ks ≡ list → IsStrictlySortedBy nat_cmp list → AreThose (has now s) ks
+list_keys s list ks now keys is ordered =
     let P : List ℕ → Type 0 = λ xs. AreThose (has now s) xs in
     subst P (sym is) (record { ordered = ordered; passing = λ k. sym (keys k) })
 

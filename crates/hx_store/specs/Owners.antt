@@ -1,9 +1,8 @@
 -- Which session owns which key.
-use Rattle.std.specs.Prelude.{◌≡◌, ℕ, ◌≤◌, ◌<◌, Bool, true, false, ◌==◌, List, map, Option, None, Some, MatchOption}
+use Rattle.std.specs.Prelude.{◌≡◌, ℕ, ◌≤◌, ◌<◌, Bool, true, false, ◌==◌, List, Option, None, Some, MatchOption}
 use Rattle.std.specs.List.{list_any}
 use Rattle.std.specs.List.Sorted.{IsStrictlySortedBy}
 use Rattle.std.specs.Map.{keys_of, lookup}
-use Rattle.std.specs.BTreeSet.{BTreeSet}
 use Rattle.std.specs.Ordering.{nat_cmp}
 use Rattle.hx_ids.specs.declared.SessionId.{SessionId}
 use Rattle.hx_store.specs.declared.Record.{Record}
@@ -17,10 +16,6 @@ is_among (Some keys) key = list_any (λ k. key == k) keys
 -- whether a key stands among those of a session
 abbrev pub has : List (SessionId × List ℕ) → SessionId → ℕ → Bool
 has owned session key = is_among (lookup (λ s. session.0 == s.0) owned) key
-
--- the sessions with the keys of their sets
-abbrev pub keys_by_session : List (SessionId × BTreeSet ℕ) → List (SessionId × List ℕ)
-keys_by_session sets = map (λ e. (e.0, e.1.keys)) sets
 
 -- the owner of a record, if there are both
 abbrev pub owner_of : {V : Type 0} → Option (Record V) → Option SessionId

@@ -3,14 +3,16 @@ use Rattle.std.specs.Prelude.{◌≡◌, ℕ, Bool, ◌==◌, List, [], Option, 
 use Rattle.std.specs.List.{filter_map, list_any, AllByRecursion}
 use Rattle.std.specs.List.Sorted.{IsStrictlySortedBy}
 use Rattle.std.specs.Option.{option_map}
+use Rattle.std.specs.VecDeque.Iter.{deque_iter_rest}
+use Rattle.std.specs.declared.collections.vec_deque.Iter.{Iter}
 use Rattle.std.specs.Ordering.{nat_cmp}
 use Rattle.hx_store.specs.declared.Record.{Record}
 use Rattle.hx_store.specs.Records.{record_at}
 
 -- the keys that are left, if there were any
-abbrev pub keys_left : Option (List ℕ) → List ℕ
+abbrev pub keys_left : Option (Iter ℕ) → List ℕ
 keys_left None = []
-keys_left (Some keys) = keys
+keys_left (Some keys) = deque_iter_rest keys
 
 -- the values at keys
 abbrev pub values_at : {V : Type 0} → List (ℕ × Record V) → List ℕ → List V

@@ -18,6 +18,7 @@ ghost use Rattle.hx_store.specs.Drafts.{change_at, over, left_at, IsDraftOf};
 
 mod changes;
 mod draft;
+mod keys;
 mod owners;
 mod records;
 mod shelf;
@@ -268,7 +269,7 @@ impl<V: Drop> Store<V> {
     {
         let before = self.records.len();
         let keys = self.owners.forget_all(owner);
-        take_all(&mut self.records, keys);
+        take_all(&mut self.records, &keys);
         (before - self.records.len()) as u64
     }
 

@@ -6,26 +6,26 @@ ghost use Rattle.hx_store.specs.Records.{owns};
 ghost use Rattle.hx_store.specs.Owners.{has, IsFirstFrom};
 ghost use Rattle.hx_store.specs.Walks.{AreThose, keys_left};
 
+use crate::keys::Keys;
 use hx_ids::SessionId;
 use std::alloc::{AllocError, Global};
-use std::collections::{BTreeSet, HashMap, btree_set};
+use std::collections::{HashMap, vec_deque};
 use std::marker::Model;
 
 /// The keys of each session that owns any, in order. Contracts see the sessions in no order.
 #[derive(Drop)]
 pub(crate) struct Owners {
     alloc: Global,
-    sets: HashMap<SessionId, BTreeSet<u64>>,
+    lists: HashMap<SessionId, Keys>,
 }
 
 impl Model for Owners {
     ghost use Rattle.std.specs.Prelude.{List, ℕ};
     ghost use Rattle.hx_ids.specs.declared.SessionId.{SessionId};
-    ghost use Rattle.hx_store.specs.Owners.{keys_by_session};
 
     ghost Value = { List (SessionId × List ℕ) };
 
-    ghost view = { λ a. keys_by_session a.sets.entries };
+    ghost view = { λ a. a.lists.entries };
 }
 
 impl Owners {
@@ -35,7 +35,7 @@ impl Owners {
     {
         Owners {
             alloc,
-            sets: HashMap::new(alloc),
+            lists: HashMap::new(alloc),
         }
     }
 
@@ -82,13 +82,13 @@ impl Owners {
     }
 
     /// Forgets all keys of a session, and gives them. It takes no memory.
-    pub(crate) fn forget_all(&mut self, owner: SessionId) -> BTreeSet<u64>
-        ensures keys { (k : ℕ) → list_any (λ j. k == j) result.keys ≡ has self.old owner k }
+    pub(crate) fn forget_all(&mut self, owner: SessionId) -> Keys
+        ensures keys { (k : ℕ) → list_any (λ j. k == j) result ≡ has self.old owner k }
         ensures rest { (s : SessionId) (k : ℕ)
             → has self.new s k ≡ (has self.old s k && not (owner.0 == s.0)) }
     {
-        let Some(keys) = self.sets.remove(&owner) else {
-            return BTreeSet::new(self.alloc);
+        let Some(keys) = self.lists.remove(&owner) else {
+            return Keys::new(self.alloc);
         };
         keys
     }
@@ -97,16 +97,15 @@ impl Owners {
     pub(crate) fn first_from(&self, owner: SessionId, from: u64) -> Option<u64>
         ensures { IsFirstFrom (has self.now owner) from result }
     {
-        let keys = self.sets.get(&owner)?;
-        let key = keys.range(from..).next()?;
-        Some(*key)
+        let keys = self.lists.get(&owner)?;
+        keys.first_from(from)
     }
 
     /// The keys of a session, in order, if it has any. It takes no memory.
-    pub(crate) fn keys(&self, owner: SessionId) -> Option<btree_set::Iter<'_, u64>>
+    pub(crate) fn keys(&self, owner: SessionId) -> Option<vec_deque::Iter<'_, u64>>
         ensures { AreThose (has self.now owner) (keys_left result) }
     {
-        let keys = self.sets.get(&owner)?;
+        let keys = self.lists.get(&owner)?;
         Some(keys.iter())
     }
 
@@ -117,7 +116,7 @@ impl Owners {
             → has self.new s k ≡ (has self.old s k || ((session.0 == s.0) && (key == k)))) }
         ensures err { OnErr result (self.new ≡ self.old) }
     {
-        match self.sets.get_mut(&session) {
+        match self.lists.get_mut(&session) {
             Some(keys) => {
                 keys.insert(key)?;
                 Ok(())
@@ -134,9 +133,9 @@ impl Owners {
             → has self.new s k ≡ (has self.old s k || ((session.0 == s.0) && (key == k)))) }
         ensures err { OnErr result (self.new ≡ self.old) }
     {
-        let mut keys = BTreeSet::new(self.alloc);
+        let mut keys = Keys::new(self.alloc);
         keys.insert(key)?;
-        self.sets.insert(session, keys)?;
+        self.lists.insert(session, keys)?;
         Ok(())
     }
 
@@ -146,10 +145,10 @@ impl Owners {
             → has self.new s k ≡ (has self.old s k && not ((session.0 == s.0) && (key == k))) }
         ensures none { IsTrue result → (k : ℕ) → has self.new session k ≡ false }
     {
-        let Some(keys) = self.sets.get_mut(&session) else {
+        let Some(keys) = self.lists.get_mut(&session) else {
             return false;
         };
-        keys.remove(&key);
+        keys.remove(key);
         keys.is_empty()
     }
 
@@ -158,6 +157,6 @@ impl Owners {
         requires { (k : ℕ) → has self.old session k ≡ false }
         ensures { (s : SessionId) (k : ℕ) → has self.new s k ≡ has self.old s k }
     {
-        self.sets.remove(&session);
+        self.lists.remove(&session);
     }
 }

@@ -2,13 +2,13 @@
 ghost use Rattle.std.specs.Iterator.{YieldsFirstRef, item_count};
 
 use crate::shelf::Shelf;
-use std::collections::btree_set;
+use std::collections::vec_deque;
 use std::marker::Model;
 
 /// The values of a session's records, in order of key. Contracts see those that are left.
 #[derive(Drop)]
 pub struct Owned<'a, V> {
-    pub(crate) keys: Option<btree_set::Iter<'a, u64>>,
+    pub(crate) keys: Option<vec_deque::Iter<'a, u64>>,
     pub(crate) records: &'a Shelf<V>,
 }
 
