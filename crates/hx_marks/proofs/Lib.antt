@@ -2,4 +2,3 @@ pub mod Stretches
 pub mod Pieces
 pub mod InPlace
 pub mod Cells
-pub mod Numbers

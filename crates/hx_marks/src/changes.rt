@@ -1,12 +1,12 @@
 //! The parts of which two lists have other items.
-ghost use Rattle.std.specs.Prelude.{◌≡◌, ◌+◌, ◌*◌, ◌^◌, ◌<◌, ◌≤◌, [], false, take, length, IsTrue};
+ghost use Rattle.std.specs.Prelude.{◌≡◌, ◌+◌, ◌<◌, ◌≤◌, [], false, take, length, IsTrue};
 ghost use Rattle.hx_ids.specs.declared.PartId.{PartId};
 ghost use Rattle.hx_parts.specs.Parts.{items_at};
 ghost use Rattle.hx_marks.specs.Marks.{is_marked};
 
 use crate::Marks;
-use hx_cluster::{Message, Row};
-use hx_ids::{PartId, SessionId};
+use hx_cluster::{Message, Row, is_same_part};
+use hx_ids::SessionId;
 use hx_parts::OfPart;
 
 /// What a list has of sessions one after another. Where an item stands among those of its session
@@ -109,22 +109,6 @@ pub fn mark_changes<T: Listed>(marks: &mut Marks, old: &[T], new: &[T]) -> bool
         }
     }
     mark_all(marks, old) && mark_all(marks, new)
-}
-
-/// A part as one number.
-fn number(part: PartId) -> u64
-    ensures { result ≡ part.resource.0 + part.index * 2 ^ 32 }
-{
-    part.resource.0 as u64 + part.index as u64 * 0x1_0000_0000
-}
-
-/// Whether two parts are the same. They are compared by one number, which is fewer steps than by
-/// two.
-#[tactic(auto, using(crate::proofs::Numbers::same_numbers))]
-fn is_same_part(part: PartId, other: PartId) -> bool
-    ensures { IsTrue result → part ≡ other }
-{
-    number(part) == number(other)
 }
 
 impl Listed for Row {

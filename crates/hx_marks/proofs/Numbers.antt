@@ -1,9 +1,0 @@
--- Parts that have one number are the same.
-use Rattle.std.proofs.Common.{◌≡◌, ℕ, ◌+◌, ◌*◌, ◌^◌, ◌<◌, ap₂, arith}
-use Rattle.hx_ids.specs.declared.PartId.{PartId}
-
-pub same_numbers : (p q : PartId) → p.resource.0 < 2 ^ 32 → q.resource.0 < 2 ^ 32 → p.resource.0 + p.index * 2 ^ 32 ≡ q.resource.0 + q.index * 2 ^ 32 → p ≡ q
-same_numbers p q lt also same =
-    let index : p.index ≡ q.index = omega (arith, lt, also, same) in
-    let resource : p.resource.0 ≡ q.resource.0 = omega (arith, same, index) in
-    ap₂ (λ (r i : ℕ). record { resource = record { 0 = r }; index = i }) resource index
