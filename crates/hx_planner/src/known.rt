@@ -185,7 +185,7 @@ impl Known {
             accepted,
             posted,
         } = self;
-        let narrow = narrowed(alloc, last, view, marks)?;
+        let narrow = narrowed(last, view, marks)?;
         if !is_well_formed_beside(alloc, models.as_slice(), instances, &narrow)? {
             return Ok(None);
         }
@@ -197,7 +197,7 @@ impl Known {
         Ok(Some(Known {
             models,
             instances,
-            view: widened(alloc, narrow, view)?,
+            view: widened(narrow, view)?,
             accepted: Seq::from_vec(accepted),
             posted,
         }))

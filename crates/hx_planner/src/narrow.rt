@@ -1,5 +1,5 @@
 //! What a pass finds of the marked parts of a view.
-ghost use Rattle.std.specs.Prelude.{◌≡◌, true, filter, IfOk};
+ghost use Rattle.std.specs.Prelude.{◌≡◌, true, IfOk, OnOk};
 ghost use Rattle.hx_gen.specs.Modelled.{has_models};
 ghost use Rattle.hx_parts.specs.Parts.{IsByPart};
 ghost use Rattle.hx_marks.specs.Marks.{is_marked};
@@ -10,49 +10,37 @@ use hx_cluster::{Candidate, View};
 use hx_gen::candidates;
 use hx_hops::Hops;
 use hx_lists::Seq;
-use hx_marks::Marks;
+use hx_marks::{Marks, keep_marked};
 use hx_model::Model;
-use hx_parts::OfPart;
 use hx_select::accepted_on;
 use std::alloc::{AllocError, Global};
 
-/// The items of marked parts.
-fn marked<T: OfPart>(alloc: Global, items: &[T], marks: &Marks) -> Result<Seq<T>, AllocError>
-    ensures { IfOk result (λ kept.
-        kept ≡ filter (λ x. is_marked marks.now (T.part_of x)) items.now) }
+/// Puts copies of other items in the place of what a list has, whose memory serves again.
+fn copy_over<T: Copy>(list: &mut Seq<T>, items: &[T]) -> Result<(), AllocError>
+    ensures { OnOk result (list.new ≡ items.now) }
 {
-    let mut kept = Seq::new(alloc);
-    for item in items {
-        if marks.has(item.part()) {
-            kept.push(*item)?;
-        }
-    }
-    Ok(kept)
+    list.truncate(0);
+    list.extend_from_slice(items)
 }
 
 /// A view with the rows and messages of the marked parts alone. The sessions, and what is wanted,
 /// are those of an earlier view.
-pub(crate) fn narrowed(
-    alloc: Global,
-    mut last: View,
-    view: &View,
-    marks: &Marks,
-) -> Result<View, AllocError>
+pub(crate) fn narrowed(mut last: View, view: &View, marks: &Marks) -> Result<View, AllocError>
     requires { IsAlike last view.now }
     ensures { IfOk result (λ narrow. narrow ≡ narrowed_of (is_marked marks.now) view.now) }
 {
-    last.mail = marked(alloc, view.mail.as_slice(), marks)?;
-    last.rows = marked(alloc, view.rows.as_slice(), marks)?;
+    keep_marked(&mut last.mail, view.mail.as_slice(), marks)?;
+    keep_marked(&mut last.rows, view.rows.as_slice(), marks)?;
     Ok(last)
 }
 
 /// A view, of which a narrowed one has the sessions and what is wanted.
-pub(crate) fn widened(alloc: Global, mut narrow: View, view: &View) -> Result<View, AllocError>
+pub(crate) fn widened(mut narrow: View, view: &View) -> Result<View, AllocError>
     requires { IsAlike narrow view.now }
     ensures { IfOk result (λ wide. wide ≡ view.now) }
 {
-    narrow.mail = Seq::from_slice(alloc, view.mail.as_slice())?;
-    narrow.rows = Seq::from_slice(alloc, view.rows.as_slice())?;
+    copy_over(&mut narrow.mail, view.mail.as_slice())?;
+    copy_over(&mut narrow.rows, view.rows.as_slice())?;
     Ok(narrow)
 }
 
