@@ -44,13 +44,13 @@ cut_step : (part : List ℕ) (parts : List (List ℕ)) → 0 < length parts
 cut_step part [] some = absurd (omega arith)
 cut_step part (x ∷ more) some = refl
 
-first_line_some : (bs : List ℕ) → position_or_len is_line_feed bs < length bs → first_line bs ≡ strip_carriage_return (before_first is_line_feed bs)
+pub first_line_some : (bs : List ℕ) → position_or_len is_line_feed bs < length bs → first_line bs ≡ strip_carriage_return (before_first is_line_feed bs)
 first_line_some bs within = cond-true _ _ _ (lt-ltb _ _ within)
 
-first_line_none : (bs : List ℕ) → length bs ≤ position_or_len is_line_feed bs → first_line bs ≡ bs
+pub first_line_none : (bs : List ℕ) → length bs ≤ position_or_len is_line_feed bs → first_line bs ≡ bs
 first_line_none bs past = cond-false _ _ _ (le-ltb _ _ past)
 
-after_line_none : (bs : List ℕ) → length bs ≤ position_or_len is_line_feed bs → after_line bs ≡ []
+pub after_line_none : (bs : List ℕ) → length bs ≤ position_or_len is_line_feed bs → after_line bs ≡ []
 after_line_none bs past = drop_all _ bs (omega arith)
 
 length-strip : (line : List ℕ) → length (strip_carriage_return line) ≤ length line

@@ -4,7 +4,7 @@ ghost use Rattle.std.specs.List.{concat};
 ghost use Rattle.hx_text.specs.Faults.{line_fault, lines_fault};
 ghost use Rattle.hx_text.specs.Lines.{lines_of};
 
-use crate::line_ends::split_line;
+use crate::line_ends::{split_line, split_text};
 use std::alloc::{AllocError, Global};
 use std::marker::Model;
 use std::str;
@@ -125,12 +125,38 @@ fn check_line(line: &[u8], number: u32, most: usize) -> Result<&str, TextFault>
     }
 }
 
-/// Takes a text apart into its lines, of which each has `most` bytes at most.
-///
-/// A line ends at `\n` or at the end of the text. One `\r` before that `\n` isn't part of it. The
-/// fault is that of the first line that has one, where lines are numbered from 1. Of a line that
-/// isn't UTF-8 the length isn't asked.
-pub fn split_lines(alloc: Global, bytes: &[u8], most: usize) -> Result<Lines, TextFault>
+/// Looks whether a line of text is too long.
+fn check_length(line: &str, number: u32, most: usize) -> Result<(), TextFault>
+    ensures ok { OnOk result (line_fault most number line.now ≡ None) }
+    ensures err { IfErr result (λ e. line_fault most number line.now ≡ Some e) }
+{
+    if line.len() > most {
+        return Err(TextFault::LineTooLong { line: number });
+    }
+    Ok(())
+}
+
+/// Takes a text apart into its lines, as `split_lines` does.
+fn split_valid(alloc: Global, text: &str, most: usize) -> Result<Lines, TextFault>
+    requires { length text.now < 2 ^ 32 - 1 }
+    ensures ok { IfOk result (λ lines.
+        (lines ≡ lines_of text.now) × (lines_fault most text.now ≡ None)) }
+    ensures err { IfErr result (λ e.
+        (e ≡ TextFault.OutOfMemory) ⊎ (lines_fault most text.now ≡ Some e)) }
+{
+    let mut lines = Lines::with_room(alloc, text.len())?;
+    let mut rest = text;
+    while !rest.is_empty() {
+        let (line, behind) = split_text(rest);
+        check_length(line, lines.len() + 1, most)?;
+        lines.push(line)?;
+        rest = behind;
+    }
+    Ok(lines)
+}
+
+/// Takes bytes apart into lines, as `split_lines` does. Each line is looked at by itself.
+fn split_checked(alloc: Global, bytes: &[u8], most: usize) -> Result<Lines, TextFault>
     requires { length bytes.now < 2 ^ 32 - 1 }
     ensures ok { IfOk result (λ lines.
         (lines ≡ lines_of bytes.now) × (lines_fault most bytes.now ≡ None)) }
@@ -146,4 +172,22 @@ pub fn split_lines(alloc: Global, bytes: &[u8], most: usize) -> Result<Lines, Te
         rest = behind;
     }
     Ok(lines)
+}
+
+/// Takes a text apart into its lines, of which each has `most` bytes at most.
+///
+/// A line ends at `\n` or at the end of the text. One `\r` before that `\n` isn't part of it. The
+/// fault is that of the first line that has one, where lines are numbered from 1. Of a line that
+/// isn't UTF-8 the length isn't asked.
+pub fn split_lines(alloc: Global, bytes: &[u8], most: usize) -> Result<Lines, TextFault>
+    requires { length bytes.now < 2 ^ 32 - 1 }
+    ensures ok { IfOk result (λ lines.
+        (lines ≡ lines_of bytes.now) × (lines_fault most bytes.now ≡ None)) }
+    ensures err { IfErr result (λ e.
+        (e ≡ TextFault.OutOfMemory) ⊎ (lines_fault most bytes.now ≡ Some e)) }
+{
+    match str::from_utf8(bytes) {
+        Ok(text) => split_valid(alloc, text, most),
+        Err(_) => split_checked(alloc, bytes, most),
+    }
 }

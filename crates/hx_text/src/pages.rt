@@ -162,9 +162,10 @@ impl Page {
         ensures err { OnErr result (self.new ≡ self.old) }
     {
         make_room(&mut self.bytes, self.len, 2 + MOST_DIGITS)?;
-        self.bytes[self.len] = b' ';
-        self.bytes[self.len + 1] = sign;
-        self.len = write_u64(self.bytes.as_mut_slice(), self.len + 2, n);
+        let bytes = self.bytes.as_mut_slice();
+        bytes[self.len] = b' ';
+        bytes[self.len + 1] = sign;
+        self.len = write_u64(bytes, self.len + 2, n);
         Ok(())
     }
 

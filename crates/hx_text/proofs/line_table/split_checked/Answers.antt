@@ -3,7 +3,7 @@ use Rattle.std.proofs.lemmas.Grind.{common_steps}
 use Rattle.std.proofs.lemmas.Result.{err_from_is_err_and}
 use Rattle.hx_text.specs.Faults.{line_fault}
 use Rattle.hx_text.proofs.LineFaults.{taken_more, taken_fault}
-use Rattle.hx_text.proofs.line_table.split_lines.Goals as goal
+use Rattle.hx_text.proofs.line_table.split_checked.Goals as goal
 
 pub returns-in_err-text-clause-err : goal.returns-in_err-text-clause-err
 returns-in_err-text-clause-err c =
