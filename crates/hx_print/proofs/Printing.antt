@@ -1,5 +1,5 @@
 -- Texts that are printed word by word.
-use Rattle.std.proofs.Common.{◌≡◌, ℕ, ◌<◌, List, [], ◌∷◌, ◌++◌, length, map, get_or, drop, codes, refl, ap, ◌∙◌, append_assoc, arith}
+use Rattle.std.proofs.Common.{◌≡◌, ℕ, ◌<◌, List, [], ◌∷◌, ◌++◌, length, map, get_or, drop, codes, refl, sym, ap, ◌∙◌, append_assoc, arith}
 use Rattle.std.proofs.lemmas.Grind.{flat_map-append}
 use Rattle.hx_text.specs.Texts.{PutsFront}
 use Rattle.hx_text.proofs.Printing.{IsMidway, puts_item}
@@ -15,12 +15,12 @@ puts_word name xs i d old page new lt m p = puts_item (λ x. codes " " ++ name x
 pub spaced-append : (xs ys : List (List ℕ)) → spaced (xs ++ ys) ≡ spaced xs ++ spaced ys
 spaced-append xs ys = flat_map-append (λ w. codes " " ++ w) xs ys
 
--- the line in the parts in which it is printed
-pub line_in_parts : (first : List ℕ) (words rest : List (List ℕ)) → first ++ spaced (words ++ rest) ++ codes "\n" ≡ first ++ (spaced words ++ (spaced rest ++ codes "\n"))
+-- the line in the parts in which it is printed: its start, and the words behind it
+pub line_in_parts : (first : List ℕ) (words rest : List (List ℕ)) → first ++ spaced (words ++ rest) ++ codes "\n" ≡ (first ++ spaced words) ++ (spaced rest ++ codes "\n")
 line_in_parts first words rest =
     ap (λ t. first ++ t ++ codes "\n") (spaced-append words rest)
-    ∙ append_assoc first (spaced words ++ spaced rest) (codes "\n")
-    ∙ ap (λ t. first ++ t) (append_assoc (spaced words) (spaced rest) (codes "\n"))
+    ∙ ap (λ t. t ++ codes "\n") (sym (append_assoc first (spaced words) (spaced rest)))
+    ∙ append_assoc (first ++ spaced words) (spaced rest) (codes "\n")
 
 -- words that are there
 pub words_or_dash-some : {X : Type 0} (name : X → List ℕ) (xs : List X) → 0 < length xs → words_or_dash (map name xs) ≡ map name xs

@@ -53,6 +53,11 @@ abbrev pub line_of : List (List ℕ) → List ℕ
 line_of [] = codes "\n"
 line_of (w ∷ ws) = w ++ spaced ws ++ codes "\n"
 
+-- the start of a line, behind which further words are printed
+abbrev pub start_of : List (List ℕ) → List ℕ
+start_of [] = []
+start_of (w ∷ ws) = w ++ spaced ws
+
 -- names; a number without a name has the empty one
 abbrev pub name_at : List (List ℕ) → ℕ → List ℕ
 name_at names place = unwrap_or (slice_get names place) []

@@ -40,48 +40,30 @@ pub enum Rest<'a> {
     Holders(&'a [(SessionId, InstanceId)], &'a [SessionId]),
 }
 
-/// Prints a resource by its name and number.
+/// Prints a resource by its name and number, with a space before it.
 fn print_resource(name: &str, resource: ResourceId, page: &mut Page) -> Result<(), AllocError>
-    ensures { Prints (Texts.numbered name.now resource) page.old result page.new }
+    ensures { Prints (codes " " ++ Texts.numbered name.now resource) page.old result page.new }
 {
-    page.push_str(name)?;
+    page.push_word(name)?;
     page.push_numbered(b'#', resource.0 as u64)
 }
 
-/// Prints a part by its resource's name, and its numbers.
+/// Prints a part by its resource's name, and its numbers, with a space before it.
 fn print_part(name: &str, part: PartId, page: &mut Page) -> Result<(), AllocError>
-    ensures { Prints (Texts.part_of_name name.now part) page.old result page.new }
+    ensures { Prints (codes " " ++ Texts.part_of_name name.now part) page.old result page.new }
 {
     print_resource(name, part.resource, page)?;
     page.push_numbered(b'/', part.index as u64)
 }
 
-/// Prints two names with a sign between.
+/// Prints two names with a sign between, and a space before them.
+#[inline(always)]
 fn print_pair(a: &str, sign: &str, b: &str, page: &mut Page) -> Result<(), AllocError>
-    ensures { Prints (a.now ++ sign.now ++ b.now) page.old result page.new }
+    ensures { Prints (codes " " ++ (a.now ++ sign.now ++ b.now)) page.old result page.new }
 {
-    page.push_str(a)?;
+    page.push_word(a)?;
     page.push_str(sign)?;
     page.push_str(b)
-}
-
-/// Prints a word.
-#[inline(always)]
-fn print_token(word: &Token, page: &mut Page) -> Result<(), AllocError>
-    ensures { Prints (Tokens.token_word word.now) page.old result page.new }
-{
-    match word {
-        Token::Text(text) => page.push_str(text),
-        Token::Number(n) => page.push_u64(*n),
-        Token::Controller(k) => page.push_numbered(b'c', k.0 as u64 + 1),
-        Token::Session(s) => page.push_numbered(b's', s.0),
-        Token::Message(m) => page.push_numbered(b'm', m.0),
-        Token::Epoch(e) => page.push_numbered(b'e', e.0),
-        Token::Pass(p) => page.push_numbered(b'p', p.0),
-        Token::Resource(name, r) => print_resource(name, *r, page),
-        Token::Part(name, p) => print_part(name, *p, page),
-        Token::Pair(a, sign, b) => print_pair(a, sign, b, page),
-    }
 }
 
 /// Prints a word, with a space before it.
@@ -89,19 +71,65 @@ fn print_token(word: &Token, page: &mut Page) -> Result<(), AllocError>
 pub fn print_word(word: &Token, page: &mut Page) -> Result<(), AllocError>
     ensures { Prints (codes " " ++ Tokens.token_word word.now) page.old result page.new }
 {
-    page.push_byte(b' ')?;
-    print_token(word, page)
+    match word {
+        Token::Text(text) => page.push_word(text),
+        Token::Number(n) => page.push_numbered(b' ', *n),
+        Token::Controller(k) => page.push_numbered_word(b'c', k.0 as u64 + 1),
+        Token::Session(s) => page.push_numbered_word(b's', s.0),
+        Token::Message(m) => page.push_numbered_word(b'm', m.0),
+        Token::Epoch(e) => page.push_numbered_word(b'e', e.0),
+        Token::Pass(p) => page.push_numbered_word(b'p', p.0),
+        Token::Resource(name, r) => print_resource(name, *r, page),
+        Token::Part(name, p) => print_part(name, *p, page),
+        Token::Pair(a, sign, b) => print_pair(a, sign, b, page),
+    }
 }
 
-/// Prints words, each with a space before it.
+/// Prints two words, each with a space before it.
 #[inline(always)]
-pub fn print_words(words: &[Token], page: &mut Page) -> Result<(), AllocError>
+fn print_two(one: &Token, other: &Token, page: &mut Page) -> Result<(), AllocError>
+    ensures { Prints
+        ((codes " " ++ Tokens.token_word one.now) ++ (codes " " ++ Tokens.token_word other.now))
+        page.old result page.new }
+{
+    print_word(one, page)?;
+    print_word(other, page)
+}
+
+/// Prints three words, each with a space before it.
+#[inline(always)]
+fn print_three(one: &Token, other: &Token, third: &Token, page: &mut Page) -> Result<(), AllocError>
+    ensures { Prints
+        (((codes " " ++ Tokens.token_word one.now) ++ (codes " " ++ Tokens.token_word other.now))
+        ++ (codes " " ++ Tokens.token_word third.now))
+        page.old result page.new }
+{
+    print_two(one, other, page)?;
+    print_word(third, page)
+}
+
+/// Prints words one by one, each with a space before it.
+fn print_each(words: &[Token], page: &mut Page) -> Result<(), AllocError>
     ensures { Prints (Texts.spaced (Tokens.words_of words.now)) page.old result page.new }
 {
     for word in words {
         print_word(word, page)?;
     }
     Ok(())
+}
+
+/// Prints words, each with a space before it. What kind of word each of a few is, is known where
+/// this is called, and isn't asked again.
+#[inline(always)]
+pub fn print_words(words: &[Token], page: &mut Page) -> Result<(), AllocError>
+    ensures { Prints (Texts.spaced (Tokens.words_of words.now)) page.old result page.new }
+{
+    match words {
+        [one] => print_word(one, page),
+        [one, other] => print_two(one, other, page),
+        [one, other, third] => print_three(one, other, third, page),
+        _ => print_each(words, page),
+    }
 }
 
 /// Prints a line: its first word, and the others.
@@ -111,8 +139,7 @@ pub fn print_line(first: &str, others: &[Token], page: &mut Page) -> Result<(), 
         page.old result page.new }
 {
     page.push_str(first)?;
-    print_words(others, page)?;
-    page.push_byte(b'\n')
+    print_end(others, page)
 }
 
 /// Prints the names of instances, each with a space before it.
@@ -193,25 +220,27 @@ pub fn print_long_line(
         (Tokens.words_of words.now ++ Tokens.rest_words spec.now rest.now)))
         page.old result page.new }
 {
-    page.push_str(first)?;
-    print_words(words, page)?;
+    print_start(first, words, page)?;
     print_rest(rest, spec, page)?;
     page.push_byte(b'\n')
 }
 
-/// Prints a line whose words stand in two lists.
-pub(crate) fn print_parted_line(
-    first: &str,
-    words: &[Token],
-    others: &[Token],
-    page: &mut Page,
-) -> Result<(), AllocError>
-    ensures { Prints
-        (Texts.line_of (first.now ∷ (Tokens.words_of words.now ++ Tokens.words_of others.now)))
+/// Prints the start of a line: its first word, and others.
+#[inline(always)]
+pub(crate) fn print_start(first: &str, words: &[Token], page: &mut Page) -> Result<(), AllocError>
+    ensures { Prints (first.now ++ Texts.spaced (Tokens.words_of words.now))
         page.old result page.new }
 {
     page.push_str(first)?;
+    print_words(words, page)
+}
+
+/// Prints the words at the end of a line that was started.
+#[inline(always)]
+pub(crate) fn print_end(words: &[Token], page: &mut Page) -> Result<(), AllocError>
+    ensures { Prints (Texts.spaced (Tokens.words_of words.now) ++ codes "\n")
+        page.old result page.new }
+{
     print_words(words, page)?;
-    print_words(others, page)?;
     page.push_byte(b'\n')
 }

@@ -1,5 +1,5 @@
 //! The lines of the log. Each kind of line has a function of its own, since a function clears the
-//! room of all its words when it is called.
+//! room of its words when it is called, where they are more than three.
 ghost use Rattle.std.specs.Prelude.{◌≡◌, [], ◌∷◌, ◌++◌, map, codes, decimal};
 ghost use Rattle.std.specs.List.{flat_map};
 ghost use Rattle.hx_cluster.specs.Ends.{session_in};
@@ -7,7 +7,7 @@ ghost use Rattle.hx_text.specs.Texts.{Prints};
 ghost use Rattle.hx_print.specs.Tokens;
 ghost use Rattle.hx_print.specs.Texts;
 
-use crate::lines::{Rest, Token, print_line, print_long_line, print_parted_line};
+use crate::lines::{Rest, Token, print_end, print_line, print_long_line, print_start};
 use crate::names::{
     instance_name, mode_name, model_name, name_at, name_of_resource, outcome_name, session_or_dash,
     state_name, state_or_dash,
@@ -337,98 +337,66 @@ pub fn print_step(
     }
 }
 
-/// Prints an answer that names a message, with the words of the proposal behind it.
-fn print_with_message(
-    word: &str,
-    message: MsgId,
-    proposed: &[Token],
-    page: &mut Page,
-) -> Result<(), AllocError>
+/// Prints that a bound is reached, at the start of a line.
+fn print_over_bound(count: u32, bound: u32, page: &mut Page) -> Result<(), AllocError>
     ensures { Prints
-        (Texts.line_of (word.now ∷ Texts.message_name message ∷ Tokens.words_of proposed.now))
-        page.old result page.new }
-{
-    print_parted_line(word, &[Token::Message(message)], proposed, page)
-}
-
-/// Prints that a replica has another state, with the words of the proposal behind it.
-fn print_wrong_from(
-    has: Option<StateId>,
-    proposed: &[Token],
-    spec: &Spec,
-    page: &mut Page,
-) -> Result<(), AllocError>
-    ensures { Prints
-        (Texts.line_of
-        (codes "  from" ∷ Texts.or_dash (Texts.state_name spec.now) has
-        ∷ Tokens.words_of proposed.now))
-        page.old result page.new }
-{
-    let has = Token::Text(state_or_dash(spec, has));
-    print_parted_line("  from", &[has], proposed, page)
-}
-
-/// Prints that a bound is reached, with the words of the proposal behind it.
-fn print_over_bound(
-    count: u32,
-    bound: u32,
-    proposed: &[Token],
-    page: &mut Page,
-) -> Result<(), AllocError>
-    ensures { Prints
-        (Texts.line_of
-        (codes "  bound" ∷ decimal count ∷ codes "of" ∷ decimal bound
-        ∷ Tokens.words_of proposed.now))
+        (Texts.start_of (codes "  bound" ∷ decimal count ∷ codes "of" ∷ decimal bound ∷ []))
         page.old result page.new }
 {
     let [count, bound] = [Token::Number(count as u64), Token::Number(bound as u64)];
-    let words = [count, Token::Text("of"), bound];
-    print_parted_line("  bound", &words, proposed, page)
+    print_start("  bound", &[count, Token::Text("of"), bound], page)
 }
 
-/// Prints that a throttle is reached, with the words of the proposal behind it.
-fn print_over_throttle(
-    rule: u32,
-    load: u32,
-    limit: u32,
-    proposed: &[Token],
-    page: &mut Page,
-) -> Result<(), AllocError>
+/// Prints that a throttle is reached, at the start of a line.
+fn print_over_throttle(rule: u32, load: u32, limit: u32, page: &mut Page) -> Result<(), AllocError>
     ensures { Prints
-        (Texts.line_of
-        (codes "  throttle" ∷ decimal rule ∷ decimal load ∷ codes "of" ∷ decimal limit
-        ∷ Tokens.words_of proposed.now))
+        (Texts.start_of (codes "  throttle" ∷ decimal rule ∷ decimal load
+        ∷ codes "of" ∷ decimal limit ∷ []))
         page.old result page.new }
 {
     let rule = Token::Number(rule as u64);
     let [load, limit] = [Token::Number(load as u64), Token::Number(limit as u64)];
-    let words = [rule, load, Token::Text("of"), limit];
-    print_parted_line("  throttle", &words, proposed, page)
+    print_start("  throttle", &[rule, load, Token::Text("of"), limit], page)
 }
 
-/// Prints the answer to a proposal, with the words of the proposal behind it.
-fn print_answer(
-    answer: Placed,
-    proposed: &[Token],
-    spec: &Spec,
-    page: &mut Page,
-) -> Result<(), AllocError>
-    ensures { Prints
-        (Texts.line_of (Texts.placed_words spec.now answer ++ Tokens.words_of proposed.now))
+/// Prints the answer to a proposal, at the start of a line.
+#[inline(always)]
+fn print_answer(answer: Placed, spec: &Spec, page: &mut Page) -> Result<(), AllocError>
+    ensures { Prints (Texts.start_of (Texts.placed_words spec.now answer))
         page.old result page.new }
 {
     match answer {
-        Placed::Sent(m) => print_with_message("  sent", m, proposed, page),
-        Placed::Ended => print_line("  ended", proposed, page),
-        Placed::ResourceDropped => print_line("  dropped", proposed, page),
-        Placed::Busy { id } => print_with_message("  busy", id, proposed, page),
-        Placed::WrongFrom { has } => print_wrong_from(has, proposed, spec, page),
-        Placed::Illegal => print_line("  illegal", proposed, page),
-        Placed::OverBound { count, bound } => print_over_bound(count, bound, proposed, page),
-        Placed::OverThrottle { rule, load, limit } => {
-            print_over_throttle(rule, load, limit, proposed, page)
+        Placed::Sent(m) => print_start("  sent", &[Token::Message(m)], page),
+        Placed::Ended => print_start("  ended", &[], page),
+        Placed::ResourceDropped => print_start("  dropped", &[], page),
+        Placed::Busy { id } => print_start("  busy", &[Token::Message(id)], page),
+        Placed::WrongFrom { has } => {
+            print_start("  from", &[Token::Text(state_or_dash(spec, has))], page)
         }
+        Placed::Illegal => print_start("  illegal", &[], page),
+        Placed::OverBound { count, bound } => print_over_bound(count, bound, page),
+        Placed::OverThrottle { rule, load, limit } => print_over_throttle(rule, load, limit, page),
     }
+}
+
+/// Prints the words of a proposal, at the end of a line. The names are those of the resources by
+/// number.
+#[inline(always)]
+fn print_proposal(
+    proposal: &Proposal,
+    names: &[u32],
+    spec: &Spec,
+    page: &mut Page,
+) -> Result<(), AllocError>
+    ensures { Prints (Texts.spaced (Texts.proposal_words spec.now names.now proposal.now) ++ codes "\n")
+        page.old result page.new }
+{
+    let session = Token::Session(proposal.session);
+    let name = name_of_resource(spec, names, proposal.part.resource);
+    let part = Token::Part(name, proposal.part);
+    let from = state_name(spec, proposal.from);
+    let to = state_name(spec, proposal.to);
+    print_end(&[session, part, Token::Pair(from, ">", to)], page)
 }
 
 /// Prints what became of a proposal. The names are those of the resources by number.
@@ -442,13 +410,8 @@ fn print_placed(
     ensures { Prints (Texts.placed_line spec.now names.now proposal.now answer)
         page.old result page.new }
 {
-    let session = Token::Session(proposal.session);
-    let name = name_of_resource(spec, names, proposal.part.resource);
-    let part = Token::Part(name, proposal.part);
-    let from = state_name(spec, proposal.from);
-    let to = state_name(spec, proposal.to);
-    let change = Token::Pair(from, ">", to);
-    print_answer(answer, &[session, part, change], spec, page)
+    print_answer(answer, spec, page)?;
+    print_proposal(proposal, names, spec, page)
 }
 
 /// Prints what became of all proposals of a dispatch.

@@ -1,7 +1,7 @@
 use Rattle.hx_text.proofs.Printing.{prints_err}
 use Rattle.hx_print.specs.Tokens.{token_word}
 use Rattle.hx_print.proofs.Printing.{puts_word}
-use Rattle.hx_print.proofs.lines.print_words.Goals as goal
+use Rattle.hx_print.proofs.lines.print_each.Goals as goal
 
 pub returns-in_err-print_word : goal.returns-in_err-print_word
 returns-in_err-print_word c =
