@@ -1,6 +1,6 @@
 use Rattle.hx_worlds.specs.Turns.{say_finding}
 use Rattle.hx_scene.proofs.Reaching.{here, each_more, each_fails, each_end, does_err}
-use Rattle.hx_sim.proofs.world.World.say_entries.Goals as goal
+use Rattle.hx_sim.proofs.world.World.say_each.Goals as goal
 
 pub loop-entry-init : goal.loop-entry-init
 loop-entry-init g c = here _ _ _

@@ -1,7 +1,7 @@
 use Rattle.std.proofs.Common.{drop}
 use Rattle.hx_worlds.specs.Turns.{say_entries}
 use Rattle.hx_scene.specs.Doing.{Reaches}
-use Rattle.hx_sim.proofs.world.World.say_entries.Given as goal
+use Rattle.hx_sim.proofs.world.World.say_each.Given as goal
 
 -- those so far are said
 abbrev pub invariant-loop-entry : goal.invariant-loop-entry
