@@ -16,4 +16,4 @@ returns-in_err-say_settled-in-Settled g c =
 
 pub returns-in_ok-say_settled-in-Settled : goal.returns-in_ok-say_settled-in-Settled
 returns-in_ok-say_settled-in-Settled g c =
-    rw (c.in-Settled.is, ← c.self-in-Settled.view_is) (does_then_deed c.in_ok-say_settled-in-Settled.ensures _ _ _ _ _ (rw c.as_slice.ensures at c.say_entries.ensures))
+    rw (c.in-Settled.is, ← c.self-in-Settled.view_is) (does_then_deed c.in_ok-say_settled-in-Settled.ensures _ _ _ _ _ c.say_entries.ensures)

@@ -9,7 +9,7 @@ returns-in_err-say_settle g c =
 
 pub returns-in-Some : goal.returns-in-Some
 returns-in-Some g c =
-    rw (← c.self.view_is) (does_then_deed c.in_ok-say_settle.ensures (λ y. say_report c.args.settled.now.report y) _ _ _ _ (rw c.in-Some.is (rw c.as_slice.ensures at c.say_entries.ensures)))
+    rw (← c.self.view_is) (does_then_deed c.in_ok-say_settle.ensures (λ y. say_report c.args.settled.now.report y) _ _ _ _ (rw c.in-Some.is c.say_entries.ensures))
 
 pub returns-in-None : goal.returns-in-None
 returns-in-None g c =
