@@ -558,6 +558,7 @@ fn expect_target(rt: &impl Abort, target: &Target, wanted: &(u32, InstanceId, Fo
 
 fn expect_found(rt: &impl Abort, report: &Report, wanted: &[(u32, InstanceId, Found<'_>)]) {
     let (best, rest) = report.entries.parts();
+    assert!(rt; best.len() <= wanted.len());
     let (front, back) = wanted.split_at(best.len());
     for (target, wanted) in best.iter().zip(front) {
         expect_target(rt, target, wanted);
