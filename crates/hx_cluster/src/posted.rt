@@ -1,5 +1,6 @@
 //! The rows of a post, which a history keeps.
-ghost use Rattle.std.specs.Prelude.{◌≡◌, ◌↔◌, [], length, IfOk, IfSome, IsTrue};
+ghost use Rattle.std.specs.Prelude.{◌≡◌, ◌<◌, ◌^◌, ◌↔◌, [], length, IfOk, IfSome, IsSome, IsTrue};
+ghost use Rattle.hx_cluster.specs.declared.posted.Ahead.TheVariants.{Here, Next, NextResource};
 ghost use Rattle.hx_cluster.specs.Posted.{part_ahead, row_of};
 
 use crate::Seen;
@@ -47,17 +48,20 @@ impl Model for Steps {
 /// How far a part is ahead of another one, if it is by a step.
 #[tactic(auto, using(crate::proofs::PartNumbers::same_part, crate::proofs::PartNumbers::next_part))]
 fn ahead_of(last: PartId, part: PartId) -> Option<Ahead>
-    ensures { IfSome result (λ ahead. part ≡ part_ahead last ahead) }
+    ensures found { IfSome result (λ ahead. part ≡ part_ahead last ahead) }
+    ensures here { part ≡ part_ahead last Here → IsSome result }
+    ensures next { part ≡ part_ahead last Next → IsSome result }
+    ensures next_resource { part ≡ part_ahead last NextResource → IsSome result }
 {
     let from = part_number(last);
     let to = part_number(part);
     if to == from {
         return Some(Ahead::Here);
     }
-    if to.checked_sub(from)? == 0x1_0000_0000 {
+    if to.checked_sub(from) == Some(0x1_0000_0000) {
         return Some(Ahead::Next);
     }
-    if part.index == 0 && part.resource.0.checked_sub(last.resource.0)? == 1 {
+    if part.index == 0 && part.resource.0.checked_sub(last.resource.0) == Some(1) {
         Some(Ahead::NextResource)
     } else {
         None
@@ -66,7 +70,10 @@ fn ahead_of(last: PartId, part: PartId) -> Option<Ahead>
 
 /// The step from a part to a row, if there is one.
 fn step_to(last: PartId, row: &Seen) -> Option<Step>
-    ensures { IfSome result (λ step. row.now ≡ row_of last step) }
+    ensures found { IfSome result (λ step. row.now ≡ row_of last step) }
+    ensures here { row.now.instance.0 < 2 ^ 16 → row.now.part ≡ part_ahead last Here → IsSome result }
+    ensures next { row.now.instance.0 < 2 ^ 16 → row.now.part ≡ part_ahead last Next → IsSome result }
+    ensures next_resource { row.now.instance.0 < 2 ^ 16 → row.now.part ≡ part_ahead last NextResource → IsSome result }
 {
     Some(Step {
         ahead: ahead_of(last, row.part)?,

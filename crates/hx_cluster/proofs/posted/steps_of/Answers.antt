@@ -8,7 +8,7 @@ loop-row-preserved c =
     let l = c.loop-row in
     let step = c.in-Some-step_to in
     record {
-      rows = stepped_rows _ l.last l.steps.items _ step.step c.args.rows.now l.row-index _ l.invariant.rows l.invariant.last step.ensures c.loop-row-test.true c.push_reserved.ensures.items;
-      last = stepped_end _ l.last l.steps.items _ step.step _ l.invariant.last step.ensures c.push_reserved.ensures.items;
+      rows = stepped_rows _ l.last l.steps.items _ step.step c.args.rows.now l.row-index _ l.invariant.rows l.invariant.last step.ensures.found c.loop-row-test.true c.push_reserved.ensures.items;
+      last = stepped_end _ l.last l.steps.items _ step.step _ l.invariant.last step.ensures.found c.push_reserved.ensures.items;
       room = grind (arith, common_steps);
     }
