@@ -10,7 +10,7 @@ ghost use Rattle.hx_board.specs.Refusals.{post_refusal, fetch_refusal};
 
 use crate::board::{Board, make_room, record};
 use crate::faults::{PostRefusal, RoomFault};
-use hx_cluster::{Event, Mail, PostedRows, Seen};
+use hx_cluster::{Event, Mail, Seen};
 use hx_ids::{ControllerId, Epoch, InstanceId};
 
 impl Board {
@@ -43,14 +43,14 @@ impl Board {
             return Err(fault);
         }
         make_room(&mut self.history, self.owed, 1)?;
-        let copy = PostedRows::of(*self.lines.allocator(), rows)?;
         self.records.publish(rows)?;
+        let posted = self.records.posted_rows();
         record(
             &mut self.history,
             Event::Post {
                 c,
                 epoch,
-                rows: copy,
+                rows: posted,
             },
         );
         self.weight += 1 + rows.len() as u64;

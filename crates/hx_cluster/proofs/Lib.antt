@@ -4,5 +4,4 @@ pub mod Absent
 pub mod Allowed
 pub mod Bare
 pub mod Rooms
-pub mod Stepping
 pub mod PartNumbers

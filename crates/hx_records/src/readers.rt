@@ -8,7 +8,7 @@ ghost use Rattle.hx_cluster.specs.Events.{is_proposable, is_postable};
 ghost use Rattle.hx_cluster.specs.Numbered.{IsNumbered};
 
 use crate::Records;
-use hx_cluster::{Admin, Message, Proposal, Resource, Seen};
+use hx_cluster::{Admin, Message, PostedRows, Proposal, Resource, Seen};
 use hx_ids::{ControllerId, Epoch, InstanceId, PartId, PassNo, ResourceId, SessionId, StateId};
 use std::alloc::{AllocError, Global};
 
@@ -130,6 +130,13 @@ impl Records {
         ensures { result.now ≡ self.now.posted }
     {
         self.rest.posted.as_slice()
+    }
+
+    /// The rows of the last post, as a history keeps them.
+    pub fn posted_rows(&self) -> PostedRows
+        ensures { result ≡ self.now.posted }
+    {
+        PostedRows::of(&self.rest.posted)
     }
 
     /// Whether there is an instance.

@@ -1,5 +1,6 @@
 use Rattle.std.proofs.Common.{◌+◌, ◌≤◌, length, refl, sym, ap, ◌∙◌, subst, arith}
 use Rattle.hx_board.specs.Board.{Held, held, weight_at}
+use Rattle.hx_cluster.specs.declared.state.Cluster.{Cluster}
 use Rattle.hx_cluster.specs.declared.happenings.Event.TheVariants as events
 use Rattle.hx_board.proofs.Free.{post_free}
 use Rattle.hx_board.proofs.Growing.{roomy, still, recorded}
@@ -16,9 +17,6 @@ fits c =
 pub invariant_of-self : goal.invariant_of-self
 invariant_of-self c = roomy c.self.inside c.make_room.new.history c.self.invariant c.in_err-make_room.ensures.items c.in_err-make_room.ensures.spare
 
-pub invariant_of-self-in_err-copy : goal.invariant_of-self-in_err-copy
-invariant_of-self-in_err-copy c = roomy c.self.inside c.make_room.new.history c.self.invariant c.in_ok-make_room.ensures.items c.in_ok-make_room.ensures.spare
-
 pub invariant_of-self-in_err-publish : goal.invariant_of-self-in_err-publish
 invariant_of-self-in_err-publish c = still c.self.inside c.publish.new.self c.make_room.new.history c.self.invariant c.in_err-publish.ensures.err c.in_ok-make_room.ensures.items c.in_ok-make_room.ensures.spare
 
@@ -27,7 +25,7 @@ invariant_of-self-2 c =
     let rows = c.args.rows.now in
     let free = post_free c.args.self.now c.args.epoch rows (sym c.post_fault.ensures ∙ c.in_default.is) in
     recorded c.self.inside _ _ _ _ _ _ (events.Post c.args.c c.args.epoch rows) c.self.invariant c.self.view_is (c.requires.controller, c.requires.rows, free.now) refl c.in_ok-publish.ensures.ok refl refl free.fits
-    c.in_ok-make_room.ensures c.record.ensures (ap (events.Post c.args.c c.args.epoch) c.in_ok-copy.ensures)
+    c.in_ok-make_room.ensures c.record.ensures (ap (events.Post c.args.c c.args.epoch) (c.posted_rows.ensures ∙ ap (λ (d : Cluster). d.posted) c.in_ok-publish.ensures.ok))
 
 pub overflow_add-self : goal.overflow_add-self
 overflow_add-self c = omega (arith, fits (goal.at.overflow_add-self c).In_default, c.self.invariant.limited)
