@@ -25,7 +25,7 @@ invariant_of-self-2 c =
     let rows = c.args.rows.now in
     let free = post_free c.args.self.now c.args.epoch rows (sym c.post_fault.ensures ∙ c.in_default.is) in
     recorded c.self.inside _ _ _ _ _ _ (events.Post c.args.c c.args.epoch rows) c.self.invariant c.self.view_is (c.requires.controller, c.requires.rows, free.now) refl c.in_ok-publish.ensures.ok refl refl free.fits
-    c.in_ok-make_room.ensures c.record.ensures (ap (events.Post c.args.c c.args.epoch) (c.posted_rows.ensures ∙ ap (λ (d : Cluster). d.posted) c.in_ok-publish.ensures.ok))
+    c.in_ok-make_room.ensures c.record.ensures (ap (events.Post c.args.c c.args.epoch) (c.posted_rows-posted.ensures ∙ ap (λ (d : Cluster). d.posted) c.in_ok-publish.ensures.ok))
 
 pub overflow_add-self : goal.overflow_add-self
 overflow_add-self c = omega (arith, fits (goal.at.overflow_add-self c).In_default, c.self.invariant.limited)
