@@ -53,8 +53,8 @@ fn push_marked(
     ensures { OnOk result (parts.new.items ≡ parts.old.items ++ marked_in resource 0 cells.now) }
 {
     for (place, marked) in cells.iter().enumerate() {
-        let index = number(place)?;
         if *marked {
+            let index = number(place)?;
             parts.push(PartId { resource, index })?;
         }
     }
