@@ -1,15 +1,16 @@
 //! The view that was planned last.
 ghost use Rattle.std.specs.Prelude.{◌≡◌, false, IfOk, IsTrue};
 ghost use Rattle.hx_ids.specs.declared.PartId.{PartId};
+ghost use Rattle.hx_cluster.specs.Reads.{nothing_shown};
 ghost use Rattle.hx_marks.specs.Marks.{is_marked};
 ghost use Rattle.hx_local.specs.Local.{IsAlike, ShowSame, narrowed as narrowed_of};
 
-use hx_calls::{ideals_over, no_ideals};
+use hx_calls::{ideals_over, no_ideals, nothing_shown};
 use hx_cluster::{Ideals, Message, Row, View};
 use hx_lists::Seq;
 use hx_marks::{Marks, keep_marked, mark_changes};
 use hx_same::Same;
-use std::alloc::AllocError;
+use std::alloc::{AllocError, Global};
 use std::snapshot::Snapshot;
 use std::{marker, mem};
 
@@ -55,23 +56,42 @@ fn same_ideals(ideals: &Ideals, others: &Ideals) -> bool
 }
 
 impl Kept {
-    /// A view, whose messages and rows aren't held. What the given ideals have in the same place as
-    /// its own is kept, and takes no memory.
-    pub fn of(view: &View, ideals: Ideals) -> Result<Kept, AllocError>
-        ensures { IfOk result (λ kept. kept ≡ view.now) }
+    /// Nothing, for which nothing was planned. It takes no memory.
+    pub fn nothing(alloc: Global) -> Kept
+        ensures { result ≡ nothing_shown }
     {
-        let alloc = view.live.allocator();
-        Ok(Kept {
-            view: Snapshot::of(view),
-            lists: View {
-                live: view.live.clone()?,
-                mail: Seq::new(alloc),
-                rows: Seq::new(alloc),
-                ideals: ideals_over(&view.ideals, ideals)?,
-            },
+        let lists = nothing_shown(alloc);
+        Kept {
+            view: Snapshot::of(&lists),
+            lists,
             held: false,
             mail: Seq::new(alloc),
             rows: Seq::new(alloc),
+        }
+    }
+
+    /// Another view, whose messages and rows aren't held. What this one has of what is wanted in the
+    /// same place is kept, and takes no memory; the room of its messages and rows serves again.
+    pub fn over(self, view: &View) -> Result<Kept, AllocError>
+        ensures { IfOk result (λ kept. kept ≡ view.now) }
+    {
+        let Kept {
+            view: _,
+            mut lists,
+            held: _,
+            mail,
+            rows,
+        } = self;
+        let none = no_ideals(view.live.allocator());
+        let ideals = mem::replace(&mut lists.ideals, none);
+        lists.live = view.live.clone()?;
+        lists.ideals = ideals_over(&view.ideals, ideals)?;
+        Ok(Kept {
+            view: Snapshot::of(view),
+            lists,
+            held: false,
+            mail,
+            rows,
         })
     }
 
@@ -84,21 +104,6 @@ impl Kept {
         mem::swap(&mut self.lists.mail, &mut view.mail);
         mem::swap(&mut self.lists.rows, &mut view.rows);
         self.held = true;
-    }
-
-    /// Its ideals, where the rest is given up.
-    pub fn into_ideals(self) -> Ideals
-        ensures { result ≡ self.ideals }
-    {
-        let Kept {
-            view: _,
-            mut lists,
-            held: _,
-            mail: _,
-            rows: _,
-        } = self;
-        let none = no_ideals(lists.live.allocator());
-        mem::replace(&mut lists.ideals, none)
     }
 
     /// Whether another view shows the same sessions and the same to be wanted.

@@ -13,7 +13,7 @@ ghost use Rattle.hx_planner.specs.Known.{IsKnownOf, IsKnownAs};
 
 use crate::kept::Kept;
 use crate::narrow::accepted_among;
-use hx_cluster::{Candidate, Ideals, Seen, Spec, View};
+use hx_cluster::{Candidate, Seen, Spec, View};
 use hx_formed::{is_well_formed, is_well_formed_beside};
 use hx_hops::Hops;
 use hx_lists::Seq;
@@ -81,13 +81,13 @@ impl Known {
         self.posted.as_slice()
     }
 
-    /// What there is to know of a view, if it is well formed with a description. The kept ideals may
-    /// be any: what they have in the same place as the view is kept, and takes no memory.
+    /// What there is to know of a view, if it is well formed with a description. What was kept of an
+    /// earlier one may be any: its memory serves again.
     pub fn of(
         alloc: Global,
         described: &Described,
         view: &View,
-        kept: Ideals,
+        kept: Kept,
     ) -> Result<Option<Known>, AllocError>
         ensures { IfOk result (λ known. IsKnownOf described.now.spec.now view.now known) }
     {
@@ -102,13 +102,13 @@ impl Known {
             posted: posted_rows(alloc, view)?,
             models: spec.models.clone()?,
             instances,
-            view: Kept::of(view, kept)?,
+            view: kept.over(view)?,
         }))
     }
 
-    /// The ideals of the view, where the rest is given up.
-    pub fn into_ideals(self) -> Ideals
-        ensures { result ≡ self.view.ideals }
+    /// The view, where the rest is given up.
+    pub fn into_kept(self) -> Kept
+        ensures { result ≡ self.view }
     {
         let Known {
             models: _,
@@ -117,7 +117,7 @@ impl Known {
             accepted: _,
             posted: _,
         } = self;
-        view.into_ideals()
+        view
     }
 
     /// Whether a description has the same models and as many instances, and a view shows the same

@@ -6,8 +6,8 @@ ghost use Rattle.hx_pass.specs.Turns.{posted_of};
 ghost use Rattle.hx_local.specs.Local.{IsAlike};
 ghost use Rattle.hx_planner.specs.Known.{IsKnownOf};
 
+use crate::kept::Kept;
 use crate::known::{Described, Known};
-use hx_calls::no_ideals;
 use hx_cluster::{Seen, Spec, View};
 use hx_hops::Hops;
 use hx_marks::Marks;
@@ -51,14 +51,14 @@ impl Planner {
         ensures forgotten { self.new ≡ None }
     {
         let Some(known) = self.known.take() else {
-            return Known::of(alloc, described, view, no_ideals(alloc));
+            return Known::of(alloc, described, view, Kept::nothing(alloc));
         };
         if !known.is_for(described.spec, view) {
-            return Known::of(alloc, described, view, known.into_ideals());
+            return Known::of(alloc, described, view, known.into_kept());
         }
         let mut marks = Marks::none(alloc, view.ideals.resources.as_slice())?;
         if !known.mark_changes(view, &mut marks) {
-            return Known::of(alloc, described, view, known.into_ideals());
+            return Known::of(alloc, described, view, known.into_kept());
         }
         known.again(alloc, described.hops, view, &marks)
     }
