@@ -216,6 +216,9 @@ impl Controller {
     pub fn restart(&mut self)
         ensures { self.new ≡ idle_controller self.old.id }
     {
+        if self.draft.is_some() || matches!(self.next, Next::Post) {
+            self.planner.hold(&mut self.view);
+        }
         self.next = Next::Begin;
         self.begun = not_begun();
         forget_shown(&mut self.view, &mut self.spare);

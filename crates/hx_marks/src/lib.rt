@@ -22,6 +22,9 @@ pub use splicing::splice;
 use std::alloc::{AllocError, Global};
 use std::marker::Model;
 
+/// Room for so many parts is taken at first, which mostly is enough.
+const SOME_PARTS: usize = 32;
+
 /// A set of parts of resources. Contracts see a cell for each part, which is marked where the part
 /// is in the set.
 #[derive(Drop)]
@@ -53,8 +56,8 @@ fn push_marked(
     ensures { OnOk result (parts.new.items ≡ parts.old.items ++ marked_in resource 0 cells.now) }
 {
     for (place, marked) in cells.iter().enumerate() {
-        let index = number(place)?;
         if *marked {
+            let index = number(place)?;
             parts.push(PartId { resource, index })?;
         }
     }
@@ -76,12 +79,14 @@ impl Marks {
     pub fn none(alloc: Global, resources: &[Resource]) -> Result<Marks, AllocError>
         ensures { IfOk result (λ marks. (p : PartId) → is_marked marks p ≡ false) }
     {
-        let mut cells = Seq::new(alloc);
+        let mut cells = Vec::with_capacity(alloc, resources.len())?;
         for resource in resources {
             let row = vec![in alloc; false; resource.ideal.parts() as usize]?;
             cells.push(Seq::from_vec(row))?;
         }
-        Ok(Marks { cells })
+        Ok(Marks {
+            cells: Seq::from_vec(cells),
+        })
     }
 
     /// The cells of a resource's parts. It takes no memory.
@@ -122,7 +127,7 @@ impl Marks {
         ensures same { IfOk result (λ parts. (p : PartId)
             → list_any (part_eq p) parts.items ≡ is_marked self.now p) }
     {
-        let mut parts = Vec::new(alloc);
+        let mut parts = Vec::with_capacity(alloc, SOME_PARTS)?;
         let cells = self.cells.as_slice();
         for place in 0..cells.len() {
             let resource = ResourceId(number(place)?);

@@ -11,18 +11,18 @@ ghost use Rattle.hx_marks.specs.Marks.{is_marked, IsSpliced};
 ghost use Rattle.hx_local.specs.Local.{IsAlike, ShowSame, DifferWithin, accepted_in, accepted_within};
 ghost use Rattle.hx_planner.specs.Known.{IsKnownOf, IsKnownAs};
 
-use crate::narrow::{accepted_among, narrowed, widened};
-use hx_calls::{ideals_over, no_ideals};
-use hx_cluster::{Candidate, Ideals, Seen, Spec, View};
+use crate::kept::Kept;
+use crate::narrow::accepted_among;
+use hx_cluster::{Candidate, Seen, Spec, View};
 use hx_formed::{is_well_formed, is_well_formed_beside};
 use hx_hops::Hops;
 use hx_lists::Seq;
-use hx_marks::{Marks, mark_changes, splice};
+use hx_marks::{Marks, splice};
 use hx_model::Model;
 use hx_pass::{accepted, posted as posted_rows};
 use hx_same::Same;
 use std::alloc::{AllocError, Global};
-use std::{marker, mem};
+use std::marker;
 
 /// A description, with the hops of its models.
 #[derive(Drop)]
@@ -38,7 +38,7 @@ pub(crate) struct Described<'a> {
 pub(crate) struct Known {
     models: Seq<Model>,
     instances: usize,
-    view: View,
+    view: Kept,
     accepted: Seq<Candidate>,
     posted: Vec<Seen>,
 }
@@ -66,27 +66,6 @@ impl marker::Model for Known {
     ghost invariant = { λ a. IsKnown a.models a.instances a.view a.accepted a.posted.items };
 }
 
-/// A copy of a view. What the kept ideals have in the same place is kept, and takes no memory.
-fn copied(view: &View, kept: Ideals) -> Result<View, AllocError>
-    ensures { IfOk result (λ copy. copy ≡ view.now) }
-{
-    Ok(View {
-        live: view.live.clone()?,
-        mail: view.mail.clone()?,
-        rows: view.rows.clone()?,
-        ideals: ideals_over(&view.ideals, kept)?,
-    })
-}
-
-/// Whether what is wanted is the same.
-fn same_ideals(ideals: &Ideals, others: &Ideals) -> bool
-    ensures { IsTrue result → ideals.now ≡ others.now }
-{
-    ideals.resources.same(&others.resources)
-        && ideals.drained.same(&others.drained)
-        && ideals.resets.same(&others.resets)
-}
-
 impl Known {
     /// The accepted candidates.
     pub fn accepted(&self) -> &[Candidate]
@@ -102,13 +81,13 @@ impl Known {
         self.posted.as_slice()
     }
 
-    /// What there is to know of a view, if it is well formed with a description. The kept ideals may
-    /// be any: what they have in the same place as the view is kept, and takes no memory.
+    /// What there is to know of a view, if it is well formed with a description. What was kept of an
+    /// earlier one may be any: its memory serves again.
     pub fn of(
         alloc: Global,
         described: &Described,
         view: &View,
-        kept: Ideals,
+        kept: Kept,
     ) -> Result<Option<Known>, AllocError>
         ensures { IfOk result (λ known. IsKnownOf described.now.spec.now view.now known) }
     {
@@ -123,23 +102,22 @@ impl Known {
             posted: posted_rows(alloc, view)?,
             models: spec.models.clone()?,
             instances,
-            view: copied(view, kept)?,
+            view: kept.over(view)?,
         }))
     }
 
-    /// The ideals of the view, where the rest is given up.
-    pub fn into_ideals(self) -> Ideals
-        ensures { result ≡ self.view.ideals }
+    /// The view, where the rest is given up.
+    pub fn into_kept(self) -> Kept
+        ensures { result ≡ self.view }
     {
         let Known {
             models: _,
             instances: _,
-            mut view,
+            view,
             accepted: _,
             posted: _,
         } = self;
-        let none = no_ideals(view.live.allocator());
-        mem::replace(&mut view.ideals, none)
+        view
     }
 
     /// Whether a description has the same models and as many instances, and a view shows the same
@@ -150,19 +128,26 @@ impl Known {
         ensures alike { IsTrue result → IsAlike self.now.view view.now }
     {
         self.instances == spec.instances.len() as usize
-            && self.view.live.same(&view.live)
-            && same_ideals(&self.view.ideals, &view.ideals)
+            && self.view.is_like(view)
             && self.models.same(&spec.models)
     }
 
+    /// Takes over the messages and rows of the view itself, and leaves it others in their place.
+    pub fn hold(&mut self, view: &mut View)
+        requires { view.old ≡ self.old.view }
+        ensures known { self.new ≡ self.old }
+        ensures alike { IsAlike view.new view.old }
+    {
+        self.view.hold(view);
+    }
+
     /// Marks the parts of which a view shows other rows or messages. It says no where there is no
-    /// room for one of these.
+    /// room for one of these, and where the messages and rows of the last view weren't taken over.
     pub fn mark_changes(&self, view: &View, marks: &mut Marks) -> bool
         ensures { IsTrue result → (p : PartId) → is_marked marks.new p ≡ false
             → (is_marked marks.old p ≡ false) × ShowSame self.now.view view.now p }
     {
-        mark_changes(marks, self.view.mail.as_slice(), view.mail.as_slice())
-            && mark_changes(marks, self.view.rows.as_slice(), view.rows.as_slice())
+        self.view.mark_changes(view, marks)
     }
 
     /// What there is to know of a view that differs from this one in the marked parts alone, if it
@@ -185,19 +170,19 @@ impl Known {
             accepted,
             posted,
         } = self;
-        let narrow = narrowed(last, view, marks)?;
-        if !is_well_formed_beside(alloc, models.as_slice(), instances, &narrow)? {
+        let narrow = last.narrowed(view, marks)?;
+        if !is_well_formed_beside(alloc, models.as_slice(), instances, &narrow.view)? {
             return Ok(None);
         }
         let parts = marks.parts(alloc)?;
-        let new = accepted_among(alloc, models.as_slice(), hops, &narrow, marks)?;
+        let new = accepted_among(alloc, models.as_slice(), hops, &narrow.view, marks)?;
         let accepted = splice(alloc, accepted.as_slice(), parts.as_slice(), new.as_slice())?;
-        let new = posted_rows(alloc, &narrow)?;
+        let new = posted_rows(alloc, &narrow.view)?;
         let posted = splice(alloc, posted.as_slice(), parts.as_slice(), new.as_slice())?;
         Ok(Some(Known {
             models,
             instances,
-            view: widened(narrow, view)?,
+            view: narrow.widened(view),
             accepted: Seq::from_vec(accepted),
             posted,
         }))

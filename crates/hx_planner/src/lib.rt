@@ -2,6 +2,7 @@
 //! what changed since then.
 #![tactic(auto)]
 
+mod kept;
 mod known;
 mod narrow;
 mod planner;

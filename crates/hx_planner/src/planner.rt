@@ -3,10 +3,11 @@ ghost use Rattle.std.specs.Prelude.{◌≡◌, true, false, [], None, Some, leng
 ghost use Rattle.hx_cluster.specs.Views.{is_well_formed};
 ghost use Rattle.hx_pass.specs.Drafts.{draft as draft_of};
 ghost use Rattle.hx_pass.specs.Turns.{posted_of};
+ghost use Rattle.hx_local.specs.Local.{IsAlike};
 ghost use Rattle.hx_planner.specs.Known.{IsKnownOf};
 
+use crate::kept::Kept;
 use crate::known::{Described, Known};
-use hx_calls::no_ideals;
 use hx_cluster::{Seen, Spec, View};
 use hx_hops::Hops;
 use hx_marks::Marks;
@@ -50,14 +51,14 @@ impl Planner {
         ensures forgotten { self.new ≡ None }
     {
         let Some(known) = self.known.take() else {
-            return Known::of(alloc, described, view, no_ideals(alloc));
+            return Known::of(alloc, described, view, Kept::nothing(alloc));
         };
         if !known.is_for(described.spec, view) {
-            return Known::of(alloc, described, view, known.into_ideals());
+            return Known::of(alloc, described, view, known.into_kept());
         }
         let mut marks = Marks::none(alloc, view.ideals.resources.as_slice())?;
         if !known.mark_changes(view, &mut marks) {
-            return Known::of(alloc, described, view, known.into_ideals());
+            return Known::of(alloc, described, view, known.into_kept());
         }
         known.again(alloc, described.hops, view, &marks)
     }
@@ -65,7 +66,7 @@ impl Planner {
     /// The draft of a view, if it is well formed with the description. `hops` are those of the
     /// description's models. It costs a look at each row of the view, and a plan of the parts that
     /// have other rows or messages than in the view before; a whole plan where that view showed
-    /// other sessions, or something else to be wanted. It keeps a copy of the view.
+    /// other sessions, or something else to be wanted, or wasn't held.
     pub fn draft(
         &mut self,
         alloc: Global,
@@ -88,6 +89,19 @@ impl Planner {
         let draft = draft_of_accepted(alloc, spec, view, known.accepted())?;
         self.known = Some(known);
         Ok(Some(draft))
+    }
+
+    /// Takes over the messages and rows of the view that was planned last, and leaves it others in
+    /// their place: a plan by what changed goes over them. It takes no memory.
+    pub fn hold(&mut self, view: &mut View)
+        requires { self.old ≡ Some view.old }
+        ensures planned { self.new ≡ self.old }
+        ensures alike { IsAlike view.new view.old }
+    {
+        if let Some(mut last) = self.known.take() {
+            last.hold(view);
+            self.known = Some(last);
+        }
     }
 
     /// The rows to post of the view that was planned last, and none if there is no such view.

@@ -5,4 +5,4 @@ use Rattle.hx_marks.proofs.Marks.none.Given as goal
 
 -- no part is marked
 abbrev pub invariant-loop-resource : goal.invariant-loop-resource
-invariant-loop-resource l = (p : PartId) → is_marked l.cells p ≡ false
+invariant-loop-resource l = (p : PartId) → is_marked l.cells.items p ≡ false

@@ -35,19 +35,19 @@ pub returns-then-not-branch : goal.returns-then-not-branch
 unfolding last
 returns-then-not-branch c =
     let at = (goal.at.returns-then-not-branch c).In_ok-is_well_formed_beside in
-    let bad : false ≡ is_well_formed c.as_slice.result.now c.self.inside.instances c.in_ok-narrow.narrow = grind (arith, c.in_ok-is_well_formed_beside.ensures, c.if-not-branch.true) in
+    let bad : false ≡ is_well_formed c.as_slice.result.now c.self.inside.instances c.in_ok-narrow.narrow.view = grind (arith, c.in_ok-is_well_formed_beside.ensures, c.if-not-branch.true) in
     subst (λ (k : Knowing). is_well_formed k.models k.instances c.args.view.now ≡ false) c.self.view_is
     (formed_by (last at) c.self.inside.accepted c.self.inside.posted.items c.self.invariant (is_marked c.args.marks.now) c.args.view.now (differ at)
-    c.as_slice.result.now c.self.inside.instances c.in_ok-narrow.narrow (same_models at) refl c.in_ok-narrow.ensures false bad)
+    c.as_slice.result.now c.self.inside.instances c.in_ok-narrow.narrow.view (same_models at) refl c.in_ok-narrow.ensures false bad)
 
 pub accepted_among-requires-clause-models : goal.accepted_among-requires-clause-models
 unfolding last
 accepted_among-requires-clause-models c =
     let at = (goal.at.accepted_among-requires-clause-models c).In_ok-is_well_formed_beside in
     let also : c.as_slice-2.result.now ≡ c.self.inside.models = search rules in
-    let good : is_well_formed c.as_slice.result.now c.self.inside.instances c.in_ok-narrow.narrow ≡ true = grind (arith, c.in_ok-is_well_formed_beside.ensures, c.if-not-branch.false) in
-    well_formed-modelled c.as_slice-2.result.now c.self.inside.instances c.in_ok-narrow.narrow
-    (ap (λ (ms : List ModelParts). is_well_formed ms c.self.inside.instances c.in_ok-narrow.narrow) (also ∙ sym (same_models at)) ∙ good)
+    let good : is_well_formed c.as_slice.result.now c.self.inside.instances c.in_ok-narrow.narrow.view ≡ true = grind (arith, c.in_ok-is_well_formed_beside.ensures, c.if-not-branch.false) in
+    well_formed-modelled c.as_slice-2.result.now c.self.inside.instances c.in_ok-narrow.narrow.view
+    (ap (λ (ms : List ModelParts). is_well_formed ms c.self.inside.instances c.in_ok-narrow.narrow.view) (also ∙ sym (same_models at)) ∙ good)
 
 pub splice-requires-clause-old : goal.splice-requires-clause-old
 splice-requires-clause-old c =
@@ -58,7 +58,7 @@ pub splice-requires-clause-new : goal.splice-requires-clause-new
 splice-requires-clause-new c =
     let models = c.as_slice-2.result.now in
     subst (λ (cs : List Candidate). IsByPart (λ c. c.part) cs) (sym (c.as_slice-5.ensures ∙ c.in_ok-new.ensures))
-    (accepted_by_part models c.in_ok-narrow.narrow (marked_targets models (is_marked c.args.marks.now) c.in_ok-narrow.narrow))
+    (accepted_by_part models c.in_ok-narrow.narrow.view (marked_targets models (is_marked c.args.marks.now) c.in_ok-narrow.narrow.view))
 
 pub splice-requires-2-clause-old : goal.splice-requires-2-clause-old
 splice-requires-2-clause-old c =
@@ -66,7 +66,7 @@ splice-requires-2-clause-old c =
 
 pub splice-requires-2-clause-new : goal.splice-requires-2-clause-new
 splice-requires-2-clause-new c =
-    subst (λ (rows : List Seen). IsByPart (λ s. s.part) rows) (sym (c.as_slice-8.ensures.value ∙ c.in_ok-new-2.ensures)) (posted_by_part c.in_ok-narrow.narrow)
+    subst (λ (rows : List Seen). IsByPart (λ s. s.part) rows) (sym (c.as_slice-8.ensures.value ∙ c.in_ok-new-2.ensures)) (posted_by_part c.in_ok-narrow.narrow.view)
 
 pub invariant_of-result : goal.invariant_of-result
 unfolding last
@@ -74,7 +74,7 @@ invariant_of-result c =
     let at = (goal.at.invariant_of-result c).In_ok-is_well_formed_beside in
     let ms = c.as_slice.result.now in
     let marked = is_marked c.args.marks.now in
-    let narrow = c.in_ok-narrow.narrow in
+    let narrow = c.in_ok-narrow.narrow.view in
     let also : c.as_slice-2.result.now ≡ ms = search rules in
     let old : c.as_slice-3.result.now ≡ c.self.inside.accepted = search rules in
     let good : is_well_formed ms c.self.inside.instances narrow ≡ true = grind (arith, c.in_ok-is_well_formed_beside.ensures, c.if-not-branch.false) in
@@ -87,20 +87,19 @@ invariant_of-result c =
     spliced_as (λ s. s.part) c.as_slice-7.result.now marked (λ p. ap (list_any (part_eq p)) c.as_slice-7.ensures.value ∙ c.in_ok-parts.ensures.same p) c.as_slice-6.result.now c.self.inside.posted.items
     c.as_slice-8.result.now (posted_of narrow) c.in_ok-posted.posted.items c.as_slice-6.ensures.value (c.as_slice-8.ensures.value ∙ c.in_ok-new-2.ensures) c.in_ok-posted.ensures in
     let known = known_by (last at) c.self.inside.accepted c.self.inside.posted.items c.self.invariant marked c.args.view.now (differ at)
-    ms c.self.inside.instances narrow (same_models at) refl c.in_ok-narrow.ensures good c.in_ok-accepted.accepted.items c.in_ok-posted.posted.items c.in_ok-widened.field-0 c.in_ok-widened.ensures accepts posts in
-    subst (λ (m : List ModelParts). IsKnown m c.self.inside.instances c.in_ok-widened.field-0 c.from_vec.result c.in_ok-posted.posted.items) (same_models at ∙ sym c.models.view_is)
-    (subst (λ (cs : List Candidate). IsKnown ms c.self.inside.instances c.in_ok-widened.field-0 cs c.in_ok-posted.posted.items) (sym c.from_vec.ensures) known)
+    ms c.self.inside.instances narrow (same_models at) refl c.in_ok-narrow.ensures good c.in_ok-accepted.accepted.items c.in_ok-posted.posted.items c.widened.result c.widened.ensures accepts posts in
+    subst (λ (m : List ModelParts). IsKnown m c.self.inside.instances c.widened.result c.from_vec.result c.in_ok-posted.posted.items) (same_models at)
+    (subst (λ (cs : List Candidate). IsKnown ms c.self.inside.instances c.widened.result cs c.in_ok-posted.posted.items) (sym c.from_vec.ensures) known)
 
 pub returns : goal.returns
 unfolding last
 returns c =
     let at = (goal.at.returns c).In_ok-is_well_formed_beside in
-    let good : true ≡ is_well_formed c.as_slice.result.now c.self.inside.instances c.in_ok-narrow.narrow = grind (arith, c.in_ok-is_well_formed_beside.ensures, c.if-not-branch.false) in
+    let good : true ≡ is_well_formed c.as_slice.result.now c.self.inside.instances c.in_ok-narrow.narrow.view = grind (arith, c.in_ok-is_well_formed_beside.ensures, c.if-not-branch.false) in
     let formed = subst (λ (k : Knowing). is_well_formed k.models k.instances c.args.view.now ≡ true) c.self.view_is
     (formed_by (last at) c.self.inside.accepted c.self.inside.posted.items c.self.invariant (is_marked c.args.marks.now) c.args.view.now (differ at)
-    c.as_slice.result.now c.self.inside.instances c.in_ok-narrow.narrow (same_models at) refl c.in_ok-narrow.ensures true good) in (
+    c.as_slice.result.now c.self.inside.instances c.in_ok-narrow.narrow.view (same_models at) refl c.in_ok-narrow.ensures true good) in (
       formed,
-      ap (λ (m : List ModelParts). record { models = m; instances = c.self.inside.instances; view = c.in_ok-widened.field-0 }) c.models.view_is
-          ∙ ap (λ (v : View). record { models = c.self.inside.models; instances = c.self.inside.instances; view = v }) c.in_ok-widened.ensures
+      ap (λ (v : View). record { models = c.self.inside.models; instances = c.self.inside.instances; view = v }) c.widened.ensures
           ∙ ap (λ (k : Knowing). record { models = k.models; instances = k.instances; view = c.args.view.now }) c.self.view_is,
     )
