@@ -1,5 +1,6 @@
 //! The targets of the parts that don't stand still.
-ghost use Rattle.std.specs.Prelude.{◌≡◌, ◌++◌, Some, List, filter, option_copied, IfOk, OnOk};
+ghost use Rattle.std.specs.Prelude.{◌≡◌, ◌<◌, ◌≤◌, ◌++◌, ℕ, true, false, Some, List, filter};
+ghost use Rattle.std.specs.Prelude.{option_copied, IfOk, OnOk};
 ghost use Rattle.hx_cluster.specs.declared.planning.Target.{Target};
 ghost use Rattle.hx_cluster.specs.Ends.{resource_at};
 ghost use Rattle.hx_best.specs.Targets.{targets_at, targets_in, all_targets};
@@ -51,6 +52,24 @@ fn is_among(marks: Option<&Marks>, part: PartId) -> bool
     }
 }
 
+/// The first part of a resource from an index on that is gone over, or the number of its parts.
+fn next_among(marks: Option<&Marks>, resource: ResourceId, from: u32, count: u32) -> u32
+    requires { from ≤ count }
+    ensures behind { from ≤ result }
+    ensures within { result ≤ count }
+    ensures skipped { (k : ℕ) → from ≤ k → k < result
+        → is_among (option_copied marks.entry) (record { resource = resource; index = k }) ≡ false }
+    ensures found { result < count
+        → is_among (option_copied marks.entry) (record { resource = resource; index = result })
+        ≡ true }
+{
+    let mut index = from;
+    while index < count && !is_among(marks, PartId { resource, index }) {
+        index += 1;
+    }
+    index
+}
+
 /// Adds those of a resource's targets.
 fn add_moving_of(
     places: &Places<'_>,
@@ -68,13 +87,12 @@ fn add_moving_of(
         (targets_in places.now.models places.now.view resource places.now.resource))
         found.new.items) }
 {
-    for index in 0..places.resource().ideal.parts() {
-        let part = PartId { resource, index };
-        if !is_among(marks, part) {
-            continue;
-        }
-        let shown = Shown::of(&*places, part);
+    let count = places.resource().ideal.parts();
+    let mut index = next_among(marks, resource, 0, count);
+    while index < count {
+        let shown = Shown::of(&*places, PartId { resource, index });
         shown.add_moving(marks.is_some(), room, found)?;
+        index = next_among(marks, resource, index + 1, count);
     }
     Ok(())
 }
