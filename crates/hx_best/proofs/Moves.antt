@@ -1,11 +1,12 @@
 -- Targets with each that isn't at its goal, some more of them.
-use Rattle.std.proofs.Common.{◌≡◌, ℕ, ◌+◌, ◌&&◌, ◌++◌, not, Bool, true, false, List, [], ◌∷◌, map, Option, Some, None, refl, sym, ap, subst, ◌∙◌, arith, append_assoc, append-nil}
+use Rattle.std.proofs.Common.{◌≡◌, ℕ, zero, suc, ◌+◌, ◌-◌, ◌<◌, ◌≤◌, ◌&&◌, ◌++◌, not, Bool, true, false, List, [], ◌∷◌, map, Option, Some, None, refl, sym, ap, subst, ◌∙◌, arith, append_assoc, append-nil}
 use Rattle.std.specs.Prelude.{filter, if◌then◌else◌}
 use Rattle.std.specs.List.{list_all, flat_map}
 use Rattle.std.specs.Option.{option_map_or}
 use Rattle.std.proofs.lemmas.List.Elements.{filter-append}
 use Rattle.hx_lists.specs.Lists.{numbers_below}
 use Rattle.hx_ids.specs.declared.PartId.{PartId}
+use Rattle.hx_ids.specs.declared.ResourceId.{ResourceId}
 use Rattle.hx_ids.specs.declared.SessionId.{SessionId}
 use Rattle.hx_ids.specs.declared.InstanceId.{InstanceId}
 use Rattle.hx_model.specs.declared.ModelParts.{ModelParts}
@@ -95,3 +96,27 @@ module _ (models : List ModelParts) (view : View) where
       let before = those_among marks (flat_map f (numbers_below n)) in
       let one = ap (those_among marks) (flat_map-numbers_below_more f n) ∙ filter-append (λ t. is_among marks t.part) (flat_map f (numbers_below n)) (f n) in
       subst (λ (ts : List Target). HasMoving models view ts found) (append_assoc all before (those_among marks (f n)) ∙ ap (λ (ts : List Target). all ++ ts) (sym one)) has
+
+  -- parts that aren't gone over have none of them
+  module _ (marks : Option (List (List Bool))) (r : Resource) (s : ResourceId) where
+    abbrev pub at : ℕ → List Target
+    at k = targets_at models view r (record { resource = s; index = k })
+
+    none_among : (n d : ℕ) → ((k : ℕ) → n ≤ k → k < n + d → is_among marks (record { resource = s; index = k }) ≡ false)
+        → those_among marks (flat_map at (numbers_below (n + d))) ≡ those_among marks (flat_map at (numbers_below n))
+    none_among n zero out = let same : n + 0 ≡ n = omega arith in ap (λ (m : ℕ). those_among marks (flat_map at (numbers_below m))) same
+    none_among n (suc d) out =
+        let more : n + suc d ≡ (n + d) + 1 = omega arith in
+        let before = those_among marks (flat_map at (numbers_below (n + d))) in
+        ap (λ (m : ℕ). those_among marks (flat_map at (numbers_below m))) more
+        ∙ ap (those_among marks) (flat_map-numbers_below_more at (n + d))
+        ∙ filter-append (λ t. is_among marks t.part) (flat_map at (numbers_below (n + d))) (at (n + d))
+        ∙ ap (λ (ts : List Target). before ++ ts) (part_among marks r (record { resource = s; index = n + d }) false (out (n + d) (omega arith) (omega arith)))
+        ∙ append-nil before ∙ none_among n d (λ k a b. out k a (omega (arith, b)))
+
+    pub skipped_among : (n m : ℕ) (all found : List Target) → n ≤ m → ((k : ℕ) → n ≤ k → k < m → is_among marks (record { resource = s; index = k }) ≡ false)
+        → HasMoving models view (all ++ those_among marks (flat_map at (numbers_below n))) found → HasMoving models view (all ++ those_among marks (flat_map at (numbers_below m))) found
+    skipped_among n m all found up out has =
+        let whole : n + (m - n) ≡ m = omega (arith, up) in
+        let same = sym (none_among n (m - n) (λ k a b. out k a (omega (arith, b, up)))) ∙ ap (λ (m : ℕ). those_among marks (flat_map at (numbers_below m))) whole in
+        subst (λ (ts : List Target). HasMoving models view (all ++ ts) found) same has

@@ -1,5 +1,6 @@
 //! The targets of the parts that don't stand still.
-ghost use Rattle.std.specs.Prelude.{◌≡◌, ◌++◌, Some, List, filter, option_copied, IfOk, OnOk};
+ghost use Rattle.std.specs.Prelude.{◌≡◌, ◌<◌, ◌≤◌, ◌++◌, ℕ, true, false, Some, List, filter};
+ghost use Rattle.std.specs.Prelude.{option_copied, IfOk, OnOk};
 ghost use Rattle.hx_cluster.specs.declared.planning.Target.{Target};
 ghost use Rattle.hx_cluster.specs.Ends.{resource_at};
 ghost use Rattle.hx_best.specs.Targets.{targets_at, targets_in, all_targets};
@@ -17,8 +18,14 @@ use hx_model::Model;
 use std::alloc::{AllocError, Global};
 
 impl Shown<'_> {
-    /// Adds the targets of the part, unless it stands still.
-    fn add_moving(&self, room: &mut Room, found: &mut Vec<Target>) -> Result<(), AllocError>
+    /// Adds the targets of the part, unless it is found to stand still. A marked part mostly doesn't,
+    /// and isn't looked at for it.
+    fn add_moving(
+        &self,
+        is_marked: bool,
+        room: &mut Room,
+        found: &mut Vec<Target>,
+    ) -> Result<(), AllocError>
         requires { resource_at self.now.0.view.ideals.resources self.now.1.resource
             ≡ Some self.now.0.resource }
         ensures { (all : List Target) → HasMoving self.now.0.models self.now.0.view all found.old.items
@@ -28,7 +35,7 @@ impl Shown<'_> {
             ++ targets_at self.now.0.models self.now.0.view self.now.0.resource self.now.1)
             found.new.items) }
     {
-        if self.is_still(&mut room.list)? {
+        if !is_marked && self.is_still(&mut room.list)? {
             return Ok(());
         }
         self.add_targets(room, found)
@@ -43,6 +50,24 @@ fn is_among(marks: Option<&Marks>, part: PartId) -> bool
         Some(marks) => marks.has(part),
         None => true,
     }
+}
+
+/// The first part of a resource from an index on that is gone over, or the number of its parts.
+fn next_among(marks: Option<&Marks>, resource: ResourceId, from: u32, count: u32) -> u32
+    requires { from ≤ count }
+    ensures behind { from ≤ result }
+    ensures within { result ≤ count }
+    ensures skipped { (k : ℕ) → from ≤ k → k < result
+        → is_among (option_copied marks.entry) (record { resource = resource; index = k }) ≡ false }
+    ensures found { result < count
+        → is_among (option_copied marks.entry) (record { resource = resource; index = result })
+        ≡ true }
+{
+    let mut index = from;
+    while index < count && !is_among(marks, PartId { resource, index }) {
+        index += 1;
+    }
+    index
 }
 
 /// Adds those of a resource's targets.
@@ -62,13 +87,12 @@ fn add_moving_of(
         (targets_in places.now.models places.now.view resource places.now.resource))
         found.new.items) }
 {
-    for index in 0..places.resource().ideal.parts() {
-        let part = PartId { resource, index };
-        if !is_among(marks, part) {
-            continue;
-        }
-        let shown = Shown::of(&*places, part);
-        shown.add_moving(room, found)?;
+    let count = places.resource().ideal.parts();
+    let mut index = next_among(marks, resource, 0, count);
+    while index < count {
+        let shown = Shown::of(&*places, PartId { resource, index });
+        shown.add_moving(marks.is_some(), room, found)?;
+        index = next_among(marks, resource, index + 1, count);
     }
     Ok(())
 }
@@ -88,7 +112,7 @@ fn moving_among(
     let resources = index.view().ideals.resources.as_slice();
     let count = number(resources.len())?;
     let mut room = Room::new(alloc);
-    let mut found = Vec::new(alloc);
+    let mut found = Vec::with_capacity(alloc, index.view().rows.len())?;
     for number in 0..count {
         let places = Places::of(alloc, &*index, models, &resources[number as usize])?;
         add_moving_of(&places, ResourceId(number), marks, &mut room, &mut found)?;

@@ -84,7 +84,7 @@ impl<'a> Stage<'a> {
             option_map (ranked_as self.now) (candidate_of self.now.models self.now.view t))
             targets.now) }
     {
-        let mut ranked = Vec::new(alloc);
+        let mut ranked = Vec::with_capacity(alloc, targets.len())?;
         for target in targets {
             push_some(&mut ranked, self.next(target))?;
         }

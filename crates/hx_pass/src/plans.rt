@@ -44,6 +44,7 @@ pub fn proposals_of(alloc: Global, sent: &[Candidate]) -> Result<Seq<Proposal>, 
     ensures { IfOk result (λ proposals. proposals ≡ map proposal sent.now) }
 {
     let mut proposals = Seq::new(alloc);
+    proposals.reserve(sent.len())?;
     for candidate in sent {
         proposals.push(Proposal {
             session: candidate.session,

@@ -70,6 +70,7 @@ pub fn accepted_on(
 {
     let mut fillings = PartFillings::new(alloc);
     let mut accepted = Seq::new(alloc);
+    accepted.reserve(candidates.len())?;
     for candidate in candidates {
         if fillings.accepts(models, index, candidate)? {
             accepted.push(*candidate)?;

@@ -73,6 +73,7 @@ pub fn sent_on(
     let shown = Shown::new(alloc, view.live.as_slice())?;
     let mut loads = shown_loads(alloc, rules, &shown, view.mail.as_slice())?;
     let mut sent = Seq::new(alloc);
+    sent.reserve(accepted.len())?;
     for candidate in accepted {
         let keyed = shown.keyed(&transition(candidate));
         if first_holding(&loads, rules, keyed).is_none() {

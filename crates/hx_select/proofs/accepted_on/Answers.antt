@@ -14,10 +14,11 @@ pub loop-candidate-init : goal.loop-candidate-init
 loop-candidate-init c =
     let models = c.args.models.now in
     let view = c.args.index.now in
+    let none : c.reserve.new.self ≡ [] = c.reserve.ensures ∙ c.new-accepted.ensures in
     record {
-      accepting = ap (λ (cs : List Candidate). fold (with_chosen (has_room models view)) cs c.args.candidates.now) c.new-accepted.ensures;
+      accepting = ap (λ (cs : List Candidate). fold (with_chosen (has_room models view)) cs c.args.candidates.now) none;
       filled =
-          subst (λ (cs : List Candidate). ArePartFillings models view cs c.new-fillings.result.part c.new-fillings.result.fillings.items) (sym c.new-accepted.ensures)
+          subst (λ (cs : List Candidate). ArePartFillings models view cs c.new-fillings.result.part c.new-fillings.result.fillings.items) (sym none)
           (c.new-fillings.ensures.fillings models view);
       later = λ k d ge long. c.new-fillings.ensures.first (get_or c.args.candidates.now k d).part;
     }
