@@ -15,6 +15,9 @@ use hx_lists::Log;
 use std::alloc::{AllocError, Global};
 use std::marker::Model;
 
+/// For how many events at least room is made at once.
+const BATCH: usize = 1 << 16;
+
 /// All that happened, in order. Its room is made before what it records.
 #[derive(Drop)]
 pub struct History {
@@ -124,6 +127,17 @@ impl Entries {
         if additional <= self.spare {
             return Ok(());
         }
+        self.grow(additional.max(BATCH))
+    }
+
+    /// Makes room for so many items more in each column.
+    #[inline(never)]
+    fn grow(&mut self, additional: usize) -> Result<(), AllocError>
+        requires { self.old.spare ≤ additional }
+        ensures items { self.new.items ≡ self.old.items }
+        ensures spare { OnOk result (self.new.spare ≡ additional) }
+        ensures err { OnErr result (self.new ≡ self.old) }
+    {
         self.kinds.reserve(additional)?;
         let words = additional.checked_mul(4).ok_or(AllocError)?;
         self.words.reserve(words)?;
