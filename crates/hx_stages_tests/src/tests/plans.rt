@@ -501,12 +501,13 @@ fn drafted(rt: &impl Abort, alloc: Global, spec: &Spec, view: &View) -> Plan {
     Plan { proposals, report }
 }
 
-/// What a planner of one view after another proposes of a view. It posts each row.
+/// What a planner of one view after another proposes of a view. It posts each row, and goes by them
+/// with the next view.
 fn planned_again(
     rt: &impl Abort,
     alloc: Global,
     spec: &Spec,
-    view: &View,
+    view: &mut View,
     planner: &mut Planner,
 ) -> Seq<Proposal> {
     let hops = hops(rt, alloc, spec.models.as_slice());
@@ -517,6 +518,7 @@ fn planned_again(
         panic!(rt; "no memory");
     };
     assert_eq!(rt; planner.posted().len(), view.rows.len());
+    planner.hold(view);
     proposals
 }
 
@@ -585,11 +587,11 @@ fn expect(rt: &impl Abort, alloc: Global, table: &[Worked]) {
     let mut planner = Planner::new();
     for worked in table {
         let spec = described(rt, alloc, worked.shown.text);
-        let view = view(rt, alloc, &spec, &worked.shown);
+        let mut view = view(rt, alloc, &spec, &worked.shown);
         expect_stages(rt, alloc, &spec, &view, worked);
         expect_plan(rt, &planned(rt, alloc, &spec, &view), worked);
         expect_plan(rt, &drafted(rt, alloc, &spec, &view), worked);
-        let again = planned_again(rt, alloc, &spec, &view, &mut planner);
+        let again = planned_again(rt, alloc, &spec, &mut view, &mut planner);
         expect_moves(rt, again.as_slice(), worked.moves);
     }
 }
