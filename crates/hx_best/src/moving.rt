@@ -11,7 +11,7 @@ use crate::aims::Room;
 use crate::lookups::Index;
 use crate::marks::{Shown, number};
 use crate::places::Places;
-use hx_cluster::Target;
+use hx_cluster::{Target, View};
 use hx_ids::{PartId, ResourceId};
 use hx_marks::Marks;
 use hx_model::Model;
@@ -97,6 +97,14 @@ fn add_moving_of(
     Ok(())
 }
 
+/// For how many targets to make room: marked parts mostly move, and the others mostly stand still.
+fn expected(view: &View, marks: Option<&Marks>) -> usize {
+    match marks {
+        Some(_) => view.rows.len(),
+        None => 0,
+    }
+}
+
 /// Those of all resources. The room and the list are the same for all of them, so that what they
 /// take is allocated once.
 fn moving_among(
@@ -112,7 +120,7 @@ fn moving_among(
     let resources = index.view().ideals.resources.as_slice();
     let count = number(resources.len())?;
     let mut room = Room::new(alloc);
-    let mut found = Vec::with_capacity(alloc, index.view().rows.len())?;
+    let mut found = Vec::with_capacity(alloc, expected(index.view(), marks))?;
     for number in 0..count {
         let places = Places::of(alloc, &*index, models, &resources[number as usize])?;
         add_moving_of(&places, ResourceId(number), marks, &mut room, &mut found)?;
