@@ -11,21 +11,18 @@ use crate::aims::Room;
 use crate::lookups::Index;
 use crate::marks::{Shown, number};
 use crate::places::Places;
-use hx_cluster::{Target, View};
+use hx_cluster::Target;
 use hx_ids::{PartId, ResourceId};
 use hx_marks::Marks;
 use hx_model::Model;
 use std::alloc::{AllocError, Global};
 
+/// For so many targets room is made at once. Of many parts few may move.
+const FEW: usize = 64;
+
 impl Shown<'_> {
-    /// Adds the targets of the part, unless it is found to stand still. A marked part mostly doesn't,
-    /// and isn't looked at for it.
-    fn add_moving(
-        &self,
-        is_marked: bool,
-        room: &mut Room,
-        found: &mut Vec<Target>,
-    ) -> Result<(), AllocError>
+    /// Adds the targets of the part, unless it stands still.
+    fn add_moving(&self, room: &mut Room, found: &mut Vec<Target>) -> Result<(), AllocError>
         requires { resource_at self.now.0.view.ideals.resources self.now.1.resource
             ≡ Some self.now.0.resource }
         ensures { (all : List Target) → HasMoving self.now.0.models self.now.0.view all found.old.items
@@ -35,7 +32,7 @@ impl Shown<'_> {
             ++ targets_at self.now.0.models self.now.0.view self.now.0.resource self.now.1)
             found.new.items) }
     {
-        if !is_marked && self.is_still(&mut room.list)? {
+        if self.is_still(&mut room.list)? {
             return Ok(());
         }
         self.add_targets(room, found)
@@ -91,18 +88,10 @@ fn add_moving_of(
     let mut index = next_among(marks, resource, 0, count);
     while index < count {
         let shown = Shown::of(&*places, PartId { resource, index });
-        shown.add_moving(marks.is_some(), room, found)?;
+        shown.add_moving(room, found)?;
         index = next_among(marks, resource, index + 1, count);
     }
     Ok(())
-}
-
-/// For how many targets to make room: marked parts mostly move, and the others mostly stand still.
-fn expected(view: &View, marks: Option<&Marks>) -> usize {
-    match marks {
-        Some(_) => view.rows.len(),
-        None => 0,
-    }
 }
 
 /// Those of all resources. The room and the list are the same for all of them, so that what they
@@ -120,7 +109,7 @@ fn moving_among(
     let resources = index.view().ideals.resources.as_slice();
     let count = number(resources.len())?;
     let mut room = Room::new(alloc);
-    let mut found = Vec::with_capacity(alloc, expected(index.view(), marks))?;
+    let mut found = Vec::with_capacity(alloc, index.view().rows.len().min(FEW))?;
     for number in 0..count {
         let places = Places::of(alloc, &*index, models, &resources[number as usize])?;
         add_moving_of(&places, ResourceId(number), marks, &mut room, &mut found)?;
