@@ -17,15 +17,12 @@ use hx_marks::Marks;
 use hx_model::Model;
 use std::alloc::{AllocError, Global};
 
+/// For so many targets room is made at once. Of many parts few may move.
+const FEW: usize = 64;
+
 impl Shown<'_> {
-    /// Adds the targets of the part, unless it is found to stand still. A marked part mostly doesn't,
-    /// and isn't looked at for it.
-    fn add_moving(
-        &self,
-        is_marked: bool,
-        room: &mut Room,
-        found: &mut Vec<Target>,
-    ) -> Result<(), AllocError>
+    /// Adds the targets of the part, unless it stands still.
+    fn add_moving(&self, room: &mut Room, found: &mut Vec<Target>) -> Result<(), AllocError>
         requires { resource_at self.now.0.view.ideals.resources self.now.1.resource
             ≡ Some self.now.0.resource }
         ensures { (all : List Target) → HasMoving self.now.0.models self.now.0.view all found.old.items
@@ -35,7 +32,7 @@ impl Shown<'_> {
             ++ targets_at self.now.0.models self.now.0.view self.now.0.resource self.now.1)
             found.new.items) }
     {
-        if !is_marked && self.is_still(&mut room.list)? {
+        if self.is_still(&mut room.list)? {
             return Ok(());
         }
         self.add_targets(room, found)
@@ -91,7 +88,7 @@ fn add_moving_of(
     let mut index = next_among(marks, resource, 0, count);
     while index < count {
         let shown = Shown::of(&*places, PartId { resource, index });
-        shown.add_moving(marks.is_some(), room, found)?;
+        shown.add_moving(room, found)?;
         index = next_among(marks, resource, index + 1, count);
     }
     Ok(())
@@ -112,7 +109,7 @@ fn moving_among(
     let resources = index.view().ideals.resources.as_slice();
     let count = number(resources.len())?;
     let mut room = Room::new(alloc);
-    let mut found = Vec::with_capacity(alloc, index.view().rows.len())?;
+    let mut found = Vec::with_capacity(alloc, index.view().rows.len().min(FEW))?;
     for number in 0..count {
         let places = Places::of(alloc, &*index, models, &resources[number as usize])?;
         add_moving_of(&places, ResourceId(number), marks, &mut room, &mut found)?;

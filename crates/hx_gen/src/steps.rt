@@ -20,6 +20,9 @@ use hx_parts::ByPart;
 use std::alloc::{AllocError, Global};
 use std::marker;
 
+/// For so many candidates room is made at once. Of many targets few may have one.
+const FEW: usize = 64;
+
 /// The models and the view of a pass, with the hops and the messages by part.
 pub struct Stage<'a> {
     models: &'a [Model],
@@ -84,7 +87,7 @@ impl<'a> Stage<'a> {
             option_map (ranked_as self.now) (candidate_of self.now.models self.now.view t))
             targets.now) }
     {
-        let mut ranked = Vec::with_capacity(alloc, targets.len())?;
+        let mut ranked = Vec::with_capacity(alloc, targets.len().min(FEW))?;
         for target in targets {
             push_some(&mut ranked, self.next(target))?;
         }

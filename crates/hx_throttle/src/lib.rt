@@ -19,6 +19,9 @@ use hx_cluster::{Candidate, Proposal, Rule, Spec, Throttled, View};
 use hx_lists::Seq;
 use std::alloc::{AllocError, Global};
 
+/// For so many candidates room is made at once. Of many accepted ones few may be sent.
+const FEW: usize = 64;
+
 /// The accepted candidates that the throttles of a description allow, and those that they hold
 /// back, in their order.
 pub fn throttle(
@@ -73,7 +76,7 @@ pub fn sent_on(
     let shown = Shown::new(alloc, view.live.as_slice())?;
     let mut loads = shown_loads(alloc, rules, &shown, view.mail.as_slice())?;
     let mut sent = Seq::new(alloc);
-    sent.reserve(accepted.len())?;
+    sent.reserve(accepted.len().min(FEW))?;
     for candidate in accepted {
         let keyed = shown.keyed(&transition(candidate));
         if first_holding(&loads, rules, keyed).is_none() {
