@@ -37,11 +37,24 @@ pub fn begin(cluster: &mut Cluster, controller: ControllerId) -> Begun
     begun
 }
 
+/// Puts rows in place of a list, in its room where that is enough. Where memory is refused the list
+/// stays.
+fn write_over(posted: &mut Vec<Seen>, rows: &[Seen]) -> Result<(), AllocError>
+    ensures ok { OnOk result (posted.new.items ≡ rows.now) }
+    ensures err { OnErr result (posted.new.items ≡ posted.old.items) }
+{
+    posted.reserve(rows.len().saturating_sub(posted.len()))?;
+    posted.clear();
+    posted.extend_from_slice(rows)
+}
+
 /// Posts rows in place of those that stand.
 pub fn publish(cluster: &mut Cluster, rows: &[Seen]) -> Result<(), AllocError>
     ensures ok { OnOk result (cluster.new ≡ record cluster.old { posted = rows.now }) }
     ensures err { OnErr result (cluster.new ≡ cluster.old) }
 {
-    cluster.posted = Seq::from_slice(cluster.posted.allocator(), rows)?;
-    Ok(())
+    let mut posted = cluster.posted.take_all();
+    let written = write_over(&mut posted, rows);
+    cluster.posted = Seq::from_vec(posted);
+    written
 }

@@ -1,5 +1,5 @@
 -- The number of each key after one is raised or lowered.
-use Rattle.std.proofs.Common.{◌≡◌, ℕ, ◌+◌, ◌-◌, ◌<◌, Bool, true, false, List, Some, Option, refl, ap, ◌∙◌, arith}
+use Rattle.std.proofs.Common.{◌≡◌, ℕ, ◌+◌, ◌-◌, Bool, true, false, List, Some, Option, refl, ap, ◌∙◌, arith}
 use Rattle.std.specs.Prelude.{◌==◌, ◌&&◌, if◌then◌else◌, unwrap_or}
 use Rattle.std.specs.Map.{lookup}
 use Rattle.std.proofs.lemmas.Bool.{eqb-true}
@@ -32,13 +32,13 @@ raised is tells key q es new h = ap (λ (o : Option ℕ). unwrap_or o 0) h ∙ o
     one true e = ap (λ x. number_at is es x + 1) (tells.same key q e)
     one false e = omega arith
 
--- one less
-pub lowered : {K : Type 0} (is : K → K → Bool) → TellsKeys is → (key q : K) (es new : List (K × ℕ)) → 0 < number_at is es key
+-- one less, where there is one
+pub lowered : {K : Type 0} (is : K → K → Bool) → TellsKeys is → (key q : K) (es new : List (K × ℕ))
     → number_at is new q ≡ (if is key q then number_at is es key - 1 else number_at is es q)
-    → number_at is new q + (if is q key then 1 else 0) ≡ number_at is es q
-lowered is tells key q es new some h = ap (λ (b : Bool). number_at is new q + (if b then 1 else 0)) (tells.turn q key) ∙ one (is key q) refl h
+    → number_at is new q ≡ number_at is es q - (if is q key then 1 else 0)
+lowered is tells key q es new h = one (is key q) refl h ∙ ap (λ (b : Bool). number_at is es q - (if b then 1 else 0)) (tells.turn key q)
   where
-    one : (b : Bool) → is key q ≡ b → number_at is new q ≡ (if b then number_at is es key - 1 else number_at is es q) → number_at is new q + (if b then 1 else 0) ≡ number_at is es q
+    one : (b : Bool) → is key q ≡ b → number_at is new q ≡ (if b then number_at is es key - 1 else number_at is es q) → number_at is new q ≡ number_at is es q - (if b then 1 else 0)
     one true e h = let this : number_at is es key ≡ number_at is es q = ap (λ x. number_at is es x) (tells.same key q e) in omega arith
     one false e h = omega arith
 

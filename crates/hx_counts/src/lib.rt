@@ -43,9 +43,8 @@ impl Counts {
         }
     }
 
-    /// Counts an end.
+    /// Counts an end. A number that is at its most is answered as want of memory.
     pub fn raise_end(&mut self, part: PartId, state: StateId) -> Result<(), AllocError>
-        requires { ends_of self.old part state < 2 ^ 32 - 1 }
         ensures ends { OnOk result
             ((p : PartId) (s : StateId)
             → ends_of self.new p s
@@ -56,12 +55,11 @@ impl Counts {
         raise(&mut self.ends, (part, state))
     }
 
-    /// Counts an end no longer. It takes no memory.
+    /// Counts an end no longer, if it is counted. It takes no memory.
     pub fn lower_end(&mut self, part: PartId, state: StateId)
-        requires { 0 < ends_of self.old part state }
         ensures ends { (p : PartId) (s : StateId)
-            → ends_of self.new p s + (if is_end p s (part, state) then 1 else 0)
-            ≡ ends_of self.old p s }
+            → ends_of self.new p s
+            ≡ ends_of self.old p s - (if is_end p s (part, state) then 1 else 0) }
         ensures loads { self.new.loads ≡ self.old.loads }
     {
         lower(&mut self.ends, (part, state));
@@ -74,9 +72,9 @@ impl Counts {
         number(&self.ends, &(part, state))
     }
 
-    /// Counts a load of a rule, by its place, under a key: the instance, the resource, or 0 for the cluster.
+    /// Counts a load of a rule, by its place, under a key: the instance, the resource, or 0 for the
+    /// cluster. A number that is at its most is answered as want of memory.
     pub fn raise_load(&mut self, rule: usize, key: u32) -> Result<(), AllocError>
-        requires { loads_of self.old rule key < 2 ^ 32 - 1 }
         ensures ends { OnOk result (self.new.ends ≡ self.old.ends) }
         ensures loads { OnOk result
             ((r : ℕ) (k : ℕ)
@@ -87,13 +85,12 @@ impl Counts {
         raise(&mut self.loads, (rule, key))
     }
 
-    /// Counts a load no longer. It takes no memory.
+    /// Counts a load no longer, if it is counted. It takes no memory.
     pub fn lower_load(&mut self, rule: usize, key: u32)
-        requires { 0 < loads_of self.old rule key }
         ensures ends { self.new.ends ≡ self.old.ends }
         ensures loads { (r : ℕ) (k : ℕ)
-            → loads_of self.new r k + (if is_load r k (rule, key) then 1 else 0)
-            ≡ loads_of self.old r k }
+            → loads_of self.new r k
+            ≡ loads_of self.old r k - (if is_load r k (rule, key) then 1 else 0) }
     {
         lower(&mut self.loads, (rule, key));
     }
@@ -114,9 +111,8 @@ fn number<K: Eq + Hash>(numbers: &HashMap<K, u32>, key: &K) -> u32
     numbers.get(key).copied().unwrap_or(0)
 }
 
-// Raises the number of a key by one.
+// Raises the number of a key by one. One that is at its most is answered as want of memory.
 fn raise<K: Eq + Hash + Drop>(numbers: &mut HashMap<K, u32>, key: K) -> Result<(), AllocError>
-    requires { unwrap_or (get K.eq numbers.old key) 0 < 2 ^ 32 - 1 }
     ensures ok { OnOk result
         ((q : K)
         → get K.eq numbers.new q
@@ -125,6 +121,9 @@ fn raise<K: Eq + Hash + Drop>(numbers: &mut HashMap<K, u32>, key: K) -> Result<(
     ensures err { OnErr result (numbers.new.entries ≡ numbers.old.entries) }
 {
     if let Some(number) = numbers.get_mut(&key) {
+        if *number == u32::MAX {
+            return Err(AllocError);
+        }
         *number += 1;
         return Ok(());
     }
@@ -132,9 +131,8 @@ fn raise<K: Eq + Hash + Drop>(numbers: &mut HashMap<K, u32>, key: K) -> Result<(
     Ok(())
 }
 
-// Lowers the number of a key by one, and forgets it at 0. It takes no memory.
+// Lowers the number of a key by one, if it has one, and forgets it at 0. It takes no memory.
 fn lower<K: Eq + Hash + Drop>(numbers: &mut HashMap<K, u32>, key: K)
-    requires { 0 < unwrap_or (get K.eq numbers.old key) 0 }
     ensures less { (q : K)
         → unwrap_or (get K.eq numbers.new q) 0
         ≡ (if K.eq key q then unwrap_or (get K.eq numbers.old key) 0 - 1

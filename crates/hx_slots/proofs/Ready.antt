@@ -1,6 +1,6 @@
 -- Rows that stand for cells.
-use Rattle.std.proofs.Common.{◌≡◌, ℕ, zero, suc, ◌<◌, ◌≤◌, ◌+◌, Bool, true, false, cond, not, List, [], ◌∷◌, ◌++◌, length, map, filter, take, drop, Some, None, Option, Result, Ok, Err, refl, sym, ap, ◌∙◌, subst, arith, get_or}
-use Rattle.std.specs.Prelude.{◌==◌, slice_get, slice_set, option_map, unwrap_or, IfSome, OnOk, OnErr, is_ok, if◌then◌else◌}
+use Rattle.std.proofs.Common.{◌≡◌, ℕ, zero, suc, ◌<◌, ◌≤◌, ◌+◌, Bool, true, false, cond, not, List, [], ◌∷◌, ◌++◌, length, map, filter, take, Some, None, Option, Result, Ok, Err, refl, sym, ap, ◌∙◌, arith, get_or}
+use Rattle.std.specs.Prelude.{◌==◌, slice_get, slice_set, option_map, unwrap_or, IfSome, OnOk, is_ok, if◌then◌else◌}
 use Rattle.std.specs.List.{AllByRecursion, insert, position_or_len, filter_map}
 use Rattle.std.specs.List.Sorted.{IsPartitionedBy, IsPartitionPoint}
 use Rattle.std.proofs.lemmas.List.{get_or-map, length-map}
@@ -13,7 +13,7 @@ use Rattle.hx_model.specs.Model.{dropped}
 use Rattle.hx_cluster.specs.declared.state.Row.{Row}
 use Rattle.hx_cluster.specs.Ends.{part_before}
 use Rattle.hx_slots.specs.declared.cells.Cell.{Cell}
-use Rattle.hx_slots.specs.Cells.{cell_with, cell_in, cell_row, state_in, is_full, AreInOrder, AreRowsOf}
+use Rattle.hx_slots.specs.Cells.{cell_in, cell_row, state_in, is_full, AreInOrder, AreRowsOf}
 use Rattle.hx_slots.proofs.Placing.{parted}
 
 part_at : (rows : List Row) (k : ℕ) (d : Row) → k < length rows → (get_or (map cell_in rows) k (cell_in d)).part ≡ (get_or rows k d).part

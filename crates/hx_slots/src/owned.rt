@@ -28,13 +28,17 @@ pub(crate) fn push_or_cut<T: Drop>(
     Ok(())
 }
 
-/// Takes the first record out that a session owns, and gives its value. It takes no memory.
+/// Takes the first record out that a session owns, and gives its value. Where it owns none the room
+/// for its keys goes. It takes no memory.
 pub(crate) fn pop_owned<V: Drop>(store: &mut Store<V>, session: SessionId) -> Option<V>
     ensures ordered { IsStrictlySortedBy nat_cmp (keys_of store.old) }
     ensures popped { MatchOption result
         ((owned_from store.old session 0 ≡ []) × (store.new ≡ store.old))
         (λ value. IsPopped store.old session value store.new) }
 {
-    let key = store.next_owned(session, 0)?;
+    let Some(key) = store.next_owned(session, 0) else {
+        store.end_session(session);
+        return None;
+    };
     store.remove(key)
 }

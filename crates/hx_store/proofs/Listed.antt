@@ -4,7 +4,7 @@ use Rattle.std.specs.Prelude.{◌==◌}
 use Rattle.std.specs.List.{list_any}
 use Rattle.std.specs.Map.{lookup, set_value}
 use Rattle.std.specs.Result.{OnErr}
-use Rattle.std.proofs.lemmas.Bool.{eqb-true, eq-eqb}
+use Rattle.std.proofs.lemmas.Bool.{eqb-true}
 use Rattle.hx_ids.specs.declared.SessionId.{SessionId}
 use Rattle.hx_store.specs.Owners.{is_among, has, IsFirstFrom}
 
@@ -83,18 +83,6 @@ without_list t es fs now same lists s k = ap (λ (o : Option (List ℕ)). is_amo
 pub on_err : {T E : Type 0} (r : Result T E) (P : Type 0) → P → OnErr r P
 on_err (Ok x) P p = tt
 on_err (Err e) P p = p
-
--- a session that has a list without keys has none
-pub none_left : (t : SessionId) (w : List ℕ) (es fs : List (SessionId × List ℕ)) → PutsList t (Some w) es fs → w ≡ [] → (k : ℕ) → has fs t k ≡ false
-none_left t w es fs lists empty k = rw (lists t, eq-eqb t.0 t.0 refl, empty) refl
-
--- it may as well have no list
-pub forgotten : (t : SessionId) (es fs now : List (SessionId × List ℕ)) → es ≡ now → ((k : ℕ) → has now t k ≡ false) → PutsList t None es fs → (s : SessionId) (k : ℕ) → has fs s k ≡ has now s k
-forgotten t es fs now same none lists s k = ap (λ (o : Option (List ℕ)). is_among o k) (lists s) ∙ one (t.0 == s.0) refl ∙ ap (λ (xs : List (SessionId × List ℕ)). has xs s k) same
-  where
-    one : (b : Bool) → (t.0 == s.0) ≡ b → is_among (cond b None (lookup (λ u. s.0 == u.0) es)) k ≡ has es s k
-    one true i = sym (same_session t s k es i ∙ ap (λ (xs : List (SessionId × List ℕ)). has xs t k) same ∙ none k)
-    one false i = refl
 
 -- the same list in the place of one
 pub same_lists : (test : SessionId → Bool) (w x : List ℕ) (es fs now : List (SessionId × List ℕ)) → es ≡ now → fs ≡ set_value test es w → lookup test es ≡ Some x → w ≡ x → fs ≡ now

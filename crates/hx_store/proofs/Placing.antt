@@ -1,5 +1,5 @@
 -- Keys in order: one more, one less, and the first from one on.
-use Rattle.std.proofs.Common.{Less, ◌≡◌, ℕ, zero, suc, ◌-◌, ◌≤◌, ◌<◌, Bool, true, false, not, ◌&&◌, ◌||◌, List, [], ◌∷◌, length, slice_get, slice_index_or, insert, remove, None, Some, Option, Result, OnSome, IsSome, MatchOption, HoldsAt, option_copied, nat_lt, Bor, refl, ap, arith}
+use Rattle.std.proofs.Common.{Less, ◌≡◌, ℕ, zero, suc, ◌-◌, ◌≤◌, ◌<◌, Bool, true, false, not, ◌&&◌, ◌||◌, List, [], ◌∷◌, ◌++◌, length, slice_get, slice_index_or, insert, remove, drop, None, Some, Option, Result, OnSome, IsSome, MatchOption, HoldsAt, option_copied, nat_lt, Bor, refl, sym, ap, ◌∙◌, subst, arith}
 use Rattle.std.specs.Prelude.{◌==◌}
 use Rattle.std.specs.List.{AllByRecursion, list_any}
 use Rattle.std.specs.List.Sorted.{IsStrictlySortedBy, IsBinarySearchResult}
@@ -38,6 +38,13 @@ sorted-insert key zero (x ∷ xs) gap ordered = (all_above key (x ∷ xs) (λ k 
 sorted-insert key (suc i) [] gap ordered = absurd (omega (arith, gap.0))
 sorted-insert key (suc i) (x ∷ xs) gap ordered =
     (all-insert _ key i xs ordered.0 (less x key (gap.1 0 (omega arith))), sorted-insert key i xs (omega (arith, gap.0), (λ k l. gap.1 (suc k) (omega arith)), λ k a l. gap.2 (suc k) (omega arith) (omega arith)) ordered.1)
+
+-- a key past the last one comes to the end
+insert-end : (key i : ℕ) (xs : List ℕ) → i ≡ length xs → insert xs i key ≡ xs ++ key ∷ []
+insert-end key zero [] end = refl
+insert-end key zero (x ∷ xs) end = absurd (omega (arith, end))
+insert-end key (suc i) [] end = absurd (omega (arith, end))
+insert-end key (suc i) (x ∷ xs) end = ap (λ ys. x ∷ ys) (insert-end key i xs (omega (arith, end)))
 
 pub sorted-remove : (i : ℕ) (xs : List ℕ) → IsStrictlySortedBy nat_cmp xs → IsStrictlySortedBy nat_cmp (remove xs i)
 unfolding IsStrictlySortedBy
@@ -166,3 +173,29 @@ item_is (x ∷ xs) zero None at = absurd (omega (arith, at))
 item_is (x ∷ xs) zero (Some y) at = ap (λ (z : ℕ). Some z) (at.1 0)
 item_is (x ∷ xs) (suc i) None at = item_is xs i None (omega (arith, at))
 item_is (x ∷ xs) (suc i) (Some y) at = item_is xs i (Some y) (omega (arith, at.0), λ d. at.1 d)
+
+-- what an insertion leaves, by whatever list is equal to it
+pub inserted : (key i : ℕ) (xs ys now : List ℕ) → IsGapFor xs key i → IsStrictlySortedBy nat_cmp xs → xs ≡ now → ys ≡ insert xs i key
+    → IsStrictlySortedBy nat_cmp ys × ((k : ℕ) → list_any (λ j. k == j) ys ≡ (list_any (λ j. k == j) now || (key == k)))
+inserted key i xs ys now gap ordered same is = (
+  subst (λ (zs : List ℕ). IsStrictlySortedBy nat_cmp zs) (sym is) (sorted-insert key i xs gap ordered),
+  λ k. ap (λ (zs : List ℕ). list_any (λ j. k == j) zs) is ∙ any-insert k key i xs ∙ ap (λ (zs : List ℕ). list_any (λ j. k == j) zs || (key == k)) same,
+)
+
+-- the same at the end
+pub appended : (key i : ℕ) (xs ys now : List ℕ) → IsGapFor xs key i → IsStrictlySortedBy nat_cmp xs → xs ≡ now → i ≡ length xs → ys ≡ xs ++ key ∷ []
+    → IsStrictlySortedBy nat_cmp ys × ((k : ℕ) → list_any (λ j. k == j) ys ≡ (list_any (λ j. k == j) now || (key == k)))
+appended key i xs ys now gap ordered same end is = inserted key i xs ys now gap ordered same (is ∙ sym (insert-end key i xs end))
+
+-- the first key taken out
+pub remove-front : (n : ℕ) (xs : List ℕ) → n ≡ 0 → drop 1 xs ≡ remove xs n
+remove-front n [] front = rw front refl
+remove-front n (x ∷ xs) front = rw front refl
+
+-- what a removal leaves
+pub removed : (key i : ℕ) (xs ys now : List ℕ) → i < length xs → slice_index_or xs i 0 ≡ key → IsStrictlySortedBy nat_cmp xs → xs ≡ now → ys ≡ remove xs i
+    → IsStrictlySortedBy nat_cmp ys × ((k : ℕ) → list_any (λ j. k == j) ys ≡ (list_any (λ j. k == j) now && not (key == k)))
+removed key i xs ys now inside at ordered same is = (
+  subst (λ (zs : List ℕ). IsStrictlySortedBy nat_cmp zs) (sym is) (sorted-remove i xs ordered),
+  λ k. ap (λ (zs : List ℕ). list_any (λ j. k == j) zs) is ∙ any-remove k key i xs inside at ordered ∙ ap (λ (zs : List ℕ). list_any (λ j. k == j) zs && not (key == k)) same,
+)

@@ -41,13 +41,6 @@ impl Keys {
         }
     }
 
-    /// Whether there are none.
-    pub(crate) fn is_empty(&self) -> bool
-        ensures { IsTrue result → self.now ≡ [] }
-    {
-        self.keys.is_empty()
-    }
-
     /// The keys, in order.
     pub(crate) fn iter(&self) -> vec_deque::Iter<'_, u64>
         ensures rest { deque_iter_rest result ≡ self.now }
@@ -72,8 +65,10 @@ impl Keys {
             → list_any (λ j. k == j) self.new ≡ (list_any (λ j. k == j) self.old || (key == k))) }
         ensures err { OnErr result (self.new ≡ self.old) }
     {
-        if let Err(place) = place_of(&self.keys, key) {
-            self.keys.insert(place, key)?;
+        match place_of(&self.keys, key) {
+            Ok(_) => {}
+            Err(place) if place == self.keys.len() => self.keys.push_back(key)?,
+            Err(place) => self.keys.insert(place, key)?,
         }
         Ok(())
     }
@@ -83,8 +78,14 @@ impl Keys {
         ensures { (k : ℕ) → list_any (λ j. k == j) self.new
             ≡ (list_any (λ j. k == j) self.old && not (key == k)) }
     {
-        if let Ok(place) = place_of(&self.keys, key) {
-            self.keys.remove(place);
+        match place_of(&self.keys, key) {
+            Ok(0) => {
+                self.keys.pop_front();
+            }
+            Ok(place) => {
+                self.keys.remove(place);
+            }
+            Err(_) => {}
         }
     }
 }

@@ -1,5 +1,5 @@
 //! Which keys each session owns.
-ghost use Rattle.std.specs.Prelude.{◌≡◌, ℕ, IsTrue, false, not, ◌&&◌, ◌||◌, ◌==◌, [], OnOk, OnErr};
+ghost use Rattle.std.specs.Prelude.{◌≡◌, ℕ, false, not, ◌&&◌, ◌||◌, ◌==◌, [], OnOk, OnErr};
 ghost use Rattle.std.specs.List.{list_any};
 ghost use Rattle.hx_ids.specs.declared.SessionId.{SessionId};
 ghost use Rattle.hx_store.specs.Records.{owns};
@@ -12,7 +12,8 @@ use std::alloc::{AllocError, Global};
 use std::collections::{HashMap, vec_deque};
 use std::marker::Model;
 
-/// The keys of each session that owns any, in order. Contracts see the sessions in no order.
+/// The keys of each session that owns any, in order. One that owns none any more keeps its room
+/// until all its keys are forgotten. Contracts see the sessions in no order.
 #[derive(Drop)]
 pub(crate) struct Owners {
     alloc: Global,
@@ -58,9 +59,7 @@ impl Owners {
             → has self.new s k ≡ (has self.old s k && not (owns owner s && (key == k))) }
     {
         if let Some(session) = owner {
-            if self.take(session, key) {
-                self.forget(session);
-            }
+            self.take(session, key);
         }
     }
 
@@ -139,24 +138,14 @@ impl Owners {
         Ok(())
     }
 
-    // Takes a key from those of a session, and says whether none is left.
-    fn take(&mut self, session: SessionId, key: u64) -> bool
-        ensures taken { (s : SessionId) (k : ℕ)
+    // Takes a key from those of a session.
+    fn take(&mut self, session: SessionId, key: u64)
+        ensures { (s : SessionId) (k : ℕ)
             → has self.new s k ≡ (has self.old s k && not ((session.0 == s.0) && (key == k))) }
-        ensures none { IsTrue result → (k : ℕ) → has self.new session k ≡ false }
     {
         let Some(keys) = self.lists.get_mut(&session) else {
-            return false;
+            return;
         };
         keys.remove(key);
-        keys.is_empty()
-    }
-
-    // Forgets a session that owns no key.
-    fn forget(&mut self, session: SessionId)
-        requires { (k : ℕ) → has self.old session k ≡ false }
-        ensures { (s : SessionId) (k : ℕ) → has self.new s k ≡ has self.old s k }
-    {
-        self.lists.remove(&session);
     }
 }

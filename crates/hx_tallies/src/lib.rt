@@ -104,9 +104,6 @@ fn raise_end(
     if stands_at(has, state) || !is_limited(cluster, part, state) {
         return Ok(());
     }
-    if counts.count(part, state) == u32::MAX {
-        return Err(AllocError);
-    }
     counts.raise_end(part, state)
 }
 
@@ -124,9 +121,7 @@ fn lower_end(
     if stands_at(has, state) || !is_limited(cluster, part, state) {
         return;
     }
-    if counts.count(part, state) > 0 {
-        counts.lower_end(part, state);
-    }
+    counts.lower_end(part, state);
 }
 
 // Counts the ends of a message beside the state that its replica has.
@@ -188,11 +183,7 @@ fn raise_rule(
     if !rule.matches(message.from, message.to) {
         return Ok(());
     }
-    let key = key_on(rule.scope, instance, message.part);
-    if counts.load(place, key) == u32::MAX {
-        return Err(AllocError);
-    }
-    counts.raise_load(place, key)
+    counts.raise_load(place, key_on(rule.scope, instance, message.part))
 }
 
 // Counts it no longer.
@@ -206,10 +197,7 @@ fn lower_rule(
     ensures { IsRuleLowered rule.now place instance message.now counts.old counts.new }
 {
     if rule.matches(message.from, message.to) {
-        let key = key_on(rule.scope, instance, message.part);
-        if counts.load(place, key) > 0 {
-            counts.lower_load(place, key);
-        }
+        counts.lower_load(place, key_on(rule.scope, instance, message.part));
     }
 }
 

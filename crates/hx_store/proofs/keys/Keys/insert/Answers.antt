@@ -1,17 +1,17 @@
-use Rattle.std.proofs.Common.{List, ℕ, sym, ap, subst, ◌∙◌, ◌||◌}
-use Rattle.std.specs.Prelude.{◌==◌}
-use Rattle.std.specs.List.{list_any}
-use Rattle.std.specs.List.Sorted.{IsStrictlySortedBy}
-use Rattle.std.specs.Ordering.{nat_cmp}
-use Rattle.hx_store.proofs.Placing.{sorted-insert, any-insert}
+use Rattle.std.proofs.Common.{arith}
+use Rattle.hx_store.proofs.Placing.{inserted, appended}
 use Rattle.hx_store.proofs.keys.Keys.insert.Goals as goal
 
-pub invariant_of-self : goal.invariant_of-self
-invariant_of-self c =
-    let P : List ℕ → Type 0 = λ xs. IsStrictlySortedBy nat_cmp xs in
-    subst P (sym c.in_ok-insert.ensures.items) (sorted-insert c.args.key c.in-Err.place c.self.inside.keys.items c.in-Err.ensures c.self.invariant)
+pub invariant_of-self-then-place-len : goal.invariant_of-self-then-place-len
+invariant_of-self-then-place-len c =
+    let ok = c.self.inside.keys.ok in
+    (appended c.args.key c.in-Err.place c.self.inside.keys.items c.push_back.new.self.items c.args.self.now c.in-Err.ensures c.self.invariant c.self.view_is (omega (arith, c.if-place-len.true, c.len.ensures, ok.0))
+    c.in_ok-push_back-in-Err.ensures.items).0
 
-pub returns-in_ok-insert-clause-ok : goal.returns-in_ok-insert-clause-ok
-returns-in_ok-insert-clause-ok c = λ k.
-    ap (λ (xs : List ℕ). list_any (λ j. k == j) xs) c.in_ok-insert.ensures.items ∙ any-insert k c.args.key c.in-Err.place c.self.inside.keys.items
-    ∙ ap (λ (xs : List ℕ). list_any (λ j. k == j) xs || (c.args.key == k)) c.self.view_is
+pub invariant_of-self-in-Continue-branch-2 : goal.invariant_of-self-in-Continue-branch-2
+invariant_of-self-in-Continue-branch-2 c =
+    (inserted c.args.key c.in-Err.place c.self.inside.keys.items c.insert.new.self.items c.args.self.now c.in-Err.ensures c.self.invariant c.self.view_is c.in_ok-insert-in-Err-2.ensures.items).0
+
+pub returns-in_ok-insert-in-Err-2-clause-ok : goal.returns-in_ok-insert-in-Err-2-clause-ok
+returns-in_ok-insert-in-Err-2-clause-ok c =
+    (inserted c.args.key c.in-Err.place c.self.inside.keys.items c.insert.new.self.items c.args.self.now c.in-Err.ensures c.self.invariant c.self.view_is c.in_ok-insert-in-Err-2.ensures.items).1
