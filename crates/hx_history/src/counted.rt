@@ -28,8 +28,10 @@ fn is_write_of(outcome: Outcome, kind: Kind) -> bool
 pub(crate) fn writes_of(outcome: Outcome, kinds: &[Kind]) -> usize
     ensures { result ≡ count (is_write_of outcome) kinds.now }
 {
-    kinds
-        .iter()
-        .filter(|kind| is_write_of(outcome, **kind))
-        .count()
+    // Nothing branches on a kind, so that several are counted at a time.
+    let mut found = 0;
+    for kind in kinds {
+        found += is_write_of(outcome, *kind) as usize;
+    }
+    found
 }

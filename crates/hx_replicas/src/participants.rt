@@ -39,6 +39,10 @@ const MOST: usize = u32::MAX as usize;
 /// How many deliveries room is made for at least, where any has to be made.
 const FEW: usize = 16;
 
+/// How many it is made for at least where there is none yet. What isn't used costs an address
+/// alone.
+const MANY: usize = 256;
+
 /// An instance's session, its parts, and its factory of handlers. It can't be dropped: it has to be
 /// closed.
 pub struct Participant<F: Factory> {
@@ -177,6 +181,7 @@ impl<F: Factory> Participant<F> {
     }
 
     /// Makes room for so many deliveries.
+    #[inline]
     pub fn reserve(&mut self, n: usize) -> Result<(), AllocError>
         ensures room { OnOk result (n ≤ self.new.spare) }
         ensures spare { self.old.spare ≤ self.new.spare }
@@ -186,7 +191,23 @@ impl<F: Factory> Participant<F> {
         if n <= self.spare {
             return Ok(());
         }
-        let n = n.max(FEW);
+        let least = if self.slots.items.is_empty() {
+            MANY
+        } else {
+            FEW
+        };
+        self.make_room(n.max(least))
+    }
+
+    // Makes room for so many deliveries, which are more than there is room for.
+    #[inline(never)]
+    fn make_room(&mut self, n: usize) -> Result<(), AllocError>
+        requires { self.old.spare ≤ n }
+        ensures room { OnOk result (n ≤ self.new.spare) }
+        ensures spare { self.old.spare ≤ self.new.spare }
+        ensures rest { self.new ≡ record self.old { spare = self.new.spare } }
+        ensures ledger { IsBalanced self.new.made self.new.retired self.new.plain }
+    {
         if self.slots.items.len().saturating_add(n) >= MOST {
             return Err(AllocError);
         }

@@ -1,8 +1,8 @@
 use Rattle.hx_replicas.proofs.Ledgers.{ledger}
-use Rattle.hx_replicas.proofs.participants.Participant.reserve.Goals as goal
+use Rattle.hx_replicas.proofs.participants.Participant.make_room.Goals as goal
 
-pub returns-then-n-self-clause-ledger : goal.returns-then-n-self-clause-ledger
-returns-then-n-self-clause-ledger g c = rw (← c.self.view_is) (ledger g.F.H.Handler (g.F.Factory.listed c.self.inside.factory) c.self.inside.slots.items.items _ _ c.self.invariant.0)
+pub returns-then-saturating_add-ge-MOST-clause-ledger : goal.returns-then-saturating_add-ge-MOST-clause-ledger
+returns-then-saturating_add-ge-MOST-clause-ledger g c = rw (← c.self.view_is) (ledger g.F.H.Handler (g.F.Factory.listed c.self.inside.factory) c.self.inside.slots.items.items _ _ c.self.invariant.0)
 
 pub returns-in_err-reserve-clause-ledger : goal.returns-in_err-reserve-clause-ledger
 returns-in_err-reserve-clause-ledger g c =
