@@ -43,7 +43,7 @@ found_by (e ∷ es) id was = by_test (number_eq id e.0) refl (found_by es id was
     by_test false is rest = rw (is, sym (same_test id.0 e.0.0 e.1.id.0 was.0) ∙ is) rest
 
 -- messages are put in turn
-put_both : (bag ms ns : List Message) → put_all bag (ms ++ ns) ≡ put_all (put_all bag ms) ns
+pub put_both : (bag ms ns : List Message) → put_all bag (ms ++ ns) ≡ put_all (put_all bag ms) ns
 put_both bag [] ns = refl
 put_both bag (m ∷ ms) ns = put_both (put_in_bag bag m) ms ns
 

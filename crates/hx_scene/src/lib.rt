@@ -5,6 +5,7 @@
 mod bag;
 mod jobs;
 mod messages;
+mod numbered;
 mod printing;
 mod runs;
 mod scene;

@@ -83,7 +83,7 @@ impl<F: Factory> World<F> {
         ensures { DoesDeed (do_deliver voice instance id)
             self.old out.old self.new out.new result }
     {
-        match self.scene.fetched(id) {
+        match self.scene.fetched(id)? {
             Some(message) => self.scene.deliver(voice, instance, &message, out),
             None => self.scene.note(voice, &Note::NoMessage, out),
         }

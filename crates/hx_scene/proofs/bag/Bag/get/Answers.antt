@@ -1,6 +1,7 @@
-use Rattle.std.proofs.Common.{◌∙◌}
-use Rattle.hx_scene.proofs.Bags.{found_by}
+use Rattle.std.proofs.Common.{ap, ◌∙◌, ◌==◌, find}
 use Rattle.hx_scene.proofs.bag.Bag.get.Goals as goal
 
-pub returns : goal.returns
-returns c = c.copied.ensures ∙ c.get.ensures.value ∙ rw (← c.self.view_is) (found_by c.self.inside.messages.entries c.args.id c.self.invariant)
+pub returns-clause-found : goal.returns-clause-found
+returns-clause-found c =
+    let number = c.in_ok-number_all.ensures in
+    rw (← c.self.view_is) (c.get.ensures ∙ ap (find (λ m. m.id.0 == c.args.id.0)) (rw number.ok at number.items))

@@ -1,6 +1,6 @@
 use Rattle.std.proofs.lemmas.Result.{MatchResult-at_ok}
 use Rattle.hx_scene.proofs.Bags.{keyed_put, values_put}
-use Rattle.hx_scene.proofs.bag.Bag.put.Goals as goal
+use Rattle.hx_scene.proofs.numbered.Numbered.put.Goals as goal
 
 pub invariant_of-self : goal.invariant_of-self
 invariant_of-self c =

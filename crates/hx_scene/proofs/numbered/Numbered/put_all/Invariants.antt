@@ -1,6 +1,6 @@
 use Rattle.std.proofs.Common.{◌≡◌, ◌-◌, ◌≤◌, length, take}
 use Rattle.hx_worlds.specs.Jobs.{put_all as all_put}
-use Rattle.hx_scene.proofs.bag.Bag.put_all.Given as goal
+use Rattle.hx_scene.proofs.numbered.Numbered.put_all.Given as goal
 
 abbrev pub invariant-loop-message : goal.invariant-loop-message
 invariant-loop-message l = record {
