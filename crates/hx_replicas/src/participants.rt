@@ -41,7 +41,7 @@ const FEW: usize = 16;
 
 /// How many it is made for at least where there is none yet. What isn't used costs an address
 /// alone.
-const MANY: usize = 256;
+const MANY: usize = 64;
 
 /// An instance's session, its parts, and its factory of handlers. It can't be dropped: it has to be
 /// closed.
