@@ -17,6 +17,7 @@ use Rattle.hx_cluster.specs.Events.{is_proposable, is_postable, dispatched_of}
 use Rattle.hx_cluster.specs.Views.{is_well_formed}
 use Rattle.hx_lists.specs.Lists.{numbers_below}
 use Rattle.hx_gen.specs.Modelled.{has_models}
+use Rattle.hx_gen.proofs.Modelled.{well_formed-modelled}
 use Rattle.hx_pass.specs.Plans.{plan}
 use Rattle.hx_pass.specs.Drafts.{Draft, draft}
 use Rattle.hx_pass.specs.Turns.{posted_of}
@@ -58,6 +59,15 @@ view_unformed spec b view told same bad =
 -- the shown resources have the models of a draft when it is made, where it is kept, and where it is sent
 pub drafted_modelled : (spec : Spec) (view : View) (d : Draft) → d ≡ draft spec.models spec.rules view → has_models spec.models view ≡ true → has_models d.models view ≡ true
 drafted_modelled spec view d is have = ap (λ (e : Draft). has_models e.models view) is ∙ have
+
+-- the resources of a view of the board have models of its description
+pub of_cluster_modelled : (spec : Spec) (c : Cluster) (view : View) → is_of_cluster spec c view ≡ true → has_models spec.models view ≡ true
+of_cluster_modelled spec c view of =
+    well_formed-modelled spec.models (length c.instances) view
+    (first (is_well_formed spec.models (length c.instances) view) (list_all (has_parts_of c view) (numbers_below (length view.ideals.resources))) of)
+  where
+    first : (a b : Bool) → (a && b) ≡ true → a ≡ true
+    first a b both = grind (arith, both)
 
 -- a report is the one that is told where it is told at all
 pub report_if : (r : Result Report AllocError) (of : Report) (A B : Type 0) → IfOk r (λ report. report ≡ of) → IfOk r (λ report. A → B → report ≡ of)

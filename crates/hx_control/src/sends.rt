@@ -93,8 +93,17 @@ impl Controller {
     }
 
     /// The report of a draft, if its dispatch can tell it.
-    fn report_to_send(&self, draft: &Draft, proposals: &Seq<Proposal>) -> Result<Report, AllocError>
-        requires { has_models draft.now.models self.now.turn.view ≡ true }
+    fn report_to_send(
+        &self,
+        spec: &Spec,
+        hops: &[Hops],
+        draft: &Draft,
+        proposals: &Seq<Proposal>,
+    ) -> Result<Report, AllocError>
+        requires hops { hops.now ≡ spec.now.models }
+        requires models { has_models spec.now.models self.now.turn.view ≡ true }
+        requires planned { finished self.now.turn.view draft.now
+            ≡ plan_of spec.now.models spec.now.rules self.now.turn.view }
         ensures { IfOk result (λ report. proposals.now ≡ [] → self.now.turn.view.mail ≡ []
             → report ≡ reported self.now.turn.view draft.now) }
     {
@@ -103,16 +112,24 @@ impl Controller {
             let entries = Entries::at_best(Seq::new(alloc));
             return Ok(Report { entries });
         }
-        draft.report(alloc, &self.view)
+        draft.report(alloc, spec, hops, &self.view)
     }
 
     /// The plan of a draft, but for the report where its dispatch can't tell it.
-    fn plan_to_send(&self, draft: &Draft) -> Result<Plan, AllocError>
-        requires { has_models draft.now.models self.now.turn.view ≡ true }
+    fn plan_to_send(
+        &self,
+        spec: &Spec,
+        hops: &[Hops],
+        draft: &Draft,
+    ) -> Result<Plan, AllocError>
+        requires hops { hops.now ≡ spec.now.models }
+        requires models { has_models spec.now.models self.now.turn.view ≡ true }
+        requires planned { finished self.now.turn.view draft.now
+            ≡ plan_of spec.now.models spec.now.rules self.now.turn.view }
         ensures { IfOk result (IsToSend self.now.turn.view draft.now) }
     {
         let proposals = draft.proposals(self.view.live.allocator())?;
-        let report = self.report_to_send(draft, &proposals)?;
+        let report = self.report_to_send(spec, hops, draft, &proposals)?;
         Ok(Plan { proposals, report })
     }
 
@@ -160,6 +177,7 @@ impl Controller {
     fn dispatch_draft(
         &self,
         spec: &Spec,
+        hops: &[Hops],
         draft: &Draft,
         board: &mut Board,
     ) -> Result<PassOutcome, ControlFault>
@@ -167,7 +185,7 @@ impl Controller {
         requires board { board.old.spec ≡ spec.now }
         requires planned { finished self.now.turn.view draft.now
             ≡ plan_of spec.now.models spec.now.rules self.now.turn.view }
-        requires models { has_models draft.now.models self.now.turn.view ≡ true }
+        requires hops { hops.now ≡ spec.now.models }
         requires next { self.now.turn.left ≡ left_of Next.Send self.now.turn.view.live }
         ensures refused { RefusedBy ControlFault.OutOfMemory
             (step_fault board.old
@@ -178,7 +196,11 @@ impl Controller {
             (IsDispatched board.old board.new self.now (finished self.now.turn.view draft.now)) }
         ensures err { OnErr result (board.new ≡ board.old) }
     {
-        let plan = self.plan_to_send(draft)?;
+        let alloc = self.view.live.allocator();
+        if !is_of_board(alloc, spec, board, &self.view, &self.formed)? {
+            return Err(ControlFault::OtherBoard);
+        }
+        let plan = self.plan_to_send(spec, hops, draft)?;
         let answer = self.dispatch(spec, &plan, board)?;
         Ok(self.outcome(plan, &answer))
     }
@@ -201,7 +223,7 @@ impl Controller {
         let Some(draft) = &self.draft else {
             return self.make_plan(spec, hops, board);
         };
-        let outcome = self.dispatch_draft(spec, draft, board)?;
+        let outcome = self.dispatch_draft(spec, hops, draft, board)?;
         self.next = Next::Post;
         self.draft = None;
         Ok(Some(outcome))

@@ -1,22 +1,24 @@
 //! A plan whose report isn't made yet.
 ghost use Rattle.std.specs.Prelude.{◌≡◌, true, IfOk};
 ghost use Rattle.hx_gen.specs.Modelled.{has_models};
-ghost use Rattle.hx_pass.specs.Drafts.{proposed, reported};
+ghost use Rattle.hx_pass.specs.Plans.{plan as plan_of};
+ghost use Rattle.hx_pass.specs.Drafts.{finished, proposed, reported};
 
-use crate::plans::{plan_on, proposals_of};
-use hx_best::Index;
-use hx_cluster::{Candidate, Proposal, Report, Rule, View};
-use hx_gen::hops_of;
+use crate::plan;
+use crate::plans::proposals_of;
+use hx_cluster::{Candidate, Proposal, Report, Rule, Spec, View};
+use hx_hops::Hops;
 use hx_lists::Seq;
 use hx_model::Model;
 use std::alloc::{AllocError, Global};
 use std::marker;
+use std::snapshot::Snapshot;
 
-/// What a plan sends, with a copy of the description's models and rules, by which its report can
-/// be made. What it holds back, and what finds no room, isn't kept: a report finds it again.
+/// What a plan sends. Contracts see also the models and rules of the description that it was made
+/// with. What it holds back, and what finds no room, isn't kept: a report finds it again.
 pub struct Draft {
-    pub(crate) models: Seq<Model>,
-    pub(crate) rules: Seq<Rule>,
+    pub(crate) models: Snapshot<Seq<Model>>,
+    pub(crate) rules: Snapshot<Seq<Rule>>,
     pub(crate) sent: Seq<Candidate>,
 }
 
@@ -36,7 +38,11 @@ impl marker::Model for Draft {
 
     ghost Value = { Seen };
 
-    ghost view = { λ d. record { models = d.models; rules = d.rules; sent = d.sent } };
+    ghost view = { λ d. record {
+      models = d.models.value;
+      rules = d.rules.value;
+      sent = d.sent;
+    } };
 }
 
 impl Draft {
@@ -47,21 +53,22 @@ impl Draft {
         proposals_of(alloc, self.sent.as_slice())
     }
 
-    /// What is found of each target, by what the view shows. It costs a whole plan.
-    pub fn report(&self, alloc: Global, view: &View) -> Result<Report, AllocError>
-        requires { has_models self.now.models view.now ≡ true }
+    /// What is found of each target, by what the view shows, with a description by which the plan
+    /// of the view is the drafted one. `hops` are those of its models. It costs a whole plan.
+    pub fn report(
+        &self,
+        alloc: Global,
+        spec: &Spec,
+        hops: &[Hops],
+        view: &View,
+    ) -> Result<Report, AllocError>
+        requires hops { hops.now ≡ spec.now.models }
+        requires models { has_models spec.now.models view.now ≡ true }
+        requires planned { finished view.now self.now
+            ≡ plan_of spec.now.models spec.now.rules view.now }
         ensures { IfOk result (λ report. report ≡ reported view.now self.now) }
     {
-        let models = self.models.as_slice();
-        let hops = hops_of(alloc, models)?;
-        let index = Index::of(alloc, view)?;
-        let plan = plan_on(
-            alloc,
-            models,
-            self.rules.as_slice(),
-            hops.as_slice(),
-            &index,
-        )?;
+        let plan = plan(alloc, spec, hops, view)?;
         Ok(plan.report)
     }
 }

@@ -22,6 +22,7 @@ use hx_throttle::sent_on;
 use plans::plan_on;
 pub use posts::{instance_or_first, posted};
 use std::alloc::{AllocError, Global};
+use std::snapshot::Snapshot;
 
 /// The plan of what a view shows: each stage once over all resources, in order of number, throttled
 /// together. `hops` are those of the description's models (`hx_gen::hops_of`), and each resource of
@@ -83,8 +84,8 @@ pub fn draft_of_accepted(
     ensures { IfOk result (λ draft. draft ≡ draft_of spec.now.models spec.now.rules view.now) }
 {
     Ok(Draft {
-        models: spec.models.clone()?,
-        rules: spec.rules.clone()?,
+        models: Snapshot::of(&spec.models),
+        rules: Snapshot::of(&spec.rules),
         sent: sent_on(alloc, spec.rules.as_slice(), view, accepted)?,
     })
 }

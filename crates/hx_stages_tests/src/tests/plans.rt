@@ -495,7 +495,7 @@ fn drafted(rt: &impl Abort, alloc: Global, spec: &Spec, view: &View) -> Plan {
     let Ok(proposals) = draft.proposals(alloc) else {
         panic!(rt; "no memory");
     };
-    let Ok(report) = draft.report(alloc, view) else {
+    let Ok(report) = draft.report(alloc, spec, hops.as_slice(), view) else {
         panic!(rt; "no memory");
     };
     Plan { proposals, report }

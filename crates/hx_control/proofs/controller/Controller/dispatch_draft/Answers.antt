@@ -1,13 +1,16 @@
-use Rattle.std.proofs.Common.{◌≡◌, ◌⊎◌, ◌∙◌, Option, Some, inl, refl, sym, ap, subst}
+use Rattle.std.proofs.Common.{◌≡◌, ◌⊎◌, ◌∙◌, Option, Some, true, false, inl, inr, refl, sym, ap, subst, arith}
 use Rattle.std.proofs.lemmas.Result.{err_from_is_err_and}
 use Rattle.hx_cluster.specs.declared.planning.Plan.{Plan}
 use Rattle.hx_pass.specs.Drafts.{finished}
 use Rattle.hx_control.specs.declared.ControlFault.{ControlFault}
 use Rattle.hx_control.specs.declared.ControlFault.TheVariants as faults
-use Rattle.hx_control.specs.Steps.{step_of}
+use Rattle.hx_gen.specs.Modelled.{has_models}
+use Rattle.hx_control.specs.Controllers.{Controller}
+use Rattle.hx_control.specs.Steps.{step_of, is_of_cluster}
 use Rattle.hx_control.specs.Turning.{with_plan}
 use Rattle.hx_control.specs.Made.{step_fault}
-use Rattle.hx_control.proofs.Ending.{dispatched_draft, fault_of_draft}
+use Rattle.hx_control.proofs.Sending.{of_cluster_modelled}
+use Rattle.hx_control.proofs.Ending.{dispatch_of_other, dispatched_draft, fault_of_draft}
 use Rattle.hx_control.proofs.controller.Controller.dispatch_draft.Goals as goal
 use Rattle.hx_control.proofs.controller.Controller.dispatch_draft.Goals.{In_ok-plan}
 
@@ -18,8 +21,34 @@ same : (c : In_ok-plan)
 same c =
     fault_of_draft c.args.spec.now c.args.board.now c.args.self.now c.in_ok-plan.plan (finished c.args.self.now.turn.view c.args.draft.now) c.requires.next c.in_ok-plan.ensures.proposals
 
+pub is_of_board-requires : goal.is_of_board-requires
+is_of_board-requires c = record { board = c.requires.board; formed = c.self.invariant.formed }
+
+pub returns-in_err-is_of_board : goal.returns-in_err-is_of_board
+returns-in_err-is_of_board c =
+    let p = err_from_is_err_and c.from_residual-in_err-is_of_board.result c.from_residual-in_err-is_of_board.ensures.1 in
+    rw (p.1, p.2) (record { refused = inl refl; answer = tt; err = refl })
+
+pub returns-then-not-branch : goal.returns-then-not-branch
+returns-then-not-branch c =
+    let of : is_of_cluster c.args.spec.now c.args.board.now.cluster c.self.inside.view ≡ false = grind (arith, c.in_ok-is_of_board.ensures.is, c.if-not-branch.true) in
+    record {
+      refused = inr
+          (dispatch_of_other c.args.spec.now c.args.board.now c.self.inside c.args.self.now (finished c.args.self.now.turn.view c.args.draft.now) c.self.view_is
+          c.requires.next of);
+      answer = tt;
+      err = refl;
+    }
+
 pub plan_to_send-requires : goal.plan_to_send-requires
-plan_to_send-requires c = c.requires.models
+plan_to_send-requires c =
+    let of : is_of_cluster c.args.spec.now c.args.board.now.cluster c.self.inside.view ≡ true = grind (arith, c.in_ok-is_of_board.ensures.is, c.if-not-branch.false) in
+    record {
+      hops = c.requires.hops;
+      models = subst (λ (x : Controller). has_models c.args.spec.now.models x.turn.view ≡ true) c.self.view_is
+          (of_cluster_modelled c.args.spec.now c.args.board.now.cluster c.self.inside.view of);
+      planned = c.requires.planned;
+    }
 
 pub returns-in_err-plan : goal.returns-in_err-plan
 returns-in_err-plan c =
