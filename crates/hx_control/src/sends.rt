@@ -116,12 +116,7 @@ impl Controller {
     }
 
     /// The plan of a draft, but for the report where its dispatch can't tell it.
-    fn plan_to_send(
-        &self,
-        spec: &Spec,
-        hops: &[Hops],
-        draft: &Draft,
-    ) -> Result<Plan, AllocError>
+    fn plan_to_send(&self, spec: &Spec, hops: &[Hops], draft: &Draft) -> Result<Plan, AllocError>
         requires hops { hops.now ≡ spec.now.models }
         requires models { has_models spec.now.models self.now.turn.view ≡ true }
         requires planned { finished self.now.turn.view draft.now

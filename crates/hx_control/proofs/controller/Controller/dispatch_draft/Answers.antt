@@ -26,7 +26,7 @@ is_of_board-requires c = record { board = c.requires.board; formed = c.self.inva
 
 pub returns-in_err-is_of_board : goal.returns-in_err-is_of_board
 returns-in_err-is_of_board c =
-    let p = err_from_is_err_and c.from_residual-in_err-is_of_board.result c.from_residual-in_err-is_of_board.ensures.1 in
+    let p = err_from_is_err_and c.from_residual.result c.from_residual.ensures.1 in
     rw (p.1, p.2) (record { refused = inl refl; answer = tt; err = refl })
 
 pub returns-then-not-branch : goal.returns-then-not-branch
@@ -52,7 +52,7 @@ plan_to_send-requires c =
 
 pub returns-in_err-plan : goal.returns-in_err-plan
 returns-in_err-plan c =
-    let p = err_from_is_err_and c.from_residual.result c.from_residual.ensures.1 in
+    let p = err_from_is_err_and c.from_residual-in_err-plan.result c.from_residual-in_err-plan.ensures.1 in
     rw (p.1, p.2) (record { refused = inl refl; answer = tt; err = refl })
 
 pub dispatch-requires : goal.dispatch-requires
