@@ -245,7 +245,8 @@ pub fn all_targets(
     ensures { IfOk result (λ found. found.items ≡ all_targets_of models.now index.now) }
 {
     let count = number(index.view().ideals.resources.len())?;
-    let mut found = Vec::new(alloc);
+    // Mostly there is one for each row.
+    let mut found = Vec::with_capacity(alloc, index.view().rows.len())?;
     let mut room = Room::new(alloc);
     for number in 0..count {
         let resource = ResourceId(number);
