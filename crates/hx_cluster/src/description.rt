@@ -9,7 +9,6 @@ use hx_model::Model;
 use std::alloc::AllocError;
 
 /// A resource. Its number is its place among the resources, and stays its own when it is dropped.
-#[derive(Debug)]
 pub struct Resource {
     /// The place of its name among the resource names.
     pub name: u32,
@@ -58,7 +57,7 @@ impl Clone for Resource {
 }
 
 /// Over what a throttle counts the messages in flight.
-#[derive(Clone, Copy, Debug, PartialEq, Eq)]
+#[derive(Clone, Copy, PartialEq, Eq)]
 pub enum Scope {
     Cluster,
     Instance,
@@ -66,7 +65,7 @@ pub enum Scope {
 }
 
 /// A throttle: at most `limit` messages in flight under each key of its scope.
-#[derive(Clone, Copy, Debug, PartialEq, Eq)]
+#[derive(Clone, Copy, PartialEq, Eq)]
 pub struct Rule {
     pub scope: Scope,
     /// The one transition that it counts, in every model; or all of them.
@@ -76,7 +75,7 @@ pub struct Rule {
 
 /// A failure to come. With `make` it is that making of a handler of the part on the instance, else
 /// that run of each such handler; both are counted from 1.
-#[derive(Clone, Copy, Debug, PartialEq, Eq)]
+#[derive(Clone, Copy, PartialEq, Eq)]
 pub struct Failure {
     pub instance: InstanceId,
     pub part: PartId,

@@ -9,7 +9,7 @@ use std::marker::Model;
 
 /// The entries of a report. Mostly those at the front are at their best: of these the targets
 /// alone are kept. Contracts see the entries.
-#[derive(Debug, Drop)]
+#[derive(Drop)]
 pub struct Entries {
     best: Seq<Target>,
     rest: Seq<Entry>,

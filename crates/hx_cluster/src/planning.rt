@@ -9,7 +9,6 @@ use hx_ids::{InstanceId, MsgId, PartId, SessionId, StateId};
 use hx_lists::Seq;
 
 /// What is wanted: the resources, the drained instances and the reset flags.
-#[derive(Debug)]
 pub struct Ideals {
     pub resources: Seq<Resource>,
     /// For each instance, whether it is drained.
@@ -43,7 +42,6 @@ impl Ideals {
 }
 
 /// What the reads of one pass showed. They may stem from different moments.
-#[derive(Debug)]
 pub struct View {
     pub live: Seq<(SessionId, InstanceId)>,
     pub mail: Seq<Message>,
@@ -64,7 +62,7 @@ impl Drop for View {
 }
 
 /// A replica, or a wanted place without one, and the state where it is to go.
-#[derive(Clone, Copy, Debug, PartialEq, Eq)]
+#[derive(Clone, Copy, PartialEq, Eq)]
 pub struct Target {
     pub session: SessionId,
     pub instance: InstanceId,
@@ -78,7 +76,7 @@ pub struct Target {
 }
 
 /// The next transition of a replica that isn't at its goal.
-#[derive(Clone, Copy, Debug, PartialEq, Eq)]
+#[derive(Clone, Copy, PartialEq, Eq)]
 pub struct Candidate {
     pub session: SessionId,
     pub instance: InstanceId,
@@ -89,7 +87,7 @@ pub struct Candidate {
 }
 
 /// A candidate for a state that has as many replicas as it may have.
-#[derive(Debug, PartialEq, Drop)]
+#[derive(Drop)]
 pub struct Full {
     pub candidate: Candidate,
     pub count: u32,
@@ -99,7 +97,7 @@ pub struct Full {
 }
 
 /// A candidate that a throttle holds back: the first such rule, its load and its limit.
-#[derive(Clone, Copy, Debug, PartialEq, Eq)]
+#[derive(Clone, Copy)]
 pub struct Held {
     pub candidate: Candidate,
     pub rule: u32,
@@ -108,21 +106,21 @@ pub struct Held {
 }
 
 /// The candidates that the bounds allow, and those that they don't.
-#[derive(Debug, PartialEq, Drop)]
+#[derive(Drop)]
 pub struct Selection {
     pub accepted: Seq<Candidate>,
     pub full: Seq<Full>,
 }
 
 /// The candidates that the throttles allow too, and those that they don't.
-#[derive(Debug, PartialEq, Drop)]
+#[derive(Drop)]
 pub struct Throttled {
     pub sent: Seq<Candidate>,
     pub held: Seq<Held>,
 }
 
 /// Why a replica is where it is.
-#[derive(Debug, Drop)]
+#[derive(Drop)]
 pub enum Finding {
     /// It is in ERROR, and nobody asked for a reset.
     Failed,
@@ -135,20 +133,20 @@ pub enum Finding {
 }
 
 /// What a pass found of one target.
-#[derive(Debug, Drop)]
+#[derive(Drop)]
 pub struct Entry {
     pub target: Target,
     pub finding: Finding,
 }
 
 /// One entry for each target, in their order.
-#[derive(Debug, Drop)]
+#[derive(Drop)]
 pub struct Report {
     pub entries: Entries,
 }
 
 /// What a pass proposes, and its report.
-#[derive(Debug, Drop)]
+#[derive(Drop)]
 pub struct Plan {
     pub proposals: Seq<Proposal>,
     pub report: Report,

@@ -6,7 +6,7 @@ use hx_lists::Seq;
 use hx_model::Model;
 
 /// The state of a session's replica of a part.
-#[derive(Clone, Copy, Debug, PartialEq, Eq)]
+#[derive(Clone, Copy, PartialEq, Eq)]
 pub struct Row {
     pub session: SessionId,
     pub part: PartId,

@@ -21,7 +21,7 @@ use std::alloc::{AllocError, Global};
 use steps::Stage;
 
 /// A candidate, with the rank of its transition.
-#[derive(Clone, Copy, Debug, PartialEq, Eq)]
+#[derive(Clone, Copy, PartialEq, Eq)]
 pub struct Ranked {
     pub rank: u32,
     pub candidate: Candidate,

@@ -5,7 +5,6 @@ use std::marker::Model;
 
 /// A value, such as a handler, that can't be dropped: it has to be taken out. Contracts see that
 /// value.
-#[derive(Debug)]
 pub struct Kept<H> {
     handler: H,
 }

@@ -13,7 +13,6 @@ use indexmap::IndexMap;
 use std::marker::Model;
 
 /// A handler whose runs fail as its list says.
-#[derive(Debug)]
 pub struct ScriptedHandler {
     part: PartId,
     initial: StateId,
@@ -84,7 +83,7 @@ impl Handler for ScriptedHandler {
 
 /// A factory whose makings fail as its list says, and the runs of its handlers too. It takes no
 /// notice of the list's instances: it is that of one instance.
-#[derive(Debug, Drop)]
+#[derive(Drop)]
 pub struct ScriptedFactory {
     made: u64,
     retired: u64,

@@ -17,7 +17,7 @@ use hx_text::Page;
 use std::alloc::{AllocError, Global};
 
 /// What the names in a log need of a cluster.
-#[derive(Debug, Drop)]
+#[derive(Drop)]
 pub struct Roll {
     /// For each resource by number, the place of its name among the resource names.
     pub resources: Seq<u32>,

@@ -59,7 +59,7 @@ fn follow_all(roll: &mut Roll, entries: &Entries) -> Result<(), AllocError>
 
 /// Prints the entries of a history as they come. Contracts see it as the roll that the next one
 /// needs, which the entries printed so far tell.
-#[derive(Debug, Drop)]
+#[derive(Drop)]
 pub struct Printer {
     roll: Roll,
 }

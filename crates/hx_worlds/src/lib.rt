@@ -20,7 +20,7 @@ pub enum Voice {
 }
 
 /// What a settle came to.
-#[derive(Debug, Drop)]
+#[derive(Drop)]
 pub struct Settled {
     /// How many rounds there were, the last one among them.
     pub passes: u64,
