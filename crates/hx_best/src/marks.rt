@@ -24,7 +24,7 @@ use std::marker::Model;
 const FEW: usize = 16;
 
 /// A place where a replica is wanted, and its goal there.
-#[derive(Clone, Copy, Debug, PartialEq, Eq)]
+#[derive(Clone, Copy, PartialEq, Eq)]
 pub struct Mark {
     pub place: u32,
     pub goal: StateId,

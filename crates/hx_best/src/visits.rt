@@ -9,7 +9,7 @@ use std::marker::Model;
 
 /// A shown session, by its number in order of instance, and the mark of its instance, if the part is
 /// wanted there.
-#[derive(Clone, Copy, Debug, PartialEq, Eq)]
+#[derive(Clone, Copy, PartialEq, Eq)]
 pub struct Visit {
     pub number: usize,
     pub mark: Option<Mark>,

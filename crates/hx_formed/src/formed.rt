@@ -15,7 +15,7 @@ use std::marker;
 /// With which states of models, and with how many instances, a view was found well formed; or that
 /// nothing was found. Contracts see those, or none. The states are kept when a finding is forgotten, since
 /// the next view is mostly of the same ones.
-#[derive(Debug, Drop)]
+#[derive(Drop)]
 pub struct Formed {
     states: Seq<Seq<StateId>>,
     instances: usize,

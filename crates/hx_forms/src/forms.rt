@@ -49,7 +49,7 @@ pub trait ItemForm {
 }
 
 /// A number of 64 bits from a least to a most.
-#[derive(Clone, Copy, Debug)]
+#[derive(Clone, Copy)]
 pub struct Number {
     pub low: u64,
     pub high: u64,
@@ -68,7 +68,7 @@ impl Form for Number {
 }
 
 /// A number of 32 bits from a least to a most.
-#[derive(Clone, Copy, Debug)]
+#[derive(Clone, Copy)]
 pub struct SmallNumber {
     pub low: u32,
     pub high: u32,
@@ -87,7 +87,7 @@ impl Form for SmallNumber {
 }
 
 /// A name that a description declares. Contracts see it as its bytes.
-#[derive(Debug, Drop)]
+#[derive(Drop)]
 pub struct Name {
     text: String,
 }

@@ -15,14 +15,13 @@ use hx_model::{DROPPED, ERROR, Model};
 use std::alloc::{AllocError, Global};
 
 /// How far a goal is, and the first state on the way.
-#[derive(Clone, Copy, Debug, PartialEq, Eq)]
+#[derive(Clone, Copy, PartialEq, Eq)]
 struct Way {
     dist: u8,
     hop: Option<StateId>,
 }
 
 /// The distances and hops of a model, in a table. Contracts see what the model is made of.
-#[derive(Debug)]
 pub struct Hops {
     model: Model,
     places: [u8; 256],

@@ -8,7 +8,7 @@ use std::marker::Model;
 use std::slice;
 
 /// A list that only grows. Contracts see its items in order, and how many more need no memory.
-#[derive(Debug, Drop)]
+#[derive(Drop)]
 pub struct Log<T> {
     items: Vec<T>,
 }

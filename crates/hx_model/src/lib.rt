@@ -69,7 +69,7 @@ pub enum ModelFault {
 }
 
 /// What a model is made of: its states in priority order, and its transitions in rank order.
-#[derive(Debug, PartialEq)]
+#[derive(PartialEq)]
 pub struct ModelParts {
     pub states: Seq<(StateId, Bound)>,
     pub initial: StateId,
@@ -88,7 +88,6 @@ impl Drop for ModelParts {
 }
 
 /// A checked model. Contracts see it as what it is made of.
-#[derive(Debug)]
 pub struct Model {
     parts: ModelParts,
     order: [StateId; MOST_STATES],

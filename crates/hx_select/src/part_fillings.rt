@@ -18,7 +18,7 @@ use hx_views::ViewIndex;
 use std::alloc::{AllocError, Global};
 
 /// How many have a state among their ends or were accepted for it.
-#[derive(Clone, Copy, Debug, Drop)]
+#[derive(Clone, Copy, Drop)]
 pub struct Filling {
     pub state: StateId,
     pub count: u32,

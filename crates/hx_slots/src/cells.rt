@@ -13,7 +13,7 @@ use std::collections::HashMap;
 use std::marker::Model;
 
 /// What reads of rows need of a slot: its part, and the state, if there is a row.
-#[derive(Clone, Copy, Debug)]
+#[derive(Clone, Copy)]
 pub(crate) struct Cell {
     pub(crate) part: PartId,
     pub(crate) state: Option<StateId>,

@@ -19,7 +19,7 @@ use std::alloc::AllocError;
 
 /// What is kept of a session's replica of a part: its state, if there is a row, and the message
 /// that was sent to it last, pending or not.
-#[derive(Clone, Copy, Debug)]
+#[derive(Clone, Copy)]
 pub(crate) struct Slot {
     pub(crate) session: SessionId,
     pub(crate) part: PartId,

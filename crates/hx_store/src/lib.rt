@@ -37,7 +37,7 @@ pub use walk::Owned;
 
 /// A record: its version, which begins at 1 and rises with each change, the session that owns it,
 /// if any, and its value.
-#[derive(Debug, Drop)]
+#[derive(Drop)]
 pub struct Record<V> {
     pub version: u64,
     pub owner: Option<SessionId>,
@@ -68,7 +68,7 @@ impl From<AllocError> for StoreFault {
 }
 
 /// One operation of several that are made together.
-#[derive(Debug, Drop)]
+#[derive(Drop)]
 pub enum Op<V> {
     Create {
         key: u64,

@@ -10,7 +10,6 @@ use std::marker::Model;
 use std::str;
 
 /// Lines of text. Contracts see them as the list of their bytes.
-#[derive(Debug)]
 pub struct Lines {
     /// All lines, one behind the other.
     text: String,

@@ -14,7 +14,7 @@ const MOST_DIGITS: usize = 20;
 const BLOCK: usize = 4096;
 
 /// A text that grows at its end. Contracts see it as its bytes.
-#[derive(Debug, Drop)]
+#[derive(Drop)]
 pub struct Page {
     /// The text, and behind it room for more.
     bytes: Vec<u8>,
@@ -32,7 +32,7 @@ impl Model for Page {
 }
 
 /// A part of a line.
-#[derive(Clone, Copy, Debug)]
+#[derive(Clone, Copy)]
 pub enum Piece<'a> {
     Text(&'a str),
     /// A number, which is printed in decimal digits.

@@ -9,7 +9,7 @@ use std::alloc::{AllocError, Global};
 use std::marker::Model;
 
 /// The rows that were applied last, kept by part. Contracts see them as a list in that order.
-#[derive(Debug, Drop)]
+#[derive(Drop)]
 pub struct Routing {
     rows: Vec<Seen>,
 }

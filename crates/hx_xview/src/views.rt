@@ -10,7 +10,7 @@ use std::marker::Model;
 
 /// Which instance holds which part in which state. Contracts see it as its rows, by part, then
 /// instance.
-#[derive(Debug, Drop)]
+#[derive(Drop)]
 pub struct ExternalView {
     rows: Vec<Seen>,
 }
