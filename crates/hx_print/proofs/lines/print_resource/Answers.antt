@@ -1,9 +1,6 @@
 use Rattle.std.proofs.Common.{◌++◌, codes, decimal, ap, sym, append_assoc}
-use Rattle.hx_text.proofs.Printing.{puts_none, prints_err, prints_next}
+use Rattle.hx_text.proofs.Printing.{prints_next}
 use Rattle.hx_print.proofs.lines.print_resource.Goals as goal
-
-pub returns-in_err-push_word : goal.returns-in_err-push_word
-returns-in_err-push_word c = prints_err _ _ _ _ c.from_residual.result c.from_residual.ensures.1 (puts_none _ _ _ c.in_err-push_word.ensures.err)
 
 pub returns : goal.returns
 returns c =
