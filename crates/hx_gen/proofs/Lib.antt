@@ -3,3 +3,4 @@ pub mod Ranks
 pub mod Modelled
 pub mod Moving
 pub mod ByPart
+pub mod Settling

@@ -1,5 +1,5 @@
 -- What is known of a view again, by what was known of an earlier one.
-use Rattle.std.proofs.Common.{◌≡◌, ◌∙◌, ℕ, Bool, true, List, sym, ap, subst}
+use Rattle.std.proofs.Common.{◌≡◌, ◌∙◌, ℕ, Bool, true, false, List, refl, sym, ap, subst}
 use Rattle.std.specs.Prelude.{if◌then◌else◌}
 use Rattle.std.specs.List.{list_any}
 use Rattle.hx_ids.specs.declared.PartId.{PartId}
@@ -28,6 +28,20 @@ spliced_as {X} part_of parts marked same old old_one new new_one out old_is new_
       by_part = is.by_part;
       at = λ p. is.at p ∙ ap (λ (b : Bool). if b then items_at part_of p new else items_at part_of p old) (same p);
     }))
+
+-- the same where another new list has the same of the listed parts
+pub spliced_with : {X : Type 0} (part_of : X → PartId) (parts : List PartId) (marked : PartId → Bool) → ((p : PartId) → list_any (part_eq p) parts ≡ marked p)
+    → (old old_one new new_one out : List X) → old ≡ old_one → ((p : PartId) → list_any (part_eq p) parts ≡ true → items_at part_of p new ≡ items_at part_of p new_one)
+    → IsSpliced part_of (λ p. list_any (part_eq p) parts) old new out → IsSpliced part_of marked old_one new_one out
+spliced_with {X} part_of parts marked same old old_one new new_one out old_is agree is = record {
+  by_part = is.by_part;
+  at = λ p. is.at p ∙ either p (list_any (part_eq p) parts) refl ∙ ap (λ (b : Bool). if b then items_at part_of p new_one else items_at part_of p old_one) (same p);
+}
+  where
+    either : (p : PartId) (b : Bool) → list_any (part_eq p) parts ≡ b
+        → (if b then items_at part_of p new else items_at part_of p old) ≡ (if b then items_at part_of p new_one else items_at part_of p old_one)
+    either p true e = agree p e
+    either p false e = ap (items_at part_of p) old_is
 
 -- what is known of a view, and another one that differs from it in the marked parts alone
 module _ (k : Knowing) (accepted : List Candidate) (posted : List Seen) (known : IsKnown k.models k.instances k.view accepted posted) (marked : PartId → Bool) (w : View) (differ : DifferWithin marked k.view w) where

@@ -12,7 +12,7 @@ ghost use Rattle.hx_local.specs.Local.{IsAlike, ShowSame, DifferWithin, accepted
 ghost use Rattle.hx_planner.specs.Known.{IsKnownOf, IsKnownAs};
 
 use crate::kept::Kept;
-use crate::narrow::accepted_among;
+use crate::narrow::found_among;
 use hx_cluster::{Candidate, Seen, Spec, View};
 use hx_formed::{is_well_formed, is_well_formed_beside};
 use hx_hops::Hops;
@@ -174,11 +174,10 @@ impl Known {
         if !is_well_formed_beside(alloc, models.as_slice(), instances, &narrow.view)? {
             return Ok(None);
         }
-        let parts = marks.parts(alloc)?;
-        let new = accepted_among(alloc, models.as_slice(), hops, &narrow.view, marks)?;
-        let accepted = splice(alloc, accepted.as_slice(), parts.as_slice(), new.as_slice())?;
-        let new = posted_rows(alloc, &narrow.view)?;
-        let posted = splice(alloc, posted.as_slice(), parts.as_slice(), new.as_slice())?;
+        let new = found_among(alloc, models.as_slice(), hops, &narrow.view, marks)?;
+        let parts = new.parts.as_slice();
+        let accepted = splice(alloc, accepted.as_slice(), parts, new.accepted.as_slice())?;
+        let posted = splice(alloc, posted.as_slice(), parts, new.posted.as_slice())?;
         Ok(Some(Known {
             models,
             instances,

@@ -14,9 +14,9 @@ ghost use Rattle.hx_throttle.specs.Loads.{transition_of};
 ghost use Rattle.hx_throttle.specs.Throttle.{sent_of, throttled, IsSending};
 
 use crate::loads::{count, first_holding, held_back, shown_loads};
-use crate::shown::Shown;
 use hx_cluster::{Candidate, Proposal, Rule, Spec, Throttled, View};
 use hx_lists::Seq;
+pub use shown::Shown;
 use std::alloc::{AllocError, Global};
 
 /// For so many candidates room is made at once. Of many accepted ones few may be sent.

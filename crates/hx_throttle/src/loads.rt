@@ -21,6 +21,7 @@ fn number(n: usize) -> Result<u32, AllocError>
 }
 
 /// Counts a transition under each rule that matches it.
+#[inline(always)]
 pub fn count(loads: &mut Loads, rules: &[Rule], keyed: Keyed) -> Result<(), AllocError>
     ensures { OnOk result ((n : ℕ) (r : Rule) (key : ℕ)
         → slice_get rules.now n ≡ Some r

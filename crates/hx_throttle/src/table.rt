@@ -75,6 +75,7 @@ impl Loads {
     }
 
     /// Counts a load of a rule under a key. One past the end of its type is want of memory.
+    #[inline(always)]
     pub fn raise(&mut self, rule: usize, key: u32) -> Result<(), AllocError>
         ensures { OnOk result ((r : ℕ) (k : ℕ)
             → load_at self.new r k

@@ -1,5 +1,6 @@
-use Rattle.std.proofs.Common.{◌≡◌, ◌∙◌, List, Bool, sym, subst}
+use Rattle.std.proofs.Common.{◌≡◌, ◌∙◌, List, Bool, true, sym, ap, subst}
 use Rattle.std.specs.Prelude.{IfOk}
+use Rattle.std.specs.List.{list_all}
 use Rattle.hx_cluster.specs.declared.planning.View.{View}
 use Rattle.hx_cluster.specs.declared.planning.Target.{Target}
 use Rattle.hx_cluster.specs.declared.planning.Candidate.{Candidate}
@@ -7,6 +8,7 @@ use Rattle.hx_parts.specs.Parts.{IsByPart}
 use Rattle.hx_best.specs.Targets.{all_targets}
 use Rattle.hx_best.specs.Still.{HasMoving}
 use Rattle.hx_gen.specs.Stage.{has_model}
+use Rattle.hx_gen.specs.Candidates.{candidates}
 use Rattle.hx_gen.proofs.Modelled.{all_targets-modelled}
 use Rattle.hx_marks.specs.Marks.{is_marked}
 use Rattle.hx_local.specs.Local.{marked_targets}
@@ -15,26 +17,28 @@ use Rattle.hx_pass.proofs.AcceptedOf.{accepted_same}
 use Rattle.hx_planner.proofs.narrow.accepted_among.Goals as goal
 use Rattle.hx_planner.proofs.narrow.accepted_among.Goals.{After-as_slice}
 
-moving : (c : After-as_slice) → HasMoving c.args.models.now c.args.view.now (marked_targets c.args.models.now (is_marked c.args.marks.now) c.args.view.now) c.as_slice.result.now
+moving : (c : After-as_slice) → HasMoving c.args.models.now c.args.index.now (marked_targets c.args.models.now (is_marked c.args.marks.now) c.args.index.now) c.as_slice.result.now
 moving c =
     let models = c.args.models.now in
-    let view = c.args.view.now in
-    subst (λ (ts : List Target). HasMoving models view (marked_targets models (is_marked c.args.marks.now) view) ts) (sym c.as_slice.ensures.value)
-    (subst (λ (v : View). HasMoving models v (marked_targets models (is_marked c.args.marks.now) v) c.in_ok-targets.targets.items) c.in_ok-index.ensures c.in_ok-targets.ensures)
+    let view = c.args.index.now in
+    subst (λ (ts : List Target). HasMoving models view (marked_targets models (is_marked c.args.marks.now) view) ts) (sym c.as_slice.ensures.value) c.in_ok-targets.ensures
 
 pub candidates-requires-clause-models : goal.candidates-requires-clause-models
 candidates-requires-clause-models c =
     let models = c.args.models.now in
-    let view = c.args.view.now in
+    let view = c.args.index.now in
     let own : Target → Bool = λ t. has_model models view.ideals.resources t.part.resource in
-    (moving (goal.at.candidates-requires-clause-models c).After-as_slice).among own
-    (all-filter own (λ t. is_marked c.args.marks.now t.part) (all_targets models view) (all_targets-modelled models view c.requires.models))
+    subst (λ (v : View). list_all (λ t. has_model models v.ideals.resources t.part.resource) c.as_slice.result.now ≡ true) (sym c.view-view.ensures)
+    ((moving (goal.at.candidates-requires-clause-models c).After-as_slice).among own
+    (all-filter own (λ t. is_marked c.args.marks.now t.part) (all_targets models view) (all_targets-modelled models view c.requires.models)))
 
 pub accepted_on-requires : goal.accepted_on-requires
 accepted_on-requires c =
     record { by_part = subst (λ (cs : List Candidate). IsByPart (λ c. c.part) cs) (sym c.as_slice-2.ensures.value) c.in_ok-candidates.ensures.by_part }
 
 pub returns : goal.returns
-returns c = subst (λ (cs : List Candidate). IfOk c.accepted_on.result (λ accepted. accepted ≡ cs))
-    (accepted_same c.args.models.now c.args.view.now _ (marked_targets c.args.models.now (is_marked c.args.marks.now) c.args.view.now) c.as_slice.result.now _ _ (moving (goal.at.returns c).After-as_slice)
-    c.in_ok-candidates.ensures.found c.as_slice-2.ensures.value (c.shown.ensures ∙ c.in_ok-index.ensures)) c.accepted_on.ensures
+returns c =
+    let found = c.in_ok-candidates.ensures.found ∙ ap (λ (v : View). candidates c.args.models.now v c.as_slice.result.now) c.view-view.ensures in
+    subst (λ (cs : List Candidate). IfOk c.accepted_on.result (λ accepted. accepted ≡ cs))
+    (accepted_same c.args.models.now c.args.index.now _ (marked_targets c.args.models.now (is_marked c.args.marks.now) c.args.index.now) c.as_slice.result.now _ _ (moving (goal.at.returns c).After-as_slice)
+    found c.as_slice-2.ensures.value c.shown.ensures) c.accepted_on.ensures

@@ -6,7 +6,8 @@ use Rattle.hx_cluster.specs.declared.planning.View.{View}
 use Rattle.hx_cluster.specs.declared.planning.Candidate.{Candidate}
 use Rattle.hx_cluster.specs.declared.happenings.Seen.{Seen}
 use Rattle.hx_cluster.specs.Views.{is_well_formed}
-use Rattle.hx_parts.specs.Parts.{IsByPart}
+use Rattle.hx_ids.specs.declared.PartId.{PartId}
+use Rattle.hx_parts.specs.Parts.{items_at, IsByPart}
 use Rattle.hx_marks.specs.Marks.{is_marked, IsSpliced}
 use Rattle.hx_local.specs.Local.{DifferWithin, marked_targets, accepted_in, accepted_within}
 use Rattle.hx_local.proofs.Accepted.{accepted_by_part}
@@ -15,7 +16,7 @@ use Rattle.hx_pass.specs.Turns.{posted_of}
 use Rattle.hx_best.specs.Targets.{all_targets}
 use Rattle.hx_gen.proofs.Modelled.{well_formed-modelled}
 use Rattle.hx_planner.specs.Known.{Knowing, IsKnown}
-use Rattle.hx_planner.proofs.Again.{spliced_as, formed_by, known_by}
+use Rattle.hx_planner.proofs.Again.{spliced_as, spliced_with, formed_by, known_by}
 use Rattle.hx_planner.proofs.known.Known.again.Goals as goal
 use Rattle.hx_planner.proofs.known.Known.again.Goals.{In_ok-is_well_formed_beside}
 
@@ -40,10 +41,10 @@ returns-then-not-branch c =
     (formed_by (last at) c.self.inside.accepted c.self.inside.posted.items c.self.invariant (is_marked c.args.marks.now) c.args.view.now (differ at)
     c.as_slice.result.now c.self.inside.instances c.in_ok-narrow.narrow.view (same_models at) refl c.in_ok-narrow.ensures false bad)
 
-pub accepted_among-requires-clause-models : goal.accepted_among-requires-clause-models
+pub found_among-requires-clause-models : goal.found_among-requires-clause-models
 unfolding last
-accepted_among-requires-clause-models c =
-    let at = (goal.at.accepted_among-requires-clause-models c).In_ok-is_well_formed_beside in
+found_among-requires-clause-models c =
+    let at = (goal.at.found_among-requires-clause-models c).In_ok-is_well_formed_beside in
     let also : c.as_slice-2.result.now ≡ c.self.inside.models = search rules in
     let good : is_well_formed c.as_slice.result.now c.self.inside.instances c.in_ok-narrow.narrow.view ≡ true = grind (arith, c.in_ok-is_well_formed_beside.ensures, c.if-not-branch.false) in
     well_formed-modelled c.as_slice-2.result.now c.self.inside.instances c.in_ok-narrow.narrow.view
@@ -57,16 +58,16 @@ splice-requires-clause-old c =
 pub splice-requires-clause-new : goal.splice-requires-clause-new
 splice-requires-clause-new c =
     let models = c.as_slice-2.result.now in
-    subst (λ (cs : List Candidate). IsByPart (λ c. c.part) cs) (sym (c.as_slice-5.ensures ∙ c.in_ok-new.ensures))
+    subst (λ (cs : List Candidate). IsByPart (λ c. c.part) cs) (sym (c.as_slice-4.ensures ∙ c.in_ok-new.ensures.accepted))
     (accepted_by_part models c.in_ok-narrow.narrow.view (marked_targets models (is_marked c.args.marks.now) c.in_ok-narrow.narrow.view))
 
 pub splice-requires-2-clause-old : goal.splice-requires-2-clause-old
 splice-requires-2-clause-old c =
-    subst (λ (rows : List Seen). IsByPart (λ s. s.part) rows) (sym (c.as_slice-6.ensures.value ∙ c.self.invariant.posted_are)) (posted_by_part c.self.inside.view)
+    subst (λ (rows : List Seen). IsByPart (λ s. s.part) rows) (sym (c.as_slice-5.ensures.value ∙ c.self.invariant.posted_are)) (posted_by_part c.self.inside.view)
 
 pub splice-requires-2-clause-new : goal.splice-requires-2-clause-new
 splice-requires-2-clause-new c =
-    subst (λ (rows : List Seen). IsByPart (λ s. s.part) rows) (sym (c.as_slice-8.ensures.value ∙ c.in_ok-new-2.ensures)) (posted_by_part c.in_ok-narrow.narrow.view)
+    subst (λ (rows : List Seen). IsByPart (λ s. s.part) rows) (sym c.as_slice-6.ensures.value) c.in_ok-new.ensures.by_part
 
 pub invariant_of-result : goal.invariant_of-result
 unfolding last
@@ -78,14 +79,17 @@ invariant_of-result c =
     let also : c.as_slice-2.result.now ≡ ms = search rules in
     let old : c.as_slice-3.result.now ≡ c.self.inside.accepted = search rules in
     let good : is_well_formed ms c.self.inside.instances narrow ≡ true = grind (arith, c.in_ok-is_well_formed_beside.ensures, c.if-not-branch.false) in
-    let new : c.as_slice-5.result.now ≡ accepted_within ms marked narrow =
-    c.as_slice-5.ensures ∙ c.in_ok-new.ensures ∙ ap (λ (m : List ModelParts). accepted_within m marked narrow) also in
+    let listed : (p : PartId) → list_any (part_eq p) c.as_slice-parts.result.now ≡ marked p = λ p. ap (list_any (part_eq p)) c.as_slice-parts.ensures.value ∙ c.in_ok-new.ensures.marked p in
+    let new : c.as_slice-4.result.now ≡ accepted_within ms marked narrow =
+    c.as_slice-4.ensures ∙ c.in_ok-new.ensures.accepted ∙ ap (λ (m : List ModelParts). accepted_within m marked narrow) also in
     let accepts : IsSpliced (λ c. c.part) marked c.self.inside.accepted (accepted_within ms marked narrow) c.in_ok-accepted.accepted.items =
-    spliced_as (λ c. c.part) c.as_slice-4.result.now marked (λ p. ap (list_any (part_eq p)) c.as_slice-4.ensures.value ∙ c.in_ok-parts.ensures.same p) c.as_slice-3.result.now c.self.inside.accepted
-    c.as_slice-5.result.now (accepted_within ms marked narrow) c.in_ok-accepted.accepted.items old new c.in_ok-accepted.ensures in
+    spliced_as (λ c. c.part) c.as_slice-parts.result.now marked listed c.as_slice-3.result.now c.self.inside.accepted
+    c.as_slice-4.result.now (accepted_within ms marked narrow) c.in_ok-accepted.accepted.items old new c.in_ok-accepted.ensures in
     let posts : IsSpliced (λ s. s.part) marked c.self.inside.posted.items (posted_of narrow) c.in_ok-posted.posted.items =
-    spliced_as (λ s. s.part) c.as_slice-7.result.now marked (λ p. ap (list_any (part_eq p)) c.as_slice-7.ensures.value ∙ c.in_ok-parts.ensures.same p) c.as_slice-6.result.now c.self.inside.posted.items
-    c.as_slice-8.result.now (posted_of narrow) c.in_ok-posted.posted.items c.as_slice-6.ensures.value (c.as_slice-8.ensures.value ∙ c.in_ok-new-2.ensures) c.in_ok-posted.ensures in
+    spliced_with (λ s. s.part) c.as_slice-parts.result.now marked listed c.as_slice-5.result.now c.self.inside.posted.items
+    c.as_slice-6.result.now (posted_of narrow) c.in_ok-posted.posted.items c.as_slice-5.ensures.value
+    (λ p any. ap (items_at (λ s. s.part) p) c.as_slice-6.ensures.value ∙ c.in_ok-new.ensures.posted p (ap (list_any (part_eq p)) (sym c.as_slice-parts.ensures.value) ∙ any))
+    c.in_ok-posted.ensures in
     let known = known_by (last at) c.self.inside.accepted c.self.inside.posted.items c.self.invariant marked c.args.view.now (differ at)
     ms c.self.inside.instances narrow (same_models at) refl c.in_ok-narrow.ensures good c.in_ok-accepted.accepted.items c.in_ok-posted.posted.items c.widened.result c.widened.ensures accepts posts in
     subst (λ (m : List ModelParts). IsKnown m c.self.inside.instances c.widened.result c.from_vec.result c.in_ok-posted.posted.items) (same_models at)
