@@ -1,5 +1,5 @@
 //! The passes of controllers: how they begin, and what their reads show.
-ghost use Rattle.std.specs.Prelude.{◌≡◌, ◌++◌, true, IfOk, OnOk, OnErr};
+ghost use Rattle.std.specs.Prelude.{◌≡◌, ◌++◌, ◌↔◌, true, IfOk, OnOk, OnErr, IsTrue};
 ghost use Rattle.hx_lists.specs.Answers.{RefusedBy};
 ghost use Rattle.hx_cluster.specs.Steps.{has_controller};
 ghost use Rattle.hx_cluster.specs.Reads.{live_shown, mail_shown, states_shown, ideals_shown};
@@ -190,13 +190,35 @@ impl Board {
         ensures ok { OnOk result (self.new ≡ happened self.old (Event.Ideals c pass)) }
         ensures err { OnErr result (self.new ≡ self.old) }
     {
+        let mut ideals = kept;
+        self.reread_ideals(c, pass, &mut ideals)?;
+        Ok(ideals)
+    }
+
+    /// Reads the resources, the drained instances and the reset flags over `kept`, and tells whether
+    /// they are as they were in it. What it has in the same place stays, and takes no memory; the
+    /// rest is copied.
+    pub fn reread_ideals(
+        &mut self,
+        c: ControllerId,
+        pass: PassNo,
+        kept: &mut Ideals,
+    ) -> Result<bool, ReadRefusal>
+        requires { has_controller self.old.cluster c ≡ true }
+        ensures refused { RefusedBy ReadRefusal.OutOfMemory (read_refusal self.old c pass) result }
+        ensures same { IfOk result (λ same.
+            IsTrue same ↔ (kept.old ≡ ideals_shown self.old.cluster)) }
+        ensures shown { OnOk result (kept.new ≡ ideals_shown self.old.cluster) }
+        ensures ok { OnOk result (self.new ≡ happened self.old (Event.Ideals c pass)) }
+        ensures err { OnErr result (self.new ≡ self.old) }
+    {
         if let Some(fault) = self.read_fault(c, pass) {
             return Err(fault);
         }
         make_room(&mut self.history, self.owed, 1)?;
-        let ideals = self.records.read_ideals_over(kept)?;
+        let same = self.records.reread_ideals(kept)?;
         record(&mut self.history, Event::Ideals(c, pass));
         self.weight += 1;
-        Ok(ideals)
+        Ok(same)
     }
 }

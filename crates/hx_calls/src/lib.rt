@@ -9,5 +9,5 @@ mod shown;
 
 pub use messages::{message_from, settle_flags};
 pub use passes::{begin, publish, raise_pass};
-pub use reads::{ideals_over, read_ideals_over};
+pub use reads::{ideals_over, read_ideals_over, reread_ideals};
 pub use shown::{forget_shown, no_ideals, nothing_shown};

@@ -1,13 +1,15 @@
 //! What a controller is shown of the ideals, and copies of it.
 ghost use Rattle.std.specs.Prelude.{◌≡◌, ◌+◌, ◌<◌, ◌≤◌, [], ◌∷◌, ◌++◌, length, take};
-ghost use Rattle.std.specs.Prelude.{IfOk, OnOk};
+ghost use Rattle.std.specs.Prelude.{◌↔◌, IfOk, IsTrue, OnOk};
 ghost use Rattle.hx_cluster.specs.Reads.{ideals_shown};
 
+use crate::shown::no_ideals;
 use hx_cluster::{Cluster, Ideals, Resource};
 use hx_ids::{PartId, SessionId};
 use hx_lists::Seq;
 use hx_same::{Same, all_same};
 use std::alloc::AllocError;
+use std::mem;
 
 /// The resources, the drained instances and the reset flags. What `kept` has in the same place is
 /// kept, and takes no memory; the rest is copied.
@@ -20,6 +22,31 @@ pub fn read_ideals_over(cluster: &Cluster, kept: Ideals) -> Result<Ideals, Alloc
         cluster.resets.as_slice(),
         kept,
     )
+}
+
+/// Whether ideals are those of a cluster.
+fn are_of(ideals: &Ideals, cluster: &Cluster) -> bool
+    ensures { IsTrue result ↔ (ideals.now ≡ ideals_shown cluster.now) }
+{
+    ideals.resources.same(&cluster.resources)
+        && ideals.drained.same(&cluster.instances)
+        && ideals.resets.same(&cluster.resets)
+}
+
+/// Reads the resources, the drained instances and the reset flags over `kept`, and tells whether they
+/// are as they were in it. What it has in the same place stays, and takes no memory; the rest is
+/// copied.
+pub fn reread_ideals(cluster: &Cluster, kept: &mut Ideals) -> Result<bool, AllocError>
+    ensures same { IfOk result (λ same. IsTrue same ↔ (kept.old ≡ ideals_shown cluster.now)) }
+    ensures shown { OnOk result (kept.new ≡ ideals_shown cluster.now) }
+{
+    if are_of(kept, cluster) {
+        return Ok(true);
+    }
+    let none = no_ideals(kept.resources.allocator());
+    let before = mem::replace(kept, none);
+    *kept = read_ideals_over(cluster, before)?;
+    Ok(false)
 }
 
 /// A copy of ideals. What `kept` has in the same place is kept, and takes no memory; the rest is

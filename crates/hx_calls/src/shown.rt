@@ -1,5 +1,5 @@
 //! What a turn was shown: nothing before its first read.
-ghost use Rattle.std.specs.Prelude.{◌≡◌};
+ghost use Rattle.std.specs.Prelude.{◌≡◌, false, IsTrue};
 ghost use Rattle.hx_cluster.specs.Reads.{nothing_shown};
 
 use hx_cluster::{Ideals, View};
@@ -31,17 +31,21 @@ pub fn nothing_shown(alloc: Global) -> View
 }
 
 /// Forgets what a turn was shown, and keeps the room of its messages and rows for the next. The
-/// ideals that it read, if it did, become the spare ones, over which another turn may read. It takes
-/// no memory.
-pub fn forget_shown(view: &mut View, spare: &mut Ideals)
-    ensures { view.new ≡ nothing_shown }
+/// ideals that it read, if it did, become the spare ones, over which another turn may read; it tells
+/// whether they did. It takes no memory.
+pub fn forget_shown(view: &mut View, spare: &mut Ideals) -> bool
+    ensures view { view.new ≡ nothing_shown }
+    ensures spared { IsTrue result → spare.new ≡ view.old.ideals }
+    ensures kept { result ≡ false → spare.new ≡ spare.old }
 {
     let alloc = view.live.allocator();
     view.live = Seq::new(alloc);
     view.mail.truncate(0);
     view.rows.truncate(0);
     let ideals = mem::replace(&mut view.ideals, no_ideals(alloc));
-    if !ideals.drained.is_empty() {
-        *spare = ideals;
+    if ideals.drained.is_empty() {
+        return false;
     }
+    *spare = ideals;
+    true
 }

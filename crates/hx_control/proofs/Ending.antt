@@ -36,11 +36,12 @@ use Rattle.hx_control.specs.declared.ControlFault.{ControlFault}
 use Rattle.hx_control.specs.declared.ControlFault.TheVariants as faults
 use Rattle.hx_control.specs.declared.controller.Next.{Next}
 use Rattle.hx_control.specs.declared.controller.Next.TheVariants as nexts
+use Rattle.hx_control.specs.declared.controller.Planned.{Planned}
 use Rattle.hx_control.specs.declared.controller.Controller.TheInside.{Inside}
 use Rattle.hx_control.specs.Controllers.{Controller, idle_controller}
 use Rattle.hx_control.specs.Steps.{Step, Calls, Plans, Refuses, is_sent, is_of_cluster, of_cluster, outcome_of, dispatch_step, planned_step, post_step, step_of}
 use Rattle.hx_control.specs.OfBoard.{IsPlanOf}
-use Rattle.hx_control.specs.Turning.{left_of, controller, with_plan, IsTurn}
+use Rattle.hx_control.specs.Turning.{left_of, controller, with_plan, IsTurn, IsPlanned}
 use Rattle.hx_control.specs.Drafted.{IsToSend, IsDispatched}
 use Rattle.hx_control.specs.Faults.{of_dispatch, of_post}
 use Rattle.hx_control.specs.Made.{step_fault, Tries}
@@ -89,17 +90,18 @@ no_draft : (view : View) (o : Option Draft) → option_map (finished view) o ≡
 no_draft view None is = refl
 no_draft view (Some d) is = cc
 
-pub still_turn : (a : Inside) (x : Controller) (found : Option Setting) (planned : Option View) → controller a ≡ x → x.turn.left ≡ Send ∷ Post ∷ [] → x.plan ≡ None
-    → IsTurn a → IsFound found a.view → IsTurn (record a { formed = found; planner = planned })
-still_turn a x found planned seen left none turn finds =
+pub still_turn : (a : Inside) (x : Controller) (found : Option Setting) (known : Planned) (last : Option View) → controller a ≡ x → x.turn.left ≡ Send ∷ Post ∷ [] → x.plan ≡ None
+    → IsTurn a → IsFound found a.view → IsPlanned known a.spare a.view.ideals last → IsTurn (record a { formed = found; planned = known; planner = last })
+still_turn a x found known last seen left none turn finds wants =
     let free : a.draft ≡ None = no_draft a.view a.draft (ap (λ (v : Controller). v.plan) seen ∙ none) in
     record {
       left = turn.left;
       few = turn.few;
       formed = finds;
       modelled = turn.modelled;
-      drafted = subst (λ (o : Option Draft). IfSome o (λ d. planned ≡ Some a.view)) (sym free) tt;
+      drafted = subst (λ (o : Option Draft). IfSome o (λ d. last ≡ Some a.view)) (sym free) tt;
       posts = λ is. absurd (unposted a.next a.view.live is (ap (λ (v : Controller). v.turn.left) seen ∙ left));
+      wants = wants;
     }
   where
     unposted : (next : Next) (live : List (SessionId × InstanceId)) → next ≡ nexts.Post → left_of next live ≡ Send ∷ Post ∷ [] → ⊥

@@ -10,3 +10,4 @@ mod Making
 mod Going
 mod Ending
 mod Few
+mod Wanted

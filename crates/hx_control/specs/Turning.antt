@@ -4,12 +4,15 @@ use Rattle.hx_ids.specs.declared.SessionId.{SessionId}
 use Rattle.hx_ids.specs.declared.InstanceId.{InstanceId}
 use Rattle.hx_cluster.specs.declared.planning.Plan.{Plan}
 use Rattle.hx_cluster.specs.declared.planning.View.{View}
+use Rattle.hx_cluster.specs.declared.planning.Ideals.{Ideals as Wants}
 use Rattle.hx_formed.specs.Formed.{IsFound}
 use Rattle.hx_gen.specs.Modelled.{has_models}
 use Rattle.hx_pass.specs.Drafts.{Draft, finished}
 use Rattle.hx_pass.specs.Turns.{Call, Live, Mail, States, Ideals, Send, Post}
 use Rattle.hx_control.specs.declared.controller.Next.{Next}
 use Rattle.hx_control.specs.declared.controller.Next.TheVariants as nexts
+use Rattle.hx_control.specs.declared.controller.Planned.{Planned}
+use Rattle.hx_control.specs.declared.controller.Planned.TheVariants as wanted
 use Rattle.hx_control.specs.declared.controller.Controller.TheInside.{Inside}
 use Rattle.hx_control.specs.Controllers.{Controller}
 
@@ -66,6 +69,11 @@ IsLeft _ sessions = Unit {0}
 abbrev pub IsModelled : View → Option Draft → Type 0
 IsModelled view draft = IfSome draft (λ d. has_models d.models view ≡ true)
 
+-- the spare ideals, or the shown ones, are those of the view that was planned last, if there is one
+pub record IsPlanned (planned : Planned) (spare shown : Wants) (last : Option View) : Type 0 where
+  pub spared : planned ≡ wanted.Spare → IfSome last (λ v. v.ideals ≡ spare)
+  pub shows : planned ≡ wanted.Shown → IfSome last (λ v. v.ideals ≡ shown)
+
 -- what is drafted, or posted next, is of the view that was planned last
 pub record IsTurn (a : Inside) : Type 0 where
   pub left : IsLeft a.next (length a.view.live)
@@ -74,3 +82,4 @@ pub record IsTurn (a : Inside) : Type 0 where
   pub modelled : IsModelled a.view a.draft
   pub drafted : IfSome a.draft (λ d. a.planner ≡ Some a.view)
   pub posts : a.next ≡ nexts.Post → a.planner ≡ Some a.view
+  pub wants : IsPlanned a.planned a.spare a.view.ideals a.planner

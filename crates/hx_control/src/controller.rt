@@ -1,10 +1,11 @@
 //! A controller: its number, where its turn is, and what the turn was shown.
-ghost use Rattle.std.specs.Prelude.{◌≡◌, ◌↔◌, IsTrue, length};
+ghost use Rattle.std.specs.Prelude.{◌≡◌, ◌↔◌, IfSome, IsTrue, Option, Some, length};
 ghost use Rattle.hx_lists.specs.Lists.{count};
 ghost use Rattle.hx_cluster.specs.Reads.{nothing_shown};
 ghost use Rattle.hx_control.specs.Controllers.{idle_controller, stage};
 ghost use Rattle.hx_control.specs.Controllers.{is_mail_call, is_states_call};
-ghost use Rattle.hx_control.specs.Turning.{others_at};
+ghost use Rattle.hx_cluster.specs.declared.planning.View.{View};
+ghost use Rattle.hx_control.specs.Turning.{others_at, IsPlanned};
 ghost use Rattle.hx_pass.specs.Turns.{idle_turn};
 
 use crate::Stage;
@@ -29,6 +30,44 @@ pub(crate) enum Next {
     Ideals,
     Send,
     Post,
+}
+
+/// Which of a controller's ideals are those of the view that was planned last, where there is one.
+#[derive(Clone, Copy)]
+pub(crate) enum Planned {
+    Neither,
+    /// The spare ones.
+    Spare,
+    /// Those that the turn was shown.
+    Shown,
+}
+
+/// Gives the planner the messages and rows of what a turn was shown, where that was drafted, or is
+/// posted next.
+fn hold_planned(planner: &mut Planner, view: &mut View, draft: &Option<Draft>, next: Next)
+    requires drafted { IfSome draft.now (λ _. planner.old ≡ Some view.old) }
+    requires posts { next ≡ Next.Post → planner.old ≡ Some view.old }
+    ensures planned { planner.new ≡ planner.old }
+    ensures ideals { view.new.ideals ≡ view.old.ideals }
+{
+    if draft.is_some() || matches!(next, Next::Post) {
+        planner.hold(view);
+    }
+}
+
+/// Forgets what a turn was shown, and tells which ideals are then those of the view that was planned
+/// last.
+pub(crate) fn forget(view: &mut View, spare: &mut Ideals, planned: Planned) -> Planned
+    ensures view { view.new ≡ nothing_shown }
+    ensures planned { (last : Option View) → IsPlanned planned spare.old view.old.ideals last
+        → IsPlanned result spare.new view.new.ideals last }
+{
+    let spared = forget_shown(view, spare);
+    match planned {
+        Planned::Shown if spared => Planned::Spare,
+        Planned::Spare if !spared => Planned::Spare,
+        _ => Planned::Neither,
+    }
 }
 
 /// How many calls are left beside the reads of mail and of states.
@@ -91,6 +130,7 @@ pub struct Controller {
     pub(crate) view: View,
     /// The ideals of an earlier turn, over which the next are read.
     pub(crate) spare: Ideals,
+    pub(crate) planned: Planned,
     pub(crate) formed: Formed,
     pub(crate) draft: Option<Draft>,
     pub(crate) planner: Planner,
@@ -105,6 +145,7 @@ impl Drop for Controller {
             begun: _,
             view: _,
             spare: _,
+            planned: _,
             formed: _,
             draft: _,
             planner: _,
@@ -134,6 +175,7 @@ impl Controller {
             begun: not_begun(),
             view: nothing_shown(alloc),
             spare: no_ideals(alloc),
+            planned: Planned::Neither,
             formed: Formed::new(alloc),
             draft: None,
             planner: Planner::new(),
@@ -216,12 +258,10 @@ impl Controller {
     pub fn restart(&mut self)
         ensures { self.new ≡ idle_controller self.old.id }
     {
-        if self.draft.is_some() || matches!(self.next, Next::Post) {
-            self.planner.hold(&mut self.view);
-        }
+        hold_planned(&mut self.planner, &mut self.view, &self.draft, self.next);
         self.next = Next::Begin;
         self.begun = not_begun();
-        forget_shown(&mut self.view, &mut self.spare);
+        self.planned = forget(&mut self.view, &mut self.spare, self.planned);
         self.formed.forget();
         self.draft = None;
     }

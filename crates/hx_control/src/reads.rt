@@ -1,25 +1,20 @@
 //! How a turn begins, and what it reads.
-ghost use Rattle.std.specs.Prelude.{◌≡◌, ◌≢◌, ◌<◌, ◌++◌, true, List, drop, length, map};
-ghost use Rattle.std.specs.Prelude.{IfOk, OnOk, OnErr};
-ghost use Rattle.hx_lists.specs.Answers.{RefusedBy};
-ghost use Rattle.hx_cluster.specs.declared.happenings.Event.TheVariants as events;
-ghost use Rattle.hx_cluster.specs.Reads.{ideals_shown};
-ghost use Rattle.hx_board.specs.Board.{happened};
-ghost use Rattle.hx_board.specs.Refusals.{read_refusal};
+ghost use Rattle.std.specs.Prelude.{◌≡◌, ◌≢◌, ◌<◌, ◌++◌, true, List, Option, drop, length, map};
+ghost use Rattle.std.specs.Prelude.{IsTrue};
+ghost use Rattle.hx_cluster.specs.declared.planning.View.{View};
+ghost use Rattle.hx_cluster.specs.declared.planning.Ideals.{Ideals};
 ghost use Rattle.hx_ids.specs.declared.SessionId.{SessionId};
 ghost use Rattle.hx_ids.specs.declared.InstanceId.{InstanceId};
 ghost use Rattle.hx_cluster.specs.declared.description.Spec.{Spec};
 ghost use Rattle.hx_cluster.specs.Steps.{has_controller};
 ghost use Rattle.hx_pass.specs.Turns.{Mail};
 ghost use Rattle.hx_control.specs.Steps.{begin_step, step_of};
-ghost use Rattle.hx_control.specs.Turning.{left_of, calls_after_mail, IsLeft};
+ghost use Rattle.hx_control.specs.Turning.{left_of, calls_after_mail, IsLeft, IsPlanned};
 ghost use Rattle.hx_control.specs.Made.{Tries};
 
-use crate::controller::Next;
+use crate::controller::{Next, Planned, forget};
 use crate::{ControlFault, Controller, PassOutcome};
-use hx_board::{Board, ReadRefusal};
-use hx_calls::{forget_shown, no_ideals};
-use hx_cluster::Ideals;
+use hx_board::Board;
 use hx_lists::Seq;
 use std::mem;
 
@@ -52,6 +47,19 @@ fn mail_at(read: u32, sessions: usize) -> Next
     }
 }
 
+/// Which ideals are those of the view that was planned last, once the turn was shown what was read
+/// over the spare ones, and whether these were the same.
+fn shown(planned: Planned, same: bool) -> Planned
+    ensures { (last : Option View) → (spare before after ideals : Ideals)
+        → (IsTrue same → spare ≡ ideals) → IsPlanned planned spare before last
+        → IsPlanned result after ideals last }
+{
+    match planned {
+        Planned::Spare if same => Planned::Shown,
+        _ => Planned::Neither,
+    }
+}
+
 impl Controller {
     /// Begins a turn.
     pub(crate) fn begin(&mut self, board: &mut Board) -> Result<Option<PassOutcome>, ControlFault>
@@ -62,7 +70,7 @@ impl Controller {
         let begun = board.begin(self.id)?;
         self.next = Next::Live;
         self.begun = begun;
-        forget_shown(&mut self.view, &mut self.spare);
+        self.planned = forget(&mut self.view, &mut self.spare, self.planned);
         self.formed.forget();
         self.draft = None;
         Ok(None)
@@ -128,21 +136,6 @@ impl Controller {
         Ok(None)
     }
 
-    /// What is wanted, read over what an earlier turn read.
-    fn wanted(&mut self, board: &mut Board) -> Result<Ideals, ReadRefusal>
-        requires { has_controller board.old.cluster self.old.id ≡ true }
-        ensures refused { RefusedBy ReadRefusal.OutOfMemory
-            (read_refusal board.old self.old.id self.old.turn.begun.pass) result }
-        ensures shown { IfOk result (λ ideals. ideals ≡ ideals_shown board.old.cluster) }
-        ensures ok { OnOk result (board.new
-            ≡ happened board.old (events.Ideals self.old.id self.old.turn.begun.pass)) }
-        ensures err { OnErr result (board.new ≡ board.old) }
-        ensures same { self.new ≡ self.old }
-    {
-        let spare = mem::replace(&mut self.spare, no_ideals(self.view.live.allocator()));
-        board.read_ideals_over(self.id, self.begun.pass, spare)
-    }
-
     /// Reads what is wanted.
     pub(crate) fn read_ideals(
         &mut self,
@@ -153,9 +146,11 @@ impl Controller {
         ensures { (spec : Spec) → Tries (step_of spec board.old.cluster self.old) board.old
             board.new self.old self.new result }
     {
-        let ideals = self.wanted(board)?;
+        let planned = mem::replace(&mut self.planned, Planned::Neither);
+        let same = board.reread_ideals(self.id, self.begun.pass, &mut self.spare)?;
+        mem::swap(&mut self.view.ideals, &mut self.spare);
         self.next = Next::Send;
-        self.view.ideals = ideals;
+        self.planned = shown(planned, same);
         self.formed.forget();
         self.draft = None;
         Ok(None)

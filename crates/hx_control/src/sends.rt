@@ -1,5 +1,6 @@
 //! What a turn makes of what it was shown: the plan, its dispatch, and the post.
-ghost use Rattle.std.specs.Prelude.{◌≡◌, ◌+◌, ◌<◌, ◌^◌, [], None, Some, true, length, IfOk, OnErr};
+ghost use Rattle.std.specs.Prelude.{◌≡◌, ◌+◌, ◌<◌, ◌^◌, [], None, Some, true, false, length};
+ghost use Rattle.std.specs.Prelude.{IfOk, OnErr, IfSome, MatchOption};
 ghost use Rattle.hx_lists.specs.Lists.{count};
 ghost use Rattle.hx_lists.specs.Answers.{RefusedBy};
 ghost use Rattle.hx_cluster.specs.Steps.{has_controller};
@@ -7,7 +8,8 @@ ghost use Rattle.hx_cluster.specs.declared.happenings.Event.TheVariants as event
 ghost use Rattle.hx_cluster.specs.Events.{dispatched_of};
 ghost use Rattle.hx_gen.specs.Modelled.{has_models};
 ghost use Rattle.hx_pass.specs.Plans.{plan as plan_of};
-ghost use Rattle.hx_pass.specs.Drafts.{finished, reported};
+ghost use Rattle.hx_cluster.specs.Views.{is_well_formed};
+ghost use Rattle.hx_pass.specs.Drafts.{draft as drafted_of, finished, reported};
 ghost use Rattle.hx_board.specs.Board.{happened};
 ghost use Rattle.hx_control.specs.Steps.{is_sent, outcome_of, step_of, planned_step};
 ghost use Rattle.hx_control.specs.OfBoard.{IsPlanOf};
@@ -15,14 +17,15 @@ ghost use Rattle.hx_control.specs.Turning.{left_of, with_plan};
 ghost use Rattle.hx_control.specs.Drafted.{IsToSend, IsDispatched};
 ghost use Rattle.hx_control.specs.Made.{Tries, step_fault};
 
-use crate::controller::Next;
+use crate::controller::{Next, Planned};
 use crate::views::{is_of_board, keep_of_board};
 use crate::{ControlFault, Controller, PassOutcome};
 use hx_board::Board;
-use hx_cluster::{Dispatched, Entries, Placed, Plan, Proposal, Report, Spec};
+use hx_cluster::{Dispatched, Entries, Placed, Plan, Proposal, Report, Spec, View};
 use hx_hops::Hops;
 use hx_lists::Seq;
 use hx_pass::Draft;
+use hx_planner::Planner;
 use std::alloc::AllocError;
 
 fn is_sent(placed: &Placed) -> bool
@@ -40,6 +43,33 @@ fn sent(answer: &Dispatched) -> u32
         .iter()
         .filter(|placed| is_sent(placed))
         .count() as u32
+}
+
+/// The draft of what was shown. What is wanted isn't looked at where that is known to be as in the
+/// view that was planned last.
+fn draft_of(
+    planner: &mut Planner,
+    planned: Planned,
+    spec: &Spec,
+    hops: &[Hops],
+    view: &View,
+) -> Result<Option<Draft>, AllocError>
+    requires hops { hops.now ≡ spec.now.models }
+    requires same { planned ≡ Planned.Shown
+        → IfSome planner.old (λ last. last.ideals ≡ view.now.ideals) }
+    ensures made { IfOk result (λ draft.
+        let formed = is_well_formed spec.now.models (length spec.now.instances) view.now in
+        MatchOption draft (formed ≡ false) (λ d.
+        (formed ≡ true) × (d ≡ drafted_of spec.now.models spec.now.rules view.now))) }
+    ensures planned { IfOk result (λ draft.
+        MatchOption draft (planner.new ≡ None) (λ _. planner.new ≡ Some view.now)) }
+    ensures refused { OnErr result (planner.new ≡ None) }
+{
+    let alloc = view.live.allocator();
+    match planned {
+        Planned::Shown => planner.draft_again(alloc, spec, hops, view),
+        _ => planner.draft(alloc, spec, hops, view),
+    }
 }
 
 impl Controller {
@@ -82,9 +112,10 @@ impl Controller {
         // What holds of every board: it has the instances of its description.
         board.history();
         let alloc = self.view.live.allocator();
-        let Some(draft) = self.planner.draft(alloc, spec, hops, &self.view)? else {
+        let Some(draft) = draft_of(&mut self.planner, self.planned, spec, hops, &self.view)? else {
             return Err(ControlFault::OtherBoard);
         };
+        self.planned = Planned::Shown;
         if !keep_of_board(alloc, spec, board, &self.view, &mut self.formed)? {
             return Err(ControlFault::OtherBoard);
         }

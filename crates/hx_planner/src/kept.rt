@@ -1,5 +1,5 @@
 //! The view that was planned last.
-ghost use Rattle.std.specs.Prelude.{◌≡◌, false, IfOk, IsTrue};
+ghost use Rattle.std.specs.Prelude.{◌≡◌, true, false, IfOk, IsTrue};
 ghost use Rattle.hx_ids.specs.declared.PartId.{PartId};
 ghost use Rattle.hx_cluster.specs.Reads.{nothing_shown};
 ghost use Rattle.hx_marks.specs.Marks.{is_marked};
@@ -106,11 +106,14 @@ impl Kept {
         self.held = true;
     }
 
-    /// Whether another view shows the same sessions and the same to be wanted.
-    pub fn is_like(&self, view: &View) -> bool
+    /// Whether another view shows the same sessions and the same to be wanted. Where it is known to
+    /// want the same, that isn't looked at.
+    pub fn is_like(&self, view: &View, wants_same: bool) -> bool
+        requires { wants_same ≡ true → self.now.ideals ≡ view.now.ideals }
         ensures { IsTrue result → IsAlike self.now view.now }
     {
-        self.lists.live.same(&view.live) && same_ideals(&self.lists.ideals, &view.ideals)
+        self.lists.live.same(&view.live)
+            && (wants_same || same_ideals(&self.lists.ideals, &view.ideals))
     }
 
     /// Marks the parts of which another view shows other rows or messages. It says no where there

@@ -121,14 +121,15 @@ impl Known {
     }
 
     /// Whether a description has the same models and as many instances, and a view shows the same
-    /// sessions and the same to be wanted.
-    pub fn is_for(&self, spec: &Spec, view: &View) -> bool
+    /// sessions and the same to be wanted. Where it is known to want the same, that isn't looked at.
+    pub fn is_for(&self, spec: &Spec, view: &View, wants_same: bool) -> bool
+        requires { wants_same ≡ true → self.now.view.ideals ≡ view.now.ideals }
         ensures models { IsTrue result → self.now.models ≡ spec.now.models }
         ensures instances { IsTrue result → self.now.instances ≡ length spec.now.instances }
         ensures alike { IsTrue result → IsAlike self.now.view view.now }
     {
         self.instances == spec.instances.len() as usize
-            && self.view.is_like(view)
+            && self.view.is_like(view, wants_same)
             && self.models.same(&spec.models)
     }
 

@@ -1,5 +1,6 @@
 //! A planner of views one after another.
-ghost use Rattle.std.specs.Prelude.{◌≡◌, true, false, [], None, Some, length, IfOk, MatchOption};
+ghost use Rattle.std.specs.Prelude.{◌≡◌, true, false, [], None, Some, length};
+ghost use Rattle.std.specs.Prelude.{IfOk, OnErr, IfSome, MatchOption};
 ghost use Rattle.hx_cluster.specs.Views.{is_well_formed};
 ghost use Rattle.hx_pass.specs.Drafts.{draft as draft_of};
 ghost use Rattle.hx_pass.specs.Turns.{posted_of};
@@ -40,20 +41,23 @@ impl Planner {
     }
 
     /// What there is to know of a view that is well formed, by what is known of the last one where
-    /// that helps. What was known is forgotten.
+    /// that helps. What was known is forgotten. Where the view is known to want the same as the last
+    /// one, that isn't looked at.
     fn know(
         &mut self,
         alloc: Global,
         described: &Described,
         view: &View,
+        wants_same: bool,
     ) -> Result<Option<Known>, AllocError>
+        requires { wants_same ≡ true → IfSome self.old (λ last. last.ideals ≡ view.now.ideals) }
         ensures known { IfOk result (λ known. IsKnownOf described.now.spec.now view.now known) }
         ensures forgotten { self.new ≡ None }
     {
         let Some(known) = self.known.take() else {
             return Known::of(alloc, described, view, Kept::nothing(alloc));
         };
-        if !known.is_for(described.spec, view) {
+        if !known.is_for(described.spec, view, wants_same) {
             return Known::of(alloc, described, view, known.into_kept());
         }
         let mut marks = Marks::none(alloc, view.ideals.resources.as_slice())?;
@@ -61,6 +65,32 @@ impl Planner {
             return Known::of(alloc, described, view, known.into_kept());
         }
         known.again(alloc, described.hops, view, &marks)
+    }
+
+    /// The draft of a view, if it is well formed with the description.
+    fn draft_by(
+        &mut self,
+        alloc: Global,
+        described: &Described,
+        view: &View,
+        wants_same: bool,
+    ) -> Result<Option<Draft>, AllocError>
+        requires { wants_same ≡ true → IfSome self.old (λ last. last.ideals ≡ view.now.ideals) }
+        ensures made { IfOk result (λ draft.
+            let spec = described.now.spec.now in
+            let formed = is_well_formed spec.models (length spec.instances) view.now in
+            MatchOption draft (formed ≡ false) (λ d.
+            (formed ≡ true) × (d ≡ draft_of spec.models spec.rules view.now))) }
+        ensures planned { IfOk result (λ draft.
+            MatchOption draft (self.new ≡ None) (λ _. self.new ≡ Some view.now)) }
+        ensures refused { OnErr result (self.new ≡ None) }
+    {
+        let Some(known) = self.know(alloc, described, view, wants_same)? else {
+            return Ok(None);
+        };
+        let draft = draft_of_accepted(alloc, described.spec, view, known.accepted())?;
+        self.known = Some(known);
+        Ok(Some(draft))
     }
 
     /// The draft of a view, if it is well formed with the description. `hops` are those of the
@@ -81,14 +111,33 @@ impl Planner {
             (formed ≡ true) × (d ≡ draft_of spec.now.models spec.now.rules view.now))) }
         ensures planned { IfOk result (λ draft.
             MatchOption draft (self.new ≡ None) (λ _. self.new ≡ Some view.now)) }
+        ensures refused { OnErr result (self.new ≡ None) }
     {
         let described = Described { spec, hops };
-        let Some(known) = self.know(alloc, &described, view)? else {
-            return Ok(None);
-        };
-        let draft = draft_of_accepted(alloc, spec, view, known.accepted())?;
-        self.known = Some(known);
-        Ok(Some(draft))
+        self.draft_by(alloc, &described, view, false)
+    }
+
+    /// The same of a view that is known to want the same as the one that was planned last: what is
+    /// wanted isn't looked at.
+    pub fn draft_again(
+        &mut self,
+        alloc: Global,
+        spec: &Spec,
+        hops: &[Hops],
+        view: &View,
+    ) -> Result<Option<Draft>, AllocError>
+        requires hops { hops.now ≡ spec.now.models }
+        requires same { IfSome self.old (λ last. last.ideals ≡ view.now.ideals) }
+        ensures made { IfOk result (λ draft.
+            let formed = is_well_formed spec.now.models (length spec.now.instances) view.now in
+            MatchOption draft (formed ≡ false) (λ d.
+            (formed ≡ true) × (d ≡ draft_of spec.now.models spec.now.rules view.now))) }
+        ensures planned { IfOk result (λ draft.
+            MatchOption draft (self.new ≡ None) (λ _. self.new ≡ Some view.now)) }
+        ensures refused { OnErr result (self.new ≡ None) }
+    {
+        let described = Described { spec, hops };
+        self.draft_by(alloc, &described, view, true)
     }
 
     /// Takes over the messages and rows of the view that was planned last, and leaves it others in

@@ -1,7 +1,7 @@
 //! A cluster as a board keeps it: its calls are the steps of the plain cluster, which contracts see.
 #![tactic(auto)]
 
-ghost use Rattle.std.specs.Prelude.{◌≡◌, ℕ, ◌++◌, None, replicate, IfOk, OnOk, OnErr};
+ghost use Rattle.std.specs.Prelude.{◌≡◌, ◌↔◌, ℕ, ◌++◌, None, replicate, IfOk, IsTrue, OnOk, OnErr};
 ghost use Rattle.hx_cluster.specs.Steps.{opening};
 ghost use Rattle.hx_cluster.specs.Reads.{live_shown, mail_shown, states_shown, ideals_shown, fetched};
 ghost use Rattle.hx_cluster.specs.Events.{next, begun_of};
@@ -16,7 +16,7 @@ mod readers;
 mod refusals;
 mod steps;
 
-use hx_calls::{begin, publish, read_ideals_over};
+use hx_calls::{begin, publish, read_ideals_over, reread_ideals};
 use hx_cluster::{Begun, Cluster, Event, Ideals, Mail, Message, Row, Seen, Spec};
 use hx_counts::Counts;
 use hx_ids::{ControllerId, InstanceId, SessionId};
@@ -166,6 +166,14 @@ impl Records {
         ensures { IfOk result (λ ideals. ideals ≡ ideals_shown self.now) }
     {
         read_ideals_over(&self.rest, kept)
+    }
+
+    /// Reads them over `kept`, and tells whether they are as they were in it.
+    pub fn reread_ideals(&self, kept: &mut Ideals) -> Result<bool, AllocError>
+        ensures same { IfOk result (λ same. IsTrue same ↔ (kept.old ≡ ideals_shown self.now)) }
+        ensures shown { OnOk result (kept.new ≡ ideals_shown self.now) }
+    {
+        reread_ideals(&self.rest, kept)
     }
 
     /// Posts rows in place of those that stand.

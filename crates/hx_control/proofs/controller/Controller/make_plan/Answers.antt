@@ -6,7 +6,10 @@ use Rattle.hx_gen.proofs.Modelled.{well_formed-modelled}
 use Rattle.hx_pass.specs.Drafts.{Draft, draft}
 use Rattle.hx_control.specs.Steps.{is_of_cluster}
 use Rattle.hx_control.proofs.Sending.{drafted_modelled, view_unformed}
+use Rattle.hx_control.specs.declared.controller.Planned.TheVariants as wanted
+use Rattle.hx_control.specs.Turning.{IsPlanned}
 use Rattle.hx_control.proofs.Ending.{plan_done, plan_refused, plan_wants, still_turn}
+use Rattle.hx_control.proofs.Wanted.{none_planned, view_planned}
 use Rattle.hx_control.proofs.controller.Controller.make_plan.Goals as goal
 use Rattle.hx_control.proofs.controller.Controller.make_plan.Goals.{In-Some}
 
@@ -18,15 +21,23 @@ found c =
     c.in-Some.is c.in_ok-draft.ensures.made
 
 -- and was planned last
-last : (c : In-Some) → c.draft.new.self ≡ Some c.self.inside.view
-last c = subst (λ (o : Option Draft). MatchOption o (c.draft.new.self ≡ None) (λ _. c.draft.new.self ≡ Some c.self.inside.view)) c.in-Some.is c.in_ok-draft.ensures.planned
+last : (c : In-Some) → c.draft_of.new.planner ≡ Some c.self.inside.view
+last c = subst (λ (o : Option Draft). MatchOption o (c.draft_of.new.planner ≡ None) (λ _. c.draft_of.new.planner ≡ Some c.self.inside.view)) c.in-Some.is c.in_ok-draft.ensures.planned
 
-pub draft-requires : goal.draft-requires
-draft-requires c = c.requires.hops
+-- so its ideals are known
+wants : (c : In-Some) → IsPlanned wanted.Shown c.self.inside.spare c.self.inside.view.ideals c.draft_of.new.planner
+wants c = view_planned c.self.inside.spare c.self.inside.view c.draft_of.new.planner (last c)
+
+pub draft_of-requires-clause-hops : goal.draft_of-requires-clause-hops
+draft_of-requires-clause-hops c = c.requires.hops
+
+pub draft_of-requires-clause-same : goal.draft_of-requires-clause-same
+draft_of-requires-clause-same c = c.self.invariant.wants.shows
 
 pub invariant_of-self : goal.invariant_of-self
 invariant_of-self c =
-    still_turn c.self.inside c.args.self.now c.self.inside.formed c.draft.new.self c.self.view_is c.requires.next c.requires.none c.self.invariant c.self.invariant.formed
+    still_turn c.self.inside c.args.self.now c.self.inside.formed c.self.inside.planned c.draft_of.new.planner c.self.view_is c.requires.next c.requires.none c.self.invariant c.self.invariant.formed
+    (none_planned c.self.inside.planned c.self.inside.spare c.self.inside.view.ideals c.draft_of.new.planner c.in_err-draft.ensures.refused)
 
 pub returns-in_err-draft : goal.returns-in_err-draft
 returns-in_err-draft c =
@@ -35,7 +46,10 @@ returns-in_err-draft c =
 
 pub invariant_of-self-in_default : goal.invariant_of-self-in_default
 invariant_of-self-in_default c =
-    still_turn c.self.inside c.args.self.now c.self.inside.formed c.draft.new.self c.self.view_is c.requires.next c.requires.none c.self.invariant c.self.invariant.formed
+    let none : c.draft_of.new.planner ≡ None =
+    subst (λ (o : Option Draft). MatchOption o (c.draft_of.new.planner ≡ None) (λ _. c.draft_of.new.planner ≡ Some c.self.inside.view)) c.in_default.is c.in_ok-draft.ensures.planned in
+    still_turn c.self.inside c.args.self.now c.self.inside.formed c.self.inside.planned c.draft_of.new.planner c.self.view_is c.requires.next c.requires.none c.self.invariant c.self.invariant.formed
+    (none_planned c.self.inside.planned c.self.inside.spare c.self.inside.view.ideals c.draft_of.new.planner none)
 
 pub keep_of_board-requires : goal.keep_of_board-requires
 keep_of_board-requires c = record { board = c.requires.board; formed = (found (goal.at.keep_of_board-requires c).In-Some).0 }
@@ -52,8 +66,8 @@ returns-in_default c =
 
 pub invariant_of-self-in_err-keep_of_board : goal.invariant_of-self-in_err-keep_of_board
 invariant_of-self-in_err-keep_of_board c =
-    still_turn c.self.inside c.args.self.now c.keep_of_board.new.formed c.draft.new.self c.self.view_is c.requires.next c.requires.none c.self.invariant
-    (c.in_err-keep_of_board.ensures.found c.self.invariant.formed)
+    still_turn c.self.inside c.args.self.now c.keep_of_board.new.formed wanted.Shown c.draft_of.new.planner c.self.view_is c.requires.next c.requires.none c.self.invariant
+    (c.in_err-keep_of_board.ensures.found c.self.invariant.formed) (wants (goal.at.invariant_of-self-in_err-keep_of_board c).In-Some)
 
 pub returns-in_err-keep_of_board : goal.returns-in_err-keep_of_board
 returns-in_err-keep_of_board c =
@@ -62,8 +76,8 @@ returns-in_err-keep_of_board c =
 
 pub invariant_of-self-then-not-branch : goal.invariant_of-self-then-not-branch
 invariant_of-self-then-not-branch c =
-    still_turn c.self.inside c.args.self.now c.keep_of_board.new.formed c.draft.new.self c.self.view_is c.requires.next c.requires.none c.self.invariant
-    (c.in_ok-keep_of_board.ensures.found c.self.invariant.formed)
+    still_turn c.self.inside c.args.self.now c.keep_of_board.new.formed wanted.Shown c.draft_of.new.planner c.self.view_is c.requires.next c.requires.none c.self.invariant
+    (c.in_ok-keep_of_board.ensures.found c.self.invariant.formed) (wants (goal.at.invariant_of-self-then-not-branch c).In-Some)
 
 pub returns-then-not-branch : goal.returns-then-not-branch
 returns-then-not-branch c =
@@ -81,6 +95,7 @@ invariant_of-self-2 c =
           (well_formed-modelled c.args.spec.now.models (length c.args.spec.now.instances) c.self.inside.view (found at).0);
       drafted = last at;
       posts = λ is. last at;
+      wants = wants at;
     }
 
 pub returns : goal.returns

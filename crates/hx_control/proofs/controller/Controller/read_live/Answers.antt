@@ -18,6 +18,7 @@ invariant_of-self c =
       modelled = tt;
       drafted = tt;
       posts = λ is. absurd (c.mail_at-self-inside.ensures.reads is);
+      wants = c.self.invariant.wants;
     }
 
 pub returns : goal.returns
