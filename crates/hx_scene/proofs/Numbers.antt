@@ -26,9 +26,6 @@ map-insert j (k ∷ js) = one (job_before k j) refl (map-insert j js)
 more_with : (i : InstanceId) (j : OpenState) (js : List OpenState) → is_job_of i (plain_job j) ≡ true → numbers_in i (j ∷ js) ≡ insert_by before j.ran.message.id (numbers_in i js)
 more_with i j js e = rw e (map-insert (plain_job j) (sort_by job_before (filter (is_job_of i) (map plain_job js))))
 
-more_without : (i : InstanceId) (j : OpenState) (js : List OpenState) → is_job_of i (plain_job j) ≡ false → numbers_in i (j ∷ js) ≡ numbers_in i js
-more_without i j js e = rw e refl
-
 pub next_with : (i : InstanceId) (jobs : List OpenState) (n m : ℕ) (j : OpenState) → suc m ≡ n → m < length jobs → j ≡ get_or jobs m j → is_job_of i (plain_job j) ≡ true
     → numbers_in i (drop m jobs) ≡ insert_by before j.ran.message.id (numbers_in i (drop n jobs))
 next_with i jobs n m j next lt is e = rw (← next, drop-cons jobs m j, ← is) (more_with i j (drop (suc m) jobs) e)

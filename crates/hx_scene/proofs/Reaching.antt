@@ -2,7 +2,6 @@
 use Rattle.std.proofs.Common.{◌≡◌, ℕ, ◌+◌, ◌≤◌, ◌<◌, Bool, true, false, List, [], ◌∷◌, ◌++◌, suc, zero, inl, inr, map, drop, length, Option, None, Some, refl, sym, ap, subst, ◌∙◌, append_assoc, arith}
 use Rattle.std.specs.Prelude.{if◌then◌else◌, nat_lt, slice_index_or, Result, Ok, Err, IsErrAnd, ◌⊎◌}
 use Rattle.std.proofs.lemmas.List.{append-nil, drop_more, drop_all}
-use Rattle.std.proofs.lemmas.Bool.Decides.{nat_tests}
 use Rattle.hx_cluster.specs.declared.description.Spec.{Spec}
 use Rattle.hx_cluster.specs.declared.description.Failure.{Failure}
 use Rattle.hx_cluster.specs.declared.happenings.Event.{Event}
@@ -32,10 +31,6 @@ use Rattle.hx_scene.specs.Doing.{Asked, Gives, left, IsToldBy, AreTold, IsCounte
 use Rattle.hx_scene.proofs.Fronts.{IsAfter, still, texts_both, prints_none, prints_event, prints_said, prints_all, prints_both}
 
 -- answers to one list of questions and then to another
-pub gives_both : (xs ys : List Asked) (a : Answers) → Gives xs a → Gives ys (left xs a) → Gives (xs ++ ys) a
-gives_both [] ys a g h = h
-gives_both (x ∷ xs) ys a g h = (g.0, gives_both xs ys (rest_of a) g.1 h)
-
 pub gives_first : (xs ys : List Asked) (a : Answers) → Gives (xs ++ ys) a → Gives xs a
 gives_first [] ys a g = tt
 gives_first (x ∷ xs) ys a g = (g.0, gives_first xs ys (rest_of a) g.1)
@@ -51,14 +46,6 @@ left_both (x ∷ xs) ys a = left_both xs ys (rest_of a)
 pub told_both : (lists : List (Option (List Failure))) (xs ys : List Asked) → AreTold lists xs → AreTold lists ys → AreTold lists (xs ++ ys)
 told_both lists [] ys t v = v
 told_both lists (x ∷ xs) ys t v = (t.0, told_both lists xs ys t.1 v)
-
-pub told_first : (lists : List (Option (List Failure))) (xs ys : List Asked) → AreTold lists (xs ++ ys) → AreTold lists xs
-told_first lists [] ys t = tt
-told_first lists (x ∷ xs) ys t = (t.0, told_first lists xs ys t.1)
-
-pub told_rest : (lists : List (Option (List Failure))) (xs ys : List Asked) → AreTold lists (xs ++ ys) → AreTold lists ys
-told_rest lists [] ys t = t
-told_rest lists (x ∷ xs) ys t = told_rest lists xs ys t.1
 
 -- what comes after items
 pub after_none : {A : Type 0} (r : Run A) → after_items [] r ≡ r
@@ -353,10 +340,7 @@ pub changed_gives : {A : Type 0} (change : State → State) (answer : A) (s : Sc
 changed_gives change answer s p u same board spec keeps =
     one_step (λ x. gives (change x) answer) (λ x. GoesOn [] x answer) s p u [] (λ a _. ap (λ x. GoesOn [] x answer) (same a)) board spec keeps
 
--- room in the history, as a number and as a test, and as a refusal tells it
-pub has_room : (limit n : ℕ) → n ≤ limit → nat_lt limit n ≡ false
-has_room limit n e = grind (arith, nat_tests, e)
-
+-- room in the history, as a test, and as a refusal tells it
 pub room_of : {E : Type 0} (b : Held) (more : ℕ) (fault : ℕ → E) → full b more fault ≡ None → nat_lt b.limit (weight_at b + more) ≡ false
 room_of {E} b more fault is = one (nat_lt b.limit (weight_at b + more)) is
   where
@@ -433,17 +417,6 @@ happens e s u p q room is text = reaches_as (λ a. happen_made e s a room) (make
 -- it has none
 stops_at : {A : Type 0} (f : State → Run A) (s : SceneState) (p : List ℕ) → ((a : Answers) → f (at s a) ≡ Stops [] (at s a)) → StopsHere f s p s p
 stops_at f s p same = reaches_as same (here (λ x. Stops [] x) s p)
-
-happen_stops : (e : Event) (s : SceneState) → nat_lt s.board.limit (weight_at s.board + weight_of e) ≡ true → (a : Answers) → happen e (at s a) ≡ Stops [] (at s a)
-happen_stops e s full a = ap (λ (t : Bool). if t then Stops [] (at s a) else make e (at s a)) full
-
-pub happens_none : (e : Event) (s : SceneState) (p : List ℕ) → nat_lt s.board.limit (weight_at s.board + weight_of e) ≡ true → StopsHere (happen e) s p s p
-happens_none e s p full = stops_at (happen e) s p (happen_stops e s full)
-
-pub happens_full : (e : Event) (s u : SceneState) (p q : List ℕ) (weight : ℕ) → nat_lt s.board.limit (weight_at s.board + weight_of e) ≡ true → weight ≡ weight_at s.board → u ≡ s → q ≡ p
-    → Fails (happen e) s p (rooms.HistoryFull weight) u q
-happens_full e s u p q weight full same su pq =
-    subst (λ v. Fails (happen e) s p (rooms.HistoryFull weight) v q) (sym su) (subst (λ r. Fails (happen e) s p (rooms.HistoryFull weight) s r) (sym pq) (happens_none e s p full, same))
 
 -- the board refused it: for want of memory, or of room
 refused_at : {A : Type 0} (f : State → Run A) (n : ℕ) (s u : SceneState) (p : List ℕ) (fault : RoomFault)
@@ -576,14 +549,6 @@ said_full f n text s u p fault is charge =
     subst (λ v. Fails f s p fault v p) (sym charge.err) (subst (λ x. Fails f s p x s p) (sym full.1) (says_none f n text s p is full.0, refl))
 
 -- an operation for each item of a list
-then_each : {B : Type 0} (r : Deed) (h : State → Deed) (k m : State → Run B) → ((y : State) → m y ≡ and_then (h y) k) → and_then r m ≡ and_then (and_then r h) k
-then_each (GoesOn is x answer) h k m same = ap (λ y. after_items is y) (same x) ∙ sym (on_after is (h x) (λ _ y. k y))
-then_each (Stops is x) h k m same = refl
-
-pub each_both : {X : Type 0} (f : X → State → Deed) (xs ys : List X) (x : State) → for_each f (xs ++ ys) x ≡ and_then (for_each f xs x) (λ y. for_each f ys y)
-each_both f [] ys x = sym (after_none (for_each f ys x))
-each_both f (i ∷ xs) ys x = then_each (f i x) (λ y. for_each f xs y) (λ y. for_each f ys y) (λ y. for_each f (xs ++ ys) y) (λ y. each_both f xs ys y)
-
 -- the first of them is done, or fails
 pub each_step : {X : Type 0} (f : X → State → Deed) (xs : List X) (x : X) (rest : List X) {s u : SceneState} {p q : List ℕ} → xs ≡ x ∷ rest → Ends (f x) s p tt u q
     → Reaches (for_each f xs) s p (for_each f rest) u q
@@ -628,10 +593,6 @@ told_gives lists told is (x ∷ xs) t =
     ap (λ l. slice_index_or l x.instance.0 (Some [])) is ∙ some_there lists x.instance.0 in
     (sym (subst (λ o. IsToldBy o x) known t.0), told_gives lists told is xs t.1)
 
-pub told_left : (lists : List (List Failure)) (xs : List Asked) → left xs (Told lists) ≡ Told lists
-told_left lists [] = refl
-told_left lists (x ∷ xs) = told_left lists xs
-
 -- answers in order
 pub answered_gives : (xs : List Asked) (rest : List Outcome) → Gives xs (Answered (map (λ x. x.outcome) xs ++ rest))
 answered_gives [] rest = tt
@@ -645,22 +606,12 @@ answered_left (x ∷ xs) rest = answered_left xs rest
 left_on : {A : Type 0} (I : State → Type 0) (is : List Item) (x : State) (answer : A) (r : Run A) → r ≡ after_items is (GoesOn [] x answer) → Leaves I r → I x
 left_on I is x answer r e k = subst I (ap state_of e) k.left
 
-left_stopped : {A : Type 0} (I : State → Type 0) (is : List Item) (x : State) (r : Run A) → r ≡ after_items is (Stops [] x) → Leaves I r → I x
-left_stopped I is x r e k = subst I (ap state_of e) k.left
-
 pub kept : {A : Type 0} {f : State → Run A} {s u : SceneState} {p q : List ℕ} {answer : A} → Ends f s p answer u q → (I : State → Type 0) → ((a : Answers) → Leaves I (f (at s a)))
     → (rest : List Outcome) → I (at u (Answered rest))
 kept {A} {f} {s} {u} {p} {q} {answer} e I keep rest =
     let a : Answers = Answered (map (λ x. x.outcome) e.asked ++ rest) in
     subst (λ o. I (at u o)) (answered_left e.asked rest)
     (left_on I e.items (at u (left e.asked a)) answer (f (at s a)) (e.goes a (answered_gives e.asked rest)) (keep a))
-
-pub kept_stopped : {A : Type 0} {f : State → Run A} {s u : SceneState} {p q : List ℕ} → StopsHere f s p u q → (I : State → Type 0) → ((a : Answers) → Leaves I (f (at s a)))
-    → (rest : List Outcome) → I (at u (Answered rest))
-kept_stopped {A} {f} {s} {u} e I keep rest =
-    let a : Answers = Answered (map (λ x. x.outcome) e.asked ++ rest) in
-    subst (λ o. I (at u o)) (answered_left e.asked rest)
-    (left_stopped I e.items (at u (left e.asked a)) (f (at s a)) (e.goes a (answered_gives e.asked rest)) (keep a))
 
 -- so a world stays of its history, and in step
 pub going_at : {spec : Spec} (s : SceneState) → IsOfItsHistory spec (world_of s) → IsInStep (world_of s) → (a : Answers) → IsGoing spec (since s.board.cluster.line) (at s a)
@@ -670,12 +621,6 @@ pub kept_going : {A : Type 0} {f : State → Run A} {s u : SceneState} {p q : Li
     → ((a : Answers) → IsGoing spec (since s.board.cluster.line) (at s a) → Leaves (IsGoing spec (since s.board.cluster.line)) (f (at s a))) → IsOfItsHistory spec (world_of u) × IsInStep (world_of u)
 kept_going {A} {f} {s} {u} {p} {q} {answer} {spec} e of in_step keep =
     let going : IsGoing spec (since s.board.cluster.line) (at u (Answered [])) = kept e (IsGoing spec (since s.board.cluster.line)) (λ a. keep a (going_at s of in_step a)) [] in
-    (going.scripted.of, going.in_step)
-
-pub kept_going_stopped : {A : Type 0} {f : State → Run A} {s u : SceneState} {p q : List ℕ} {spec : Spec} → StopsHere f s p u q → IsOfItsHistory spec (world_of s) → IsInStep (world_of s)
-    → ((a : Answers) → IsGoing spec (since s.board.cluster.line) (at s a) → Leaves (IsGoing spec (since s.board.cluster.line)) (f (at s a))) → IsOfItsHistory spec (world_of u) × IsInStep (world_of u)
-kept_going_stopped {A} {f} {s} {u} {p} {q} {spec} e of in_step keep =
-    let going : IsGoing spec (since s.board.cluster.line) (at u (Answered [])) = kept_stopped e (IsGoing spec (since s.board.cluster.line)) (λ a. keep a (going_at s of in_step a)) [] in
     (going.scripted.of, going.in_step)
 
 -- what stays, whatever an operation comes to

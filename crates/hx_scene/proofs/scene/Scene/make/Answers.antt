@@ -1,3 +1,4 @@
+use Rattle.hx_scene.proofs.Charging.{scene_of_same}
 use Rattle.hx_scene.proofs.Happening.{no_memory, step_given, step_noted, step_none, scene_of_step}
 use Rattle.hx_scene.proofs.scene.Scene.make.Goals as goal
 
@@ -27,3 +28,12 @@ returns-in-Err-HistoryFull g c =
 
 pub returns-in-Err-OutOfMemory : goal.returns-in-Err-OutOfMemory
 returns-in-Err-OutOfMemory g c = rw (← c.self.view_is) (no_memory _ _ c.admin.new.self c.args.out.now c.in-Err-OutOfMemory.ensures.err)
+
+pub invariant_of-self-in-Err-Step : goal.invariant_of-self-in-Err-Step
+invariant_of-self-in-Err-Step g c = (scene_of_same c.admin.new.self c.self.invariant.0 c.in-Err-Step.ensures.err, c.self.invariant.1)
+
+pub invariant_of-self-in-Err-HistoryFull : goal.invariant_of-self-in-Err-HistoryFull
+invariant_of-self-in-Err-HistoryFull g c = (scene_of_same c.admin.new.self c.self.invariant.0 c.in-Err-HistoryFull.ensures.err, c.self.invariant.1)
+
+pub invariant_of-self-in-Err-OutOfMemory : goal.invariant_of-self-in-Err-OutOfMemory
+invariant_of-self-in-Err-OutOfMemory g c = (scene_of_same c.admin.new.self c.self.invariant.0 c.in-Err-OutOfMemory.ensures.err, c.self.invariant.1)
