@@ -1,6 +1,8 @@
 //! Each other call comes where there is memory.
 use crate::tests::fixtures::{C1, N1, ONLINE, SECOND, add_resource, ideal, opening, part};
-use hx_calls::{begin, forget_shown, no_ideals, nothing_shown, publish, read_ideals_over};
+use hx_calls::{
+    begin, forget_shown, no_ideals, nothing_shown, publish, read_ideals_over, reread_ideals,
+};
 use hx_cluster::{Cluster, Dispatched, Ideals, Placed, Seen};
 use hx_ideal::Mode;
 use hx_ids::PassNo;
@@ -15,7 +17,7 @@ fn forgotten(rt: &impl Abort, alloc: Global, cluster: &Cluster) -> Result<Ideals
     let mut view = nothing_shown(alloc);
     view.ideals = read_ideals_over(cluster, no_ideals(alloc))?;
     let mut spare = no_ideals(alloc);
-    forget_shown(&mut view, &mut spare);
+    assert!(rt; forget_shown(&mut view, &mut spare));
     assert!(rt; view.ideals.drained.is_empty());
     assert_eq!(rt; spare.drained.len(), 3);
     Ok(spare)
@@ -40,6 +42,17 @@ fn ideals_are_read_over_earlier_ones(rt: HostRuntime) -> Result<(), Fail> {
     let spare = forgotten(&rt, rt.alloc(), &cluster)?;
     add_third(&mut cluster)?;
     expect_ideals(&rt, &cluster, spare)?;
+    Ok(())
+}
+
+#[test]
+fn ideals_are_the_same_until_one_is_added(rt: HostRuntime) -> Result<(), Fail> {
+    let mut cluster = opening(rt.alloc())?;
+    let mut kept = forgotten(&rt, rt.alloc(), &cluster)?;
+    assert!(rt; reread_ideals(&cluster, &mut kept)?);
+    add_third(&mut cluster)?;
+    assert!(rt; !reread_ideals(&cluster, &mut kept)?);
+    expect_ideals(&rt, &cluster, kept)?;
     Ok(())
 }
 
