@@ -44,10 +44,6 @@ replay-line (events.Write s id outcome ∷ es) c = other-line c (events.Write s 
 replay-line (events.Ack s id ∷ es) c = replay-line es (next c (events.Ack s id))
 
 -- numbers that rise: no two fronts of them end with the same
-abbrev IsAbove : ℕ → Option ℕ → Type 0
-IsAbove n None = ⊥
-IsAbove n (Some m) = n ≤ m
-
 all-later : (n m : ℕ) (ns : List ℕ) → nat_lt n m ≡ true → list_all (nat_lt m) ns ≡ true → list_all (nat_lt n) ns ≡ true
 all-later n m [] below all = refl
 all-later n m (k ∷ ns) below all =

@@ -3,7 +3,7 @@ use Rattle.hx_script.specs.declared.Line.{Line}
 use Rattle.hx_worlds.specs.Runs.{for_each}
 use Rattle.hx_worlds.specs.Scripts.{do_line, is_next_line}
 use Rattle.hx_scene.specs.Doing.{Ends, Fails}
-use Rattle.hx_replies.proofs.Along.{along_none, next_line, line_given, along_more, along_fails, fails_on}
+use Rattle.hx_replies.proofs.Along.{along_none, next_line, line_given, along_more, along_all, along_fails, fails_on}
 use Rattle.hx_replies.proofs.simulation.do_lines.Goals as goal
 
 pub loop-line-init : goal.loop-line-init
@@ -31,3 +31,6 @@ loop-line-preserved g c =
     along_more c.args.lines.now c.loop-line.line-index c.line-item.result c.args.world.now c.loop-line.world c.args.page.now c.loop-line.page c.requires c.loop-line.invariant c.board.ensures.kept c.loop-line-test.true
     c.line.new.self c.line.new.out
     (subst (λ (l : Line). Ends (do_line l) c.loop-line.world c.loop-line.page tt c.line.new.self c.line.new.out) c.line-item.is c.in_ok-line.ensures)
+
+pub returns : goal.returns
+returns g c = along_all c.args.lines.now c.loop-line.line-index c.args.world.now c.loop-line.world c.args.page.now c.loop-line.page c.loop-line-test.false c.loop-line.invariant
