@@ -79,6 +79,24 @@ fn histories_have_the_calls_that_were_answered(rt: HostRuntime) {
     play(&rt, rt.alloc(), (0, 1000), &acts);
 }
 
+static AGAIN: &[(Call, Told)] = &[
+    (Call::Step(Step::Lead(C1)), Told::Leads(E1)),
+    (
+        Call::Begin(C1),
+        Told::Begun(Begun {
+            epoch: E1,
+            pass: P1,
+            change: 0,
+        }),
+    ),
+    (Call::IdealsAgain(P1), Told::Items(3)),
+];
+
+#[test]
+fn ideals_are_the_same_again(rt: HostRuntime) {
+    play(&rt, rt.alloc(), (0, 1000), &[Act::Calls(AGAIN)]);
+}
+
 static FULL: &[(Read, Stands)] = &[(Read::Room, Stands::Room(3, 0))];
 
 static LITTLE_ROOM: &[(Call, Told)] = &[

@@ -48,6 +48,7 @@ pub enum Call {
     Mail(PassNo, SessionId),
     States(PassNo, SessionId),
     Ideals(PassNo),
+    IdealsAgain(PassNo),
     Send(Epoch, PassNo, Move),
     Post(Epoch, Seen),
     Fetch(InstanceId),
@@ -238,6 +239,25 @@ fn ideals(rt: &impl Abort, board: &mut Board, pass: PassNo) -> Told {
     }
 }
 
+/// Reads the ideals, and again over these.
+fn ideals_again(rt: &impl Abort, board: &mut Board, pass: PassNo) -> Told {
+    if !board.has_controller(C1) {
+        panic!(rt; "no such controller");
+    }
+    let mut kept = match board.read_ideals(C1, pass) {
+        Ok(ideals) => ideals,
+        Err(refusal) => return refused(refusal),
+    };
+    if !board.has_controller(C1) {
+        panic!(rt; "no such controller");
+    }
+    match board.reread_ideals(C1, pass, &mut kept) {
+        Ok(true) => Told::Items(kept.resources.len()),
+        Ok(false) => panic!(rt; "other ideals"),
+        Err(refusal) => refused(refusal),
+    }
+}
+
 fn proposal(moved: Move) -> Proposal {
     Proposal {
         session: moved.0,
@@ -326,6 +346,7 @@ pub fn ask(rt: &impl Abort, board: &mut Board, alloc: Global, call: Call) -> Tol
         Call::Mail(pass, session) => mail(rt, board, pass, session),
         Call::States(pass, session) => states(rt, board, pass, session),
         Call::Ideals(pass) => ideals(rt, board, pass),
+        Call::IdealsAgain(pass) => ideals_again(rt, board, pass),
         Call::Send(epoch, pass, moved) => send(rt, board, epoch, pass, &[proposal(moved)]),
         Call::Post(epoch, seen) => post(rt, board, epoch, &[seen]),
         Call::Fetch(instance) => fetch(rt, board, instance),

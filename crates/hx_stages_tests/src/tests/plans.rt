@@ -483,7 +483,7 @@ fn planned(rt: &impl Abort, alloc: Global, spec: &Spec, view: &View) -> Plan {
 }
 
 /// The plan of a draft, with its report.
-#[tactic(auto, using(crate::proofs::Formed::modelled))]
+#[tactic(auto, using(crate::proofs::Formed::modelled, crate::proofs::Formed::finished_as_planned))]
 fn drafted(rt: &impl Abort, alloc: Global, spec: &Spec, view: &View) -> Plan {
     if !is_formed(rt, alloc, spec, view) {
         panic!(rt; "no view");
@@ -519,6 +519,22 @@ fn planned_again(
     };
     assert_eq!(rt; planner.posted().len(), view.rows.len());
     planner.hold(view);
+    proposals
+}
+
+/// What a planner proposes of the view that it planned last.
+fn planned_twice(rt: &impl Abort, alloc: Global, spec: &Spec, view: &View) -> Seq<Proposal> {
+    let hops = hops(rt, alloc, spec.models.as_slice());
+    let mut planner = Planner::new();
+    let Ok(Some(_)) = planner.draft(alloc, spec, hops.as_slice(), view) else {
+        panic!(rt; "no plan");
+    };
+    let Ok(Some(draft)) = planner.draft_again(alloc, spec, hops.as_slice(), view) else {
+        panic!(rt; "no plan");
+    };
+    let Ok(proposals) = draft.proposals(alloc) else {
+        panic!(rt; "no memory");
+    };
     proposals
 }
 
@@ -591,6 +607,8 @@ fn expect(rt: &impl Abort, alloc: Global, table: &[Worked]) {
         expect_stages(rt, alloc, &spec, &view, worked);
         expect_plan(rt, &planned(rt, alloc, &spec, &view), worked);
         expect_plan(rt, &drafted(rt, alloc, &spec, &view), worked);
+        let twice = planned_twice(rt, alloc, &spec, &view);
+        expect_moves(rt, twice.as_slice(), worked.moves);
         let again = planned_again(rt, alloc, &spec, &mut view, &mut planner);
         expect_moves(rt, again.as_slice(), worked.moves);
     }
