@@ -5,7 +5,7 @@ ghost use Rattle.std.specs.Prelude.{◌≡◌, ◌+◌, ◌*◌, ◌^◌, IsTrue
 use hx_ids::PartId;
 
 /// A part as one number.
-pub(crate) fn part_number(part: PartId) -> u64
+fn part_number(part: PartId) -> u64
     ensures { result ≡ part.resource.0 + part.index * 2 ^ 32 }
 {
     part.resource.0 as u64 + part.index as u64 * 0x1_0000_0000

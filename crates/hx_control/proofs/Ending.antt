@@ -98,7 +98,6 @@ still_turn a x found known last seen left none turn finds wants =
       left = turn.left;
       few = turn.few;
       formed = finds;
-      modelled = turn.modelled;
       drafted = subst (λ (o : Option Draft). IfSome o (λ d. last ≡ Some a.view)) (sym free) tt;
       posts = λ is. absurd (unposted a.next a.view.live is (ap (λ (v : Controller). v.turn.left) seen ∙ left));
       wants = wants;

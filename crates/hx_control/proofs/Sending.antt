@@ -19,7 +19,6 @@ use Rattle.hx_lists.specs.Lists.{numbers_below}
 use Rattle.hx_gen.specs.Modelled.{has_models}
 use Rattle.hx_gen.proofs.Modelled.{well_formed-modelled}
 use Rattle.hx_pass.specs.Plans.{plan}
-use Rattle.hx_pass.specs.Drafts.{Draft, draft}
 use Rattle.hx_pass.specs.Turns.{posted_of}
 use Rattle.hx_board.specs.Board.{Held, HasHistory}
 use Rattle.hx_control.specs.Steps.{has_parts_of, is_of_cluster}
@@ -55,10 +54,6 @@ view_unformed spec b view told same bad =
     let many : length b.cluster.instances ≡ length spec.instances = instances_given b told ∙ ap (λ (s : Spec). length s.instances) same in
     ap (λ (formed : Bool). formed && list_all (has_parts_of b.cluster view) (numbers_below (length view.ideals.resources)))
     (subst (λ (n : ℕ). is_well_formed spec.models n view ≡ false) (sym many) bad)
-
--- the shown resources have the models of a draft when it is made, where it is kept, and where it is sent
-pub drafted_modelled : (spec : Spec) (view : View) (d : Draft) → d ≡ draft spec.models spec.rules view → has_models spec.models view ≡ true → has_models d.models view ≡ true
-drafted_modelled spec view d is have = ap (λ (e : Draft). has_models e.models view) is ∙ have
 
 -- the resources of a view of the board have models of its description
 pub of_cluster_modelled : (spec : Spec) (c : Cluster) (view : View) → is_of_cluster spec c view ≡ true → has_models spec.models view ≡ true

@@ -1,13 +1,12 @@
 -- How a controller's turn is kept: by the call that comes next, and what was shown.
-use Rattle.std.specs.Prelude.{◌≡◌, ℕ, ◌-◌, ◌<◌, ◌^◌, true, List, [], ◌∷◌, ◌++◌, length, drop, map, Option, Some, option_map, IfSome}
+use Rattle.std.specs.Prelude.{◌≡◌, ℕ, ◌-◌, ◌<◌, ◌^◌, List, [], ◌∷◌, ◌++◌, length, drop, map, Option, Some, option_map, IfSome}
 use Rattle.hx_ids.specs.declared.SessionId.{SessionId}
 use Rattle.hx_ids.specs.declared.InstanceId.{InstanceId}
 use Rattle.hx_cluster.specs.declared.planning.Plan.{Plan}
 use Rattle.hx_cluster.specs.declared.planning.View.{View}
 use Rattle.hx_cluster.specs.declared.planning.Ideals.{Ideals as Wants}
 use Rattle.hx_formed.specs.Formed.{IsFound}
-use Rattle.hx_gen.specs.Modelled.{has_models}
-use Rattle.hx_pass.specs.Drafts.{Draft, finished}
+use Rattle.hx_pass.specs.Drafts.{finished}
 use Rattle.hx_pass.specs.Turns.{Call, Live, Mail, States, Ideals, Send, Post}
 use Rattle.hx_control.specs.declared.controller.Next.{Next}
 use Rattle.hx_control.specs.declared.controller.Next.TheVariants as nexts
@@ -65,10 +64,6 @@ IsLeft (nexts.Mail n) sessions = n < sessions
 IsLeft (nexts.States n) sessions = n < sessions
 IsLeft _ sessions = Unit {0}
 
--- the shown resources have models of a kept draft, so that its report can be made
-abbrev pub IsModelled : View → Option Draft → Type 0
-IsModelled view draft = IfSome draft (λ d. has_models d.models view ≡ true)
-
 -- the spare ideals, or the shown ones, are those of the view that was planned last, if there is one
 pub record IsPlanned (planned : Planned) (spare shown : Wants) (last : Option View) : Type 0 where
   pub spared : planned ≡ wanted.Spare → IfSome last (λ v. v.ideals ≡ spare)
@@ -79,7 +74,6 @@ pub record IsTurn (a : Inside) : Type 0 where
   pub left : IsLeft a.next (length a.view.live)
   pub few : length a.view.live < 2 ^ 32
   pub formed : IsFound a.formed a.view
-  pub modelled : IsModelled a.view a.draft
   pub drafted : IfSome a.draft (λ d. a.planner ≡ Some a.view)
   pub posts : a.next ≡ nexts.Post → a.planner ≡ Some a.view
   pub wants : IsPlanned a.planned a.spare a.view.ideals a.planner

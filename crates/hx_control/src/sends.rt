@@ -140,7 +140,7 @@ impl Controller {
     {
         let alloc = self.view.live.allocator();
         if !proposals.is_empty() || !self.view.mail.is_empty() {
-            let entries = Entries::at_best(Seq::new(alloc));
+            let entries = Entries::new(alloc);
             return Ok(Report { entries });
         }
         draft.report(alloc, spec, hops, &self.view)

@@ -7,3 +7,4 @@ mod FirstPass
 pub mod Longer
 pub mod Made
 pub mod Posting
+pub mod Calm

@@ -1,10 +1,12 @@
 //! A plan, made by one stage after the other.
-ghost use Rattle.std.specs.Prelude.{◌≡◌, true, IfOk, map};
+ghost use Rattle.std.specs.Prelude.{◌≡◌, true, false, [], List, IfOk, IsTrue, map};
+ghost use Rattle.hx_cluster.specs.declared.description.Rule.{Rule as OfRules};
+ghost use Rattle.hx_best.specs.Lookups.{has_errors};
 ghost use Rattle.hx_gen.specs.Modelled.{has_models};
-ghost use Rattle.hx_pass.specs.Plans.{plan, proposal};
+ghost use Rattle.hx_pass.specs.Plans.{all_candidates, plan, proposal};
 
-use hx_best::{Index, all_targets};
-use hx_cluster::{Candidate, Plan, Proposal, Rule};
+use hx_best::{Index, all_targets, moving_targets};
+use hx_cluster::{Candidate, Entries, Plan, Proposal, Report, Rule};
 use hx_gen::candidates;
 use hx_hops::Hops;
 use hx_lists::Seq;
@@ -14,7 +16,8 @@ use hx_select::select_on;
 use hx_throttle::throttle_on;
 use std::alloc::{AllocError, Global};
 
-/// The plan of a view by its index. `hops` are those of the models.
+/// The plan of a view by its index. `hops` are those of the models. It costs no walk over the shown
+/// sessions, and no memory for targets, where each replica is found at its best.
 pub fn plan_on(
     alloc: Global,
     models: &[Model],
@@ -26,16 +29,72 @@ pub fn plan_on(
     requires models { has_models models.now index.now ≡ true }
     ensures { IfOk result (λ made. made ≡ plan models.now rules.now index.now) }
 {
-    let view = index.view();
+    let candidates = candidates_on(alloc, models, hops, index)?;
+    if candidates.is_empty() && is_calm(index) {
+        return Ok(plan_of_none(alloc, models, index));
+    }
+    plan_of(alloc, models, rules, index, candidates.as_slice())
+}
+
+/// All candidates, found of the targets that move.
+fn candidates_on(
+    alloc: Global,
+    models: &[Model],
+    hops: &[Hops],
+    index: &Index<'_>,
+) -> Result<Vec<Candidate>, AllocError>
+    requires hops { hops.now ≡ models.now }
+    requires models { has_models models.now index.now ≡ true }
+    ensures { IfOk result (λ found. found.items ≡ all_candidates models.now index.now) }
+{
+    let targets = moving_targets(alloc, models, index)?;
+    candidates(alloc, models, hops, index.view(), targets.as_slice())
+}
+
+/// Whether no message is shown, and no replica in ERROR.
+fn is_calm(index: &Index<'_>) -> bool
+    ensures mail { IsTrue result → index.now.mail ≡ [] }
+    ensures errors { IsTrue result → has_errors index.now.rows ≡ false }
+{
+    index.view().mail.is_empty() && !index.has_errors()
+}
+
+/// The plan where no message is shown, no replica in ERROR, and there is no candidate: it sends
+/// nothing, and each replica is at its best.
+#[tactic(auto, using(crate::proofs::Calm::all_at_best))]
+fn plan_of_none(alloc: Global, models: &[Model], index: &Index<'_>) -> Plan
+    requires mail { index.now.mail ≡ [] }
+    requires errors { has_errors index.now.rows ≡ false }
+    requires none { all_candidates models.now index.now ≡ [] }
+    ensures { (rules : List OfRules) → result ≡ plan models.now rules index.now }
+{
+    let shown = (models, index);
+    Plan {
+        proposals: Seq::new(alloc),
+        report: Report {
+            entries: Entries::at_best(alloc, &shown),
+        },
+    }
+}
+
+/// The plan of the candidates.
+fn plan_of(
+    alloc: Global,
+    models: &[Model],
+    rules: &[Rule],
+    index: &Index<'_>,
+    candidates: &[Candidate],
+) -> Result<Plan, AllocError>
+    requires { candidates.now ≡ all_candidates models.now index.now }
+    ensures { IfOk result (λ made. made ≡ plan models.now rules.now index.now) }
+{
     let targets = all_targets(alloc, models, index)?;
-    let candidates = candidates(alloc, models, hops, view, targets.as_slice())?;
-    let selection = select_on(alloc, models, index.shown(), candidates.as_slice())?;
-    let throttled = throttle_on(alloc, rules, view, selection.accepted.as_slice())?;
+    let selection = select_on(alloc, models, index.shown(), candidates)?;
+    let throttled = throttle_on(alloc, rules, index.view(), selection.accepted.as_slice())?;
     let fates = Fates::new(alloc, &selection, &throttled)?;
-    let targets = Seq::from_vec(targets);
     Ok(Plan {
         proposals: proposals_of(alloc, throttled.sent.as_slice())?,
-        report: report_on(alloc, targets, index.shown(), &fates)?,
+        report: report_on(alloc, targets.as_slice(), index.shown(), &fates)?,
     })
 }
 

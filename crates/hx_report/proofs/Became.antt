@@ -1,7 +1,6 @@
 -- What became of a target's candidate, by what is found of it.
-use Rattle.std.proofs.Common.{◌≡◌, ℕ, Bool, true, false, List, [], ◌∷◌, find, Bor, refl, sym, ap, ◌∙◌, subst, arith}
-use Rattle.std.specs.Prelude.{Option, None, Some, is_some, option_copied, map, ◌||◌}
-use Rattle.std.specs.List.{list_any}
+use Rattle.std.proofs.Common.{◌≡◌, ℕ, Bool, true, false, List, find, Bor, refl, sym, ap, ◌∙◌, subst, arith}
+use Rattle.std.specs.Prelude.{Option, None, Some, is_some, option_copied}
 use Rattle.std.specs.BTreeMap.{BTreeMap}
 use Rattle.hx_ids.specs.declared.SessionId.{SessionId}
 use Rattle.hx_ids.specs.declared.PartId.{PartId}
@@ -12,10 +11,7 @@ use Rattle.hx_cluster.specs.declared.planning.Full.{Full}
 use Rattle.hx_cluster.specs.declared.planning.Selection.{Selection}
 use Rattle.hx_cluster.specs.declared.planning.Throttled.{Throttled}
 use Rattle.hx_cluster.specs.declared.planning.Finding.TheVariants as findings
-use Rattle.hx_cluster.specs.declared.planning.View.{View}
-use Rattle.hx_cluster.specs.Steps.{is_error}
-use Rattle.hx_cluster.specs.Bests.{at_best}
-use Rattle.hx_report.specs.Findings.{is_of, fate_of, finding_of, entry}
+use Rattle.hx_report.specs.Findings.{is_of, fate_of}
 use Rattle.hx_report.specs.Places.{ArePlaces}
 use Rattle.hx_report.proofs.Placing.{found_any}
 
@@ -34,17 +30,6 @@ pub is_found : {X : Type 0} (candidate_of : X → Candidate) (t : Target) (place
     → (ArePlaces candidate_of slice places → option_copied found ≡ find (λ x. is_of t (candidate_of x)) slice) → is_some found ≡ b → is_some (find (λ x. is_of t (candidate_of x)) xs) ≡ b
 is_found candidate_of t places xs slice found b same are gives is = ap is_some (found_in candidate_of t places xs slice found found same are gives refl) ∙ copied_some found ∙ is
 
--- where each that isn't in ERROR is at its best, and none is in ERROR
-pub all_best : (view : View) (selection : Selection) (throttled : Throttled) (ts : List Target) → ((t : Target) → is_error t.state ≡ false → findings.AtBest ≡ finding_of view selection throttled t)
-    → list_any (λ t. is_error t.state) ts ≡ false → map at_best ts ≡ map (entry view selection throttled) ts
-all_best view selection throttled [] best none = refl
-all_best view selection throttled (t ∷ ts) best none = by (is_error t.state) refl none (all_best view selection throttled ts best)
-  where
-    by : (b : Bool) → is_error t.state ≡ b → (b || list_any (λ u. is_error u.state) ts) ≡ false
-        → (list_any (λ u. is_error u.state) ts ≡ false → map at_best ts ≡ map (entry view selection throttled) ts) → map at_best (t ∷ ts) ≡ map (entry view selection throttled) (t ∷ ts)
-    by true is some later = cc
-    by false is rest later = λ j. record { target = t; finding = best t is j } ∷ later rest j
-
 module _ (selection : Selection) (throttled : Throttled) (t : Target) where
   pub fate_sent : is_some (find (is_of t) throttled.sent) ≡ true → findings.Sent ≡ fate_of selection throttled t
   fate_sent sent = grind (arith, sent, found_any (is_of t) throttled.sent)
@@ -59,10 +44,3 @@ module _ (selection : Selection) (throttled : Throttled) (t : Target) where
   pub fate_best : is_some (find (is_of t) throttled.sent) ≡ false → find (λ x. is_of t x.candidate) throttled.held ≡ None
       → find (λ x. is_of t x.candidate) selection.full ≡ None → findings.AtBest ≡ fate_of selection throttled t
   fate_best sent held full = grind (arith, sent, found_any (is_of t) throttled.sent, held, full)
-
-  -- where nothing was selected, and where no message was shown either
-  pub fate_none : throttled.sent ≡ [] → throttled.held ≡ [] → selection.full ≡ [] → findings.AtBest ≡ fate_of selection throttled t
-  fate_none sent held full = rw (sent, held, full) refl
-
-  pub none_found : (view : View) → view.mail ≡ [] → findings.AtBest ≡ fate_of selection throttled t → is_error t.state ≡ false → findings.AtBest ≡ finding_of view selection throttled t
-  none_found view mail fate fine = rw (mail, fine) fate

@@ -1,5 +1,5 @@
 //! What became of the candidates of targets.
-ghost use Rattle.std.specs.Prelude.{◌≡◌, ◌↔◌, [], IsTrue, IfOk};
+ghost use Rattle.std.specs.Prelude.{◌≡◌, IfOk};
 ghost use Rattle.hx_cluster.specs.declared.planning.Finding.TheVariants as findings;
 ghost use Rattle.hx_report.specs.Findings.{fate_of};
 
@@ -61,16 +61,6 @@ impl<'a> Fates<'a> {
             held: first_places(alloc, throttled.held.as_slice())?,
             full: first_places(alloc, selection.full.as_slice())?,
         })
-    }
-
-    /// Whether nothing was sent, held back or without room, so that no target has a candidate. It
-    /// takes no memory.
-    pub fn is_empty(&self) -> bool
-        ensures { IsTrue result
-            ↔ ((self.now.1.sent ≡ []) × (self.now.1.held ≡ []) × (self.now.0.full ≡ [])) }
-    {
-        let Throttled { sent, held } = self.throttled;
-        sent.is_empty() && held.is_empty() && self.selection.full.is_empty()
     }
 
     /// What became of a target's candidate. A target without one is at its best.

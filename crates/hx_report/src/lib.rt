@@ -4,16 +4,12 @@
 mod fates;
 mod places;
 
-ghost use Rattle.std.specs.Prelude.{◌≡◌, true, false, not, map, IfOk};
-ghost use Rattle.std.specs.List.{list_any};
-ghost use Rattle.hx_cluster.specs.declared.planning.Target.{Target};
-ghost use Rattle.hx_cluster.specs.declared.planning.Finding.TheVariants as findings;
+ghost use Rattle.std.specs.Prelude.{◌≡◌, not, IfOk};
 ghost use Rattle.hx_cluster.specs.Steps.{is_error};
-ghost use Rattle.hx_report.specs.Findings.{report, entry, is_failed, finding_of};
+ghost use Rattle.hx_report.specs.Findings.{report, is_failed, finding_of};
 
 pub use fates::Fates;
 use hx_cluster::{Entries, Finding, Report, Selection, Target, Throttled, View};
-use hx_lists::Seq;
 use hx_model::ERROR;
 use hx_views::ViewIndex;
 use std::alloc::{AllocError, Global};
@@ -23,13 +19,6 @@ fn is_error(target: &Target) -> bool
     ensures { result ≡ is_error target.now.state }
 {
     target.state == Some(ERROR)
-}
-
-/// Whether one of the replicas is in ERROR.
-fn has_error(targets: &[Target]) -> bool
-    ensures { result ≡ list_any (λ t. is_error t.state) targets.now }
-{
-    targets.iter().any(is_error)
 }
 
 /// What a pass finds of each target, in their order, by what it was shown and what it selected and
@@ -46,51 +35,23 @@ pub fn report(
 {
     let index = ViewIndex::new(alloc, view)?;
     let fates = Fates::new(alloc, selection, throttled)?;
-    report_on(alloc, Seq::from_slice(alloc, targets)?, &index, &fates)
+    report_on(alloc, targets, &index, &fates)
 }
 
 /// The same by the index of a view.
-#[tactic(auto, using(crate::proofs::Became::all_best))]
 pub fn report_on(
-    alloc: Global,
-    targets: Seq<Target>,
-    index: &ViewIndex,
-    fates: &Fates,
-) -> Result<Report, AllocError>
-    ensures { IfOk result (λ all. all ≡ report targets index.now fates.now.0 fates.now.1) }
-{
-    if is_quiet(index, fates) && !has_error(targets.as_slice()) {
-        let entries = Entries::at_best(targets);
-        return Ok(Report { entries });
-    }
-    let entries = entries_on(alloc, targets.as_slice(), index, fates)?;
-    Ok(Report { entries })
-}
-
-/// The entry of each target.
-fn entries_on(
     alloc: Global,
     targets: &[Target],
     index: &ViewIndex,
     fates: &Fates,
-) -> Result<Entries, AllocError>
-    ensures { IfOk result (λ all.
-        all ≡ map (entry index.now fates.now.0 fates.now.1) targets.now) }
+) -> Result<Report, AllocError>
+    ensures { IfOk result (λ all. all ≡ report targets.now index.now fates.now.0 fates.now.1) }
 {
-    let mut entries = Entries::at_best(Seq::new(alloc));
+    let mut entries = Entries::new(alloc);
     for target in targets {
         entries.push(*target, finding_of(index, fates, target)?)?;
     }
-    Ok(entries)
-}
-
-/// Whether no message was shown, and nothing selected, so that replicas that aren't in ERROR are at
-/// their best.
-fn is_quiet(index: &ViewIndex, fates: &Fates) -> bool
-    ensures { result ≡ true → (t : Target) → is_error t.state ≡ false
-        → findings.AtBest ≡ finding_of index.now fates.now.0 fates.now.1 t }
-{
-    index.view().mail.is_empty() && fates.is_empty()
+    Ok(Report { entries })
 }
 
 /// The first finding that fits a target.

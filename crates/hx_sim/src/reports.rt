@@ -49,8 +49,7 @@ impl<F: Factory> World<F> {
         ensures { DoesDeed (say_entries entries.now) self.old out.old self.new out.new result }
     {
         // Nothing is said of replicas at their best.
-        let (_, rest) = entries.parts();
-        self.say_each(rest, out)
+        self.say_each(entries.rest(), out)
     }
 
     fn say_outcome(

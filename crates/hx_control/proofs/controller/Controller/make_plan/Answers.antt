@@ -2,10 +2,9 @@ use Rattle.std.proofs.Common.{◌≡◌, true, false, length, Option, None, Some
 use Rattle.std.specs.Prelude.{MatchOption}
 use Rattle.std.proofs.lemmas.Result.{err_from_is_err_and}
 use Rattle.hx_cluster.specs.Views.{is_well_formed}
-use Rattle.hx_gen.proofs.Modelled.{well_formed-modelled}
 use Rattle.hx_pass.specs.Drafts.{Draft, draft}
 use Rattle.hx_control.specs.Steps.{is_of_cluster}
-use Rattle.hx_control.proofs.Sending.{drafted_modelled, view_unformed}
+use Rattle.hx_control.proofs.Sending.{view_unformed}
 use Rattle.hx_control.specs.declared.controller.Planned.TheVariants as wanted
 use Rattle.hx_control.specs.Turning.{IsPlanned}
 use Rattle.hx_control.proofs.Ending.{plan_done, plan_refused, plan_wants, still_turn}
@@ -91,8 +90,6 @@ invariant_of-self-2 c =
       left = c.self.invariant.left;
       few = c.self.invariant.few;
       formed = c.in_ok-keep_of_board.ensures.found c.self.invariant.formed;
-      modelled = drafted_modelled c.args.spec.now c.self.inside.view c.in-Some.draft (found at).1
-          (well_formed-modelled c.args.spec.now.models (length c.args.spec.now.instances) c.self.inside.view (found at).0);
       drafted = last at;
       posts = λ is. last at;
       wants = wants at;

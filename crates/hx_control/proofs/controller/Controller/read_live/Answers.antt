@@ -15,7 +15,6 @@ invariant_of-self c =
       left = subst (λ (n : ℕ). IsLeft c.mail_at-self-inside.result n) (sym long) c.mail_at-self-inside.ensures.left;
       few = omega (arith, shown, few_live c.args.board.now c.history.ensures.history);
       formed = forgotten c.forget.new.self _ c.forget.ensures;
-      modelled = tt;
       drafted = tt;
       posts = λ is. absurd (c.mail_at-self-inside.ensures.reads is);
       wants = c.self.invariant.wants;

@@ -1,7 +1,7 @@
 use Rattle.std.proofs.Common.{◌≡◌, take}
 use Rattle.std.specs.Prelude.{map}
 use Rattle.hx_report.specs.Findings.{entry}
-use Rattle.hx_report.proofs.entries_on.Given as goal
+use Rattle.hx_report.proofs.report_on.Given as goal
 
 -- the targets so far
 abbrev pub invariant-loop-target : goal.invariant-loop-target
