@@ -8,7 +8,6 @@ use Rattle.hx_cluster.specs.declared.planning.Candidate.{Candidate}
 use Rattle.hx_cluster.specs.declared.planning.Selection.{Selection}
 use Rattle.hx_cluster.specs.declared.planning.Throttled.{Throttled}
 use Rattle.hx_cluster.specs.declared.planning.Report.{Report}
-use Rattle.hx_cluster.specs.declared.planning.Plan.{Plan}
 use Rattle.hx_best.specs.Targets.{all_targets}
 use Rattle.hx_gen.specs.Candidates.{candidates}
 use Rattle.hx_select.specs.Selection.{selection, accepted_of}

@@ -6,7 +6,7 @@ ghost use Rattle.hx_gen.specs.Modelled.{has_models};
 ghost use Rattle.hx_pass.specs.Plans.{all_candidates, plan, proposal};
 
 use hx_best::{Index, all_targets, moving_targets};
-use hx_cluster::{Candidate, Entries, Plan, Proposal, Report, Rule};
+use hx_cluster::{Candidate, Entries, Plan, Proposal, Report, Rule, View};
 use hx_gen::candidates;
 use hx_hops::Hops;
 use hx_lists::Seq;
@@ -31,7 +31,7 @@ pub fn plan_on(
 {
     let candidates = candidates_on(alloc, models, hops, index)?;
     if candidates.is_empty() && is_calm(index) {
-        return Ok(plan_of_none(alloc, models, index));
+        return Ok(plan_of_none(alloc, models, index.view()));
     }
     plan_of(alloc, models, rules, index, candidates.as_slice())
 }
@@ -62,13 +62,13 @@ fn is_calm(index: &Index<'_>) -> bool
 /// The plan where no message is shown, no replica in ERROR, and there is no candidate: it sends
 /// nothing, and each replica is at its best.
 #[tactic(auto, using(crate::proofs::Calm::all_at_best))]
-fn plan_of_none(alloc: Global, models: &[Model], index: &Index<'_>) -> Plan
-    requires mail { index.now.mail ≡ [] }
-    requires errors { has_errors index.now.rows ≡ false }
-    requires none { all_candidates models.now index.now ≡ [] }
-    ensures { (rules : List OfRules) → result ≡ plan models.now rules index.now }
+fn plan_of_none(alloc: Global, models: &[Model], view: &View) -> Plan
+    requires mail { view.now.mail ≡ [] }
+    requires errors { has_errors view.now.rows ≡ false }
+    requires none { all_candidates models.now view.now ≡ [] }
+    ensures { (rules : List OfRules) → result ≡ plan models.now rules view.now }
 {
-    let shown = (models, index);
+    let shown = (models, view);
     Plan {
         proposals: Seq::new(alloc),
         report: Report {
