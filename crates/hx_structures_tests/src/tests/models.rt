@@ -16,13 +16,6 @@ pub const Q: StateId = StateId(9);
 
 pub const OFFLINE: StateId = StateId(4);
 
-/// A model, and what the check says of it.
-struct Case {
-    states: &'static [(StateId, Bound)],
-    moves: &'static [(StateId, StateId)],
-    fault: Option<ModelFault>,
-}
-
 /// Two replicas at most may be in Q, which lies between OFFLINE and P.
 pub const SWAP: [(StateId, Bound); 3] = [
     (P, Bound::Count(1)),
@@ -42,78 +35,49 @@ const PLAIN: [(StateId, Bound); 2] = [(P, Bound::Live), (OFFLINE, Bound::Free)];
 
 const BACK: [(StateId, StateId); 3] = [(OFFLINE, P), (P, OFFLINE), (OFFLINE, DROPPED)];
 
-static CASES: [Case; 14] = [
-    Case {
-        states: &PLAIN,
-        moves: &BACK,
-        fault: None,
-    },
-    Case {
-        states: &[(P, Bound::Free); 17],
-        moves: &BACK,
-        fault: Some(ModelFault::TooManyStates),
-    },
-    Case {
-        states: &[(OFFLINE, Bound::Free), (ERROR, Bound::Free)],
-        moves: &BACK,
-        fault: Some(ModelFault::Reserved { place: 1 }),
-    },
-    Case {
-        states: &PLAIN,
-        moves: &[(OFFLINE, P), (P, ERROR)],
-        fault: Some(ModelFault::Reserved { place: 1 }),
-    },
-    Case {
-        states: &[(P, Bound::Live), (P, Bound::Free)],
-        moves: &BACK,
-        fault: Some(ModelFault::TwiceState { place: 1 }),
-    },
-    Case {
-        states: &[(OFFLINE, Bound::Free), (P, Bound::Count(0))],
-        moves: &BACK,
-        fault: Some(ModelFault::ZeroBound { place: 1 }),
-    },
-    Case {
-        states: &[(P, Bound::Free)],
-        moves: &BACK,
-        fault: Some(ModelFault::NoInitial),
-    },
-    Case {
-        states: &[(OFFLINE, Bound::Replicas)],
-        moves: &BACK,
-        fault: Some(ModelFault::InitialBounded),
-    },
-    Case {
-        states: &PLAIN,
-        moves: &[(OFFLINE, P), (P, Q)],
-        fault: Some(ModelFault::UnknownState { place: 1 }),
-    },
-    Case {
-        states: &PLAIN,
-        moves: &[(OFFLINE, P), (P, P)],
-        fault: Some(ModelFault::SelfLoop { place: 1 }),
-    },
-    Case {
-        states: &PLAIN,
-        moves: &[(OFFLINE, P), (P, OFFLINE), (OFFLINE, P)],
-        fault: Some(ModelFault::TwiceTransition { place: 2 }),
-    },
-    Case {
-        states: &PLAIN,
-        moves: &[(OFFLINE, P), (P, OFFLINE)],
-        fault: Some(ModelFault::NoDrop),
-    },
-    Case {
-        states: &PLAIN,
-        moves: &[(P, OFFLINE), (OFFLINE, DROPPED)],
-        fault: Some(ModelFault::CantReach { state: P }),
-    },
-    Case {
-        states: &SWAP,
-        moves: &[(OFFLINE, Q), (Q, P), (P, Q), (OFFLINE, DROPPED)],
-        fault: Some(ModelFault::CantLeave { state: P }),
-    },
+/// States of which a model with the transitions of BACK has a fault.
+const STATE_FAULTS: [(&[(StateId, Bound)], ModelFault); 6] = [
+    (&[(P, Bound::Free); 17], ModelFault::TooManyStates),
+    (
+        &[(OFFLINE, Bound::Free), (ERROR, Bound::Free)],
+        ModelFault::Reserved { place: 1 },
+    ),
+    (
+        &[(P, Bound::Live), (P, Bound::Free)],
+        ModelFault::TwiceState { place: 1 },
+    ),
+    (
+        &[(OFFLINE, Bound::Free), (P, Bound::Count(0))],
+        ModelFault::ZeroBound { place: 1 },
+    ),
+    (&[(P, Bound::Free)], ModelFault::NoInitial),
+    (&[(OFFLINE, Bound::Replicas)], ModelFault::InitialBounded),
 ];
+
+/// Transitions of which a model with the states of PLAIN has a fault.
+const MOVE_FAULTS: [(&[(StateId, StateId)], ModelFault); 6] = [
+    (
+        &[(OFFLINE, P), (P, ERROR)],
+        ModelFault::Reserved { place: 1 },
+    ),
+    (
+        &[(OFFLINE, P), (P, Q)],
+        ModelFault::UnknownState { place: 1 },
+    ),
+    (&[(OFFLINE, P), (P, P)], ModelFault::SelfLoop { place: 1 }),
+    (
+        &[(OFFLINE, P), (P, OFFLINE), (OFFLINE, P)],
+        ModelFault::TwiceTransition { place: 2 },
+    ),
+    (&[(OFFLINE, P), (P, OFFLINE)], ModelFault::NoDrop),
+    (
+        &[(P, OFFLINE), (OFFLINE, DROPPED)],
+        ModelFault::CantReach { state: P },
+    ),
+];
+
+/// Transitions of SWAP, of which none leads back from Q to OFFLINE.
+const STUCK: [(StateId, StateId); 4] = [(OFFLINE, Q), (Q, P), (P, Q), (OFFLINE, DROPPED)];
 
 /// What the check says of a model whose initial state is OFFLINE.
 pub fn checked(
@@ -130,10 +94,22 @@ pub fn checked(
 
 #[test]
 fn each_fault_of_a_model_is_named(rt: HostRuntime) -> Result<(), Fail> {
-    for case in &CASES {
-        let made = checked(rt.alloc(), case.states, case.moves)?;
-        assert_eq!(rt; made.err(), case.fault);
+    for (states, fault) in STATE_FAULTS {
+        let made = checked(rt.alloc(), states, &BACK)?;
+        assert_eq!(rt; made.err(), Some(fault));
     }
+    for (moves, fault) in MOVE_FAULTS {
+        let made = checked(rt.alloc(), &PLAIN, moves)?;
+        assert_eq!(rt; made.err(), Some(fault));
+    }
+    let stuck = checked(rt.alloc(), &SWAP, &STUCK)?;
+    assert_eq!(rt; stuck.err(), Some(ModelFault::CantLeave { state: P }));
+    Ok(())
+}
+
+#[test]
+fn a_model_may_be_without_fault(rt: HostRuntime) -> Result<(), Fail> {
+    assert!(rt; checked(rt.alloc(), &PLAIN, &BACK)?.is_ok());
     Ok(())
 }
 
