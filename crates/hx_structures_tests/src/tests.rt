@@ -1,7 +1,16 @@
+mod calls;
 mod counts;
+mod external_views;
+mod fixtures;
+mod hops;
+mod ideals;
 mod links;
 mod lists;
+mod models;
 mod names;
+mod places;
+mod posts;
 mod sessions;
 mod slots;
+mod steps;
 mod store;

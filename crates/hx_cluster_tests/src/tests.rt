@@ -1,5 +1,0 @@
-mod calls;
-mod external_views;
-mod fixtures;
-mod posts;
-mod steps;

@@ -1,4 +1,0 @@
-mod hops;
-mod ideals;
-mod models;
-mod places;

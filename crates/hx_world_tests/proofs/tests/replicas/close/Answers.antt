@@ -1,0 +1,6 @@
+use Rattle.std.proofs.Common.{rules}
+use Rattle.hx_replicas.proofs.Outs.{quiet-from_idle}
+use Rattle.hx_world_tests.proofs.tests.replicas.close.Goals as goal
+
+pub close-requires : goal.close-requires
+close-requires g c = (search rules, (search rules, quiet-from_idle c.args.p.plain c.requires))

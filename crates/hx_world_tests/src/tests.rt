@@ -1,0 +1,5 @@
+mod boards;
+mod fixtures;
+mod handlers;
+mod replicas;
+mod stages;
