@@ -3,8 +3,8 @@ use Rattle.hx_slots.specs.Slots.{slot_with}
 use Rattle.hx_slots.proofs.Mirroring.{kept_ordered, mirrored_put}
 use Rattle.hx_slots.proofs.slot.put_at.Goals as goal
 
-pub put-requires-clause-ordered : goal.put-requires-clause-ordered
-put-requires-clause-ordered c = kept_ordered c.args.session c.args.slots.now c.args.cells.now c.requires.slots c.get.ensures.ordered c.requires.mirrored
+pub put-requires : goal.put-requires
+put-requires c = kept_ordered c.args.session c.args.slots.now c.args.cells.now c.requires.slots c.get.ensures.ordered c.requires.mirrored
 
 pub returns-clause-mirrored : goal.returns-clause-mirrored
 returns-clause-mirrored c =
