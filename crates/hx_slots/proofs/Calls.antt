@@ -57,11 +57,13 @@ message_placed slots m p mail all found =
     let e = entry_of (IsKept slots) p m mail all found in
     subst (λ (x : Message). IsPlaced x.session x.part) e.2 e.1.placed
 
-pub message_slot : (slots : List (ℕ × Record Slot)) (m : Message) (p : Message → Bool) (mail : List (ℕ × Record Message)) → EachKept slots mail → find p (messages_of mail) ≡ Some m → IsSome (record_at slots (slot_key m.session m.part))
-message_slot slots m p mail all found =
+pub message_sent : (slots : List (ℕ × Record Slot)) (m : Message) (p : Message → Bool) (mail : List (ℕ × Record Message)) → EachKept slots mail → find p (messages_of mail) ≡ Some m → sent_last (record_at slots (slot_key m.session m.part)) ≡ Some m.id
+message_sent slots m p mail all found =
     let e = entry_of (IsKept slots) p m mail all found in
-    let named : sent_last (record_at slots (slot_key m.session m.part)) ≡ Some m.id = subst (λ (x : Message). sent_last (record_at slots (slot_key x.session x.part)) ≡ Some x.id) e.2 e.1.slot in
-    one (record_at slots (slot_key m.session m.part)) named
+    subst (λ (x : Message). sent_last (record_at slots (slot_key x.session x.part)) ≡ Some x.id) e.2 e.1.slot
+
+pub message_slot : (slots : List (ℕ × Record Slot)) (m : Message) (p : Message → Bool) (mail : List (ℕ × Record Message)) → EachKept slots mail → find p (messages_of mail) ≡ Some m → IsSome (record_at slots (slot_key m.session m.part))
+message_slot slots m p mail all found = one (record_at slots (slot_key m.session m.part)) (message_sent slots m p mail all found)
   where
     one : (o : Option (Record Slot)) → sent_last o ≡ Some m.id → IsSome o
     one None h = cc

@@ -84,12 +84,29 @@ impl Slots {
     pub fn message(&self, session: SessionId, part: PartId) -> Option<&Message>
         ensures { option_copied result ≡ message_of self.now.mail session part }
     {
-        let id = slot_of(&self.slots, session, part)?.sent?;
-        let (_, message) = self.mail.get(id.0)?;
+        self.standing(session, part).1
+    }
+
+    /// The state of a session's replica, if it has a row, and its pending message. It takes no
+    /// memory.
+    #[inline(always)]
+    pub fn standing(&self, session: SessionId, part: PartId) -> (Option<StateId>, Option<&Message>)
+        ensures state { result.0 ≡ state_of self.now.rows session part }
+        ensures message { option_copied result.1 ≡ message_of self.now.mail session part }
+    {
+        let Some(slot) = slot_of(&self.slots, session, part) else {
+            return (None, None);
+        };
+        let Some(id) = slot.sent else {
+            return (slot.state, None);
+        };
+        let Some((_, message)) = self.mail.get(id.0) else {
+            return (slot.state, None);
+        };
         if message.is_of(session, part) {
-            Some(message)
+            (slot.state, Some(message))
         } else {
-            None
+            (slot.state, None)
         }
     }
 
@@ -239,13 +256,7 @@ impl Slots {
         ensures mail { self.new.mail
             ≡ map (as_written message.now.session message.now.id) self.old.mail }
     {
-        let had = put_at(
-            &mut self.slots,
-            &mut self.cells,
-            message.session,
-            message.part,
-            state,
-        );
+        let had = put_at(&mut self.slots, &mut self.cells, message, state);
         self.changes += 1;
         let written = Message {
             written: true,

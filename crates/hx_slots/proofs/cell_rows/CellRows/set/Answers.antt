@@ -1,5 +1,4 @@
-use Rattle.std.proofs.Common.{◌≡◌, ℕ, ◌<◌, ◌≤◌, List, length, ap, sym, ◌∙◌, arith}
-use Rattle.std.specs.Prelude.{vec_capacity, slice_set}
+use Rattle.std.proofs.Common.{List, length, ap, sym, ◌∙◌, arith}
 use Rattle.std.proofs.lemmas.Option.{slice_get_within}
 use Rattle.hx_cluster.specs.declared.state.Row.{Row}
 use Rattle.hx_slots.specs.declared.cells.Cell.{Cell}
