@@ -20,7 +20,7 @@ use hx_ids::{MsgId, PartId, ResourceId, SessionId, StateId};
 use hx_lists::Seq;
 use hx_store::Store;
 use owned::{pop_owned, push_or_cut};
-use slot::{Slot, add_message, note_sent, put_at, slot_of};
+use slot::{Slot, add_message, last_message, note_sent, put_at, slot_of};
 use std::alloc::{AllocError, Global};
 use std::marker::Model;
 
@@ -97,17 +97,8 @@ impl Slots {
         let Some(slot) = slot_of(&self.slots, session, part) else {
             return (None, None);
         };
-        let Some(id) = slot.sent else {
-            return (slot.state, None);
-        };
-        let Some((_, message)) = self.mail.get(id.0) else {
-            return (slot.state, None);
-        };
-        if message.is_of(session, part) {
-            (slot.state, Some(message))
-        } else {
-            (slot.state, None)
-        }
+        let message = last_message(&self.mail, session, part, slot.sent);
+        (slot.state, message)
     }
 
     /// A session's pending message by number. It takes no memory.

@@ -1,13 +1,13 @@
 //! Slots, their keys, and changes of single slots and messages.
-ghost use Rattle.std.specs.Prelude.{◌≡◌, ◌==◌, ◌&&◌, None, Some, is_some, MatchOption};
-ghost use Rattle.std.specs.Prelude.{OnOk, OnErr, option_map};
+ghost use Rattle.std.specs.Prelude.{◌≡◌, ◌==◌, ◌&&◌, None, Some, is_some, IsSome, MatchOption};
+ghost use Rattle.std.specs.Prelude.{OnOk, OnErr, option_copied, option_map};
 ghost use Rattle.std.specs.Map.{keys_of};
 ghost use Rattle.std.specs.List.Sorted.{IsStrictlySortedBy};
 ghost use Rattle.std.specs.Ordering.{nat_cmp};
 ghost use Rattle.hx_store.specs.Records.{record_at, created};
 ghost use Rattle.hx_store.specs.Refusals.{CanChange};
 ghost use Rattle.hx_slots.specs.Slots.{IsPlaced, slot_key, row_of as row_of_slot};
-ghost use Rattle.hx_slots.specs.Slots.{IsSlotOf, sent_at, sent_last, put_at as put_at_of};
+ghost use Rattle.hx_slots.specs.Slots.{IsSlotOf, sent_at, sent_last, by_sent, put_at as put_at_of};
 ghost use Rattle.hx_slots.specs.Mirror.{AreMirrored, AreAllSlots, IsNoted};
 
 use crate::cells::Cells;
@@ -195,6 +195,26 @@ pub(crate) fn put_at(
     };
     cells.put(session, part, put.state);
     before.state
+}
+
+/// The message that was sent last to a session's part, if it is still pending. It takes no memory.
+/// The keys of all records rise.
+#[inline(always)]
+pub(crate) fn last_message(
+    mail: &Store<Message>,
+    session: SessionId,
+    part: PartId,
+    sent: Option<MsgId>,
+) -> Option<&Message>
+    ensures message { option_copied result ≡ by_sent mail.now session part sent }
+    ensures ordered { IsSome sent → IsStrictlySortedBy nat_cmp (keys_of mail.now) }
+{
+    let (_, message) = mail.get(sent?.0)?;
+    if message.is_of(session, part) {
+        Some(message)
+    } else {
+        None
+    }
 }
 
 /// Adds a message. One whose number is taken is answered as want of memory.
