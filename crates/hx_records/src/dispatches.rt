@@ -1,9 +1,9 @@
 //! How proposals become messages.
 ghost use Rattle.std.specs.Prelude.{◌≡◌, ℕ, ◌+◌, ◌^◌, ◌<◌, Some, true, slice_get, length, IfOk};
-ghost use Rattle.std.specs.Prelude.{OnOk, OnErr};
+ghost use Rattle.std.specs.Prelude.{OnOk, OnErr, option_copied};
 ghost use Rattle.std.specs.List.{list_all};
 ghost use Rattle.hx_cluster.specs.declared.state.Cluster.{Cluster};
-ghost use Rattle.hx_cluster.specs.Ends.{count_of, limit_at, state_of, instance_in, shown_of, is_live};
+ghost use Rattle.hx_cluster.specs.Ends.{count_of, limit_at, state_of, message_of, instance_in, shown_of, is_live};
 ghost use Rattle.hx_cluster.specs.Messages.{proposal_load, throttled_from, bounded, placed_of, after_placed};
 ghost use Rattle.hx_cluster.specs.Messages.{after_proposal, after_proposals, placed_all};
 ghost use Rattle.hx_cluster.specs.Messages.{after_dispatch};
@@ -15,7 +15,7 @@ ghost use Rattle.hx_records.specs.Records.{unsent, IsAnswered, IsPlacedFrom};
 
 use crate::Records;
 use hx_calls::{message_from, raise_pass};
-use hx_cluster::{Dispatched, Placed, Proposal, Rule};
+use hx_cluster::{Dispatched, Message, Placed, Proposal, Rule};
 use hx_ids::{ControllerId, InstanceId, MsgId, PartId, SessionId, StateId};
 use hx_lists::Seq;
 use hx_model::limit;
@@ -101,24 +101,27 @@ impl Records {
     }
 
     /// The answer to a proposal to a live session of an instance, whose replica has a state, or
-    /// none.
+    /// none, and a message pending, or none.
     fn place(
         &self,
         instance: InstanceId,
-        has: Option<StateId>,
+        standing: (Option<StateId>, Option<&Message>),
         proposal: &Proposal,
     ) -> Result<Placed, AllocError>
         requires instance { instance_in (shown_of self.now.live) proposal.now.session
             ≡ Some instance }
         requires live { is_live self.now.live proposal.now.session ≡ true }
-        requires has { has ≡ state_of self.now.rows proposal.now.session proposal.now.part }
+        requires has { standing.0 ≡ state_of self.now.rows proposal.now.session proposal.now.part }
+        requires message { option_copied standing.1
+            ≡ message_of self.now.mail proposal.now.session proposal.now.part }
         ensures { IfOk result (λ placed. placed ≡ placed_of self.now proposal.now) }
     {
         let Proposal { part, from, to, .. } = *proposal;
+        let (has, pending) = standing;
         if self.rest.is_dropped(part.resource) && has.is_none() {
             return Ok(Placed::ResourceDropped);
         }
-        if let Some(message) = self.slots.message(proposal.session, part) {
+        if let Some(message) = pending {
             return Ok(Placed::Busy { id: message.id });
         }
         if has.unwrap_or(self.rest.initial_of(part)) != from {
@@ -170,8 +173,9 @@ impl Records {
         let Some(live) = self.sessions.find(proposal.session) else {
             return Ok(Placed::Ended);
         };
-        let has = self.slots.state(proposal.session, proposal.part);
-        let placed = self.place(live.instance, has, proposal)?;
+        let standing = self.slots.standing(proposal.session, proposal.part);
+        let has = standing.0;
+        let placed = self.place(live.instance, standing, proposal)?;
         if let Placed::Sent(id) = placed {
             self.send(live.instance, has, id, proposal)?;
         }

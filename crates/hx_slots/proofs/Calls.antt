@@ -13,7 +13,7 @@ use Rattle.hx_ids.specs.declared.MsgId.{MsgId}
 use Rattle.hx_ids.specs.declared.PartId.{PartId}
 use Rattle.hx_cluster.specs.declared.state.Row.{Row}
 use Rattle.hx_cluster.specs.declared.state.Message.{Message}
-use Rattle.hx_cluster.specs.Ends.{is_row, is_message, message_of, part_eq}
+use Rattle.hx_cluster.specs.Ends.{is_row, message_of, part_eq}
 use Rattle.hx_cluster.specs.Messages.{has_id, as_written, row_put}
 use Rattle.hx_cluster.specs.Weight.{one_unless}
 use Rattle.hx_store.specs.declared.Record.{Record}
@@ -26,7 +26,7 @@ use Rattle.hx_slots.specs.Slots.{IsPlaced, IsSlot, IsSlotOf, IsKept, AreSlots, I
 use Rattle.hx_slots.proofs.Keys.{both}
 use Rattle.hx_slots.proofs.Entries.{any-filter, all-insert, all-filter, all-at, all-set, only_at, some_is, value_of, entry_of, find-first, first_of, first_passes, filter-none, none_any}
 use Rattle.hx_slots.proofs.RowsOf.{EachSlot, slots-sent, slots-put, rows-taken, rows-untaken, rows-owned}
-use Rattle.hx_slots.proofs.Mail.{EachKept, kept-sent, sent-here, kept-put, kept-removed, kept-taken, kept-written, messages-sent, messages-marked, messages-removed, mail-owned, message_is, found_at, unwritten-append, unwritten-filter, unwritten-taken, unwritten-written}
+use Rattle.hx_slots.proofs.Mail.{EachKept, kept-sent, sent-here, kept-put, kept-removed, kept-taken, kept-written, messages-sent, messages-marked, messages-removed, mail-owned, found_at, unwritten-append, unwritten-filter, unwritten-taken, unwritten-written}
 
 -- versions have room
 pub slot_room : (slots : List (ℕ × Record Slot)) (mail : List (ℕ × Record Message)) (changes paid k : ℕ) → AreSlots slots mail changes paid → CanChange (record_at slots k)
@@ -57,11 +57,13 @@ message_placed slots m p mail all found =
     let e = entry_of (IsKept slots) p m mail all found in
     subst (λ (x : Message). IsPlaced x.session x.part) e.2 e.1.placed
 
-pub message_slot : (slots : List (ℕ × Record Slot)) (m : Message) (p : Message → Bool) (mail : List (ℕ × Record Message)) → EachKept slots mail → find p (messages_of mail) ≡ Some m → IsSome (record_at slots (slot_key m.session m.part))
-message_slot slots m p mail all found =
+pub message_sent : (slots : List (ℕ × Record Slot)) (m : Message) (p : Message → Bool) (mail : List (ℕ × Record Message)) → EachKept slots mail → find p (messages_of mail) ≡ Some m → sent_last (record_at slots (slot_key m.session m.part)) ≡ Some m.id
+message_sent slots m p mail all found =
     let e = entry_of (IsKept slots) p m mail all found in
-    let named : sent_last (record_at slots (slot_key m.session m.part)) ≡ Some m.id = subst (λ (x : Message). sent_last (record_at slots (slot_key x.session x.part)) ≡ Some x.id) e.2 e.1.slot in
-    one (record_at slots (slot_key m.session m.part)) named
+    subst (λ (x : Message). sent_last (record_at slots (slot_key x.session x.part)) ≡ Some x.id) e.2 e.1.slot
+
+pub message_slot : (slots : List (ℕ × Record Slot)) (m : Message) (p : Message → Bool) (mail : List (ℕ × Record Message)) → EachKept slots mail → find p (messages_of mail) ≡ Some m → IsSome (record_at slots (slot_key m.session m.part))
+message_slot slots m p mail all found = one (record_at slots (slot_key m.session m.part)) (message_sent slots m p mail all found)
   where
     one : (o : Option (Record Slot)) → sent_last o ≡ Some m.id → IsSome o
     one None h = cc
@@ -272,24 +274,6 @@ popped_row changes slots after s v row all is has =
 -- the pending message of a part, by what its slot names
 pub sent_of : (slots : List (ℕ × Record Slot)) (s : SessionId) (p : PartId) (slot : Slot) → IsSlotOf slots s p slot → sent_last (record_at slots (slot_key s p)) ≡ slot.sent
 sent_of slots s p slot is = let r = value_of slot (record_at slots (slot_key s p)) (sym is.there) in rw r.1 (ap (λ (x : Slot). x.sent) r.2)
-
-pub message_gone : (slots : List (ℕ × Record Slot)) (mail : List (ℕ × Record Message)) (s : SessionId) (p : PartId) (slot : Slot) (id : MsgId) → IsStrictlySortedBy nat_cmp (keys_of mail) → EachKept slots mail → IsSlotOf slots s p slot
-    → slot.sent ≡ Some id → record_at mail id.0 ≡ None → message_of (messages_of mail) s p ≡ None
-message_gone slots mail s p slot id ordered all is sent absent = message_is slots s p (Some id) mail ordered all (sent_of slots s p slot is ∙ sent) ∙ rw absent refl
-
-pub message_here : (slots : List (ℕ × Record Slot)) (mail : List (ℕ × Record Message)) (s : SessionId) (p : PartId) (slot : Slot) (id : MsgId) (m : Message) → IsStrictlySortedBy nat_cmp (keys_of mail) → EachKept slots mail
-    → IsSlotOf slots s p slot → slot.sent ≡ Some id → Some m ≡ option_map (λ r. r.value) (record_at mail id.0) → is_message s p m ≡ true → message_of (messages_of mail) s p ≡ Some m
-message_here slots mail s p slot id m ordered all is sent there own =
-    let r = value_of m (record_at mail id.0) there in
-    let here : is_message s p r.0.value ≡ true = ap (λ (x : Message). is_message s p x) r.2 ∙ own in
-    message_is slots s p (Some id) mail ordered all (sent_of slots s p slot is ∙ sent) ∙ rw (r.1, here) (ap (λ (x : Message). Some x) r.2)
-
-pub message_other : (slots : List (ℕ × Record Slot)) (mail : List (ℕ × Record Message)) (s : SessionId) (p : PartId) (slot : Slot) (id : MsgId) (m : Message) → IsStrictlySortedBy nat_cmp (keys_of mail) → EachKept slots mail
-    → IsSlotOf slots s p slot → slot.sent ≡ Some id → Some m ≡ option_map (λ r. r.value) (record_at mail id.0) → is_message s p m ≡ false → message_of (messages_of mail) s p ≡ None
-message_other slots mail s p slot id m ordered all is sent there other =
-    let r = value_of m (record_at mail id.0) there in
-    let here : is_message s p r.0.value ≡ false = ap (λ (x : Message). is_message s p x) r.2 ∙ other in
-    message_is slots s p (Some id) mail ordered all (sent_of slots s p slot is ∙ sent) ∙ rw (r.1, here) refl
 
 -- one slot less
 length-filter-le : {X : Type 0} (p : X → Bool) (xs : List X) → length (filter p xs) ≤ length xs

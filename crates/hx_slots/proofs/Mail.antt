@@ -1,6 +1,6 @@
 -- The messages of records, as the records change, and the slots that name them.
 use Rattle.std.proofs.Common.{◌≡◌, ℕ, ◌≤◌, ◌+◌, Bool, true, false, cond, not, List, [], ◌∷◌, ◌++◌, map, filter, find, Some, None, Option, refl, sym, ap, ◌∙◌, subst, arith}
-use Rattle.std.specs.Prelude.{◌==◌, ◌&&◌, nat_lt, nat_le, if◌then◌else◌, option_map}
+use Rattle.std.specs.Prelude.{◌==◌, ◌&&◌, nat_lt, nat_le, if◌then◌else◌, option_map, IsSome}
 use Rattle.std.specs.List.{list_all, AllByRecursion}
 use Rattle.std.specs.List.Sorted.{IsStrictlySortedBy}
 use Rattle.std.specs.Ordering.{nat_cmp}
@@ -21,7 +21,7 @@ use Rattle.hx_store.specs.declared.Record.{Record}
 use Rattle.hx_store.specs.Records.{record_at, is_before, set_to, changed, first_record, deleted}
 use Rattle.hx_store.proofs.Entries.{absent-past_head, lookup-insert_by, lookup-map, lookup-filter}
 use Rattle.hx_slots.specs.declared.slot.Slot.{Slot}
-use Rattle.hx_slots.specs.Slots.{IsPlaced, IsKept, slot_key, owned_values, messages_of, slot_with, state_put, sent_at, sent_over, sent_last, put_at, unwritten_in}
+use Rattle.hx_slots.specs.Slots.{IsPlaced, IsKept, slot_key, owned_values, messages_of, slot_with, state_put, sent_at, sent_over, sent_last, put_at, unwritten_in, of_replica, by_sent}
 use Rattle.hx_slots.proofs.Keys.{key_same, both, and_false, eq_turned, of_part}
 use Rattle.hx_slots.proofs.Entries.{all-also, all-weaker, some_is, value_of, none_found}
 
@@ -192,14 +192,6 @@ mail-owned slots s (e ∷ es) all = one (e.1.value.session.0 == s.0) refl (mail-
     one false i rest = rw (all.0.owner, i) rest
 
 -- the message of a part by what its slot was sent last
-abbrev of_replica : SessionId → PartId → Option (Record Message) → Option Message
-of_replica s p None = None
-of_replica s p (Some r) = if is_message s p r.value then Some r.value else None
-
-abbrev by_sent : List (ℕ × Record Message) → SessionId → PartId → Option MsgId → Option Message
-by_sent mail s p None = None
-by_sent mail s p (Some id) = of_replica s p (record_at mail id.0)
-
 pub message_is : (slots : List (ℕ × Record Slot)) (s : SessionId) (p : PartId) (sent : Option MsgId) (mail : List (ℕ × Record Message)) → IsStrictlySortedBy nat_cmp (keys_of mail) → EachKept slots mail
     → sent_last (record_at slots (slot_key s p)) ≡ sent → message_of (messages_of mail) s p ≡ by_sent mail s p sent
 message_is slots s p None [] ordered all is = refl
@@ -249,6 +241,11 @@ message_absent slots s p (e ∷ es) all absent = one (is_message s p e.1.value) 
     one : (b : Bool) → is_message s p e.1.value ≡ b → message_of (messages_of es) s p ≡ None → cond b (Some e.1.value) (message_of (messages_of es) s p) ≡ None
     one true i rest = absurd (no i)
     one false i rest = rest
+
+pub message_last : (slots : List (ℕ × Record Slot)) (s : SessionId) (p : PartId) (sent : Option MsgId) (mail : List (ℕ × Record Message)) → (IsSome sent → IsStrictlySortedBy nat_cmp (keys_of mail)) → EachKept slots mail
+    → sent_last (record_at slots (slot_key s p)) ≡ sent → by_sent mail s p sent ≡ message_of (messages_of mail) s p
+message_last slots s p None mail ordered all is = sym (message_absent slots s p mail all (λ placed. is))
+message_last slots s p (Some id) mail ordered all is = sym (message_is slots s p (Some id) mail (ordered refl) all is)
 
 -- a message with one mark more
 kept-marked : (slots : List (ℕ × Record Slot)) (k : ℕ) (r : Record Message) (m : Message) (taken written : Bool) → IsKept slots (k, r) → r.value ≡ m → one_unless taken + one_unless written + 1 ≡ one_unless m.taken + one_unless m.written

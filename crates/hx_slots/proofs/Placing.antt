@@ -36,6 +36,9 @@ apart_by r i q j a = grind (arith, nat_tests)
 behind_by : (r i q j t k : ℕ) → (nat_lt r t || ((r == t) && nat_lt i k)) ≡ false → (nat_lt r q || ((r == q) && nat_lt i j)) ≡ true → ((q == t) && (j == k)) ≡ false
 behind_by r i q j t k a b = grind (arith, nat_tests)
 
+later_by : (r i q j t k : ℕ) → (nat_lt r t || ((r == t) && nat_lt i k)) ≡ false → (nat_lt r q || ((r == q) && nat_lt i j)) ≡ true → (nat_lt q t || ((q == t) && nat_lt j k)) ≡ false
+later_by r i q j t k a b = grind (arith, nat_tests)
+
 -- of parts
 pub before_all : (p q t : PartId) → part_before p q ≡ true → part_before q t ≡ true → part_before p t ≡ true
 before_all p q t a b = before_by p.resource.0 p.index q.resource.0 q.index t.resource.0 t.index a b
@@ -45,6 +48,9 @@ before_apart p q a = apart_by p.resource.0 p.index q.resource.0 q.index a
 
 behind_apart : (p q t : PartId) → part_before p t ≡ false → part_before p q ≡ true → part_eq q t ≡ false
 behind_apart p q t a b = behind_by p.resource.0 p.index q.resource.0 q.index t.resource.0 t.index a b
+
+pub after_part : (p q t : PartId) → part_before p t ≡ false → part_before p q ≡ true → part_before q t ≡ false
+after_part p q t a b = later_by p.resource.0 p.index q.resource.0 q.index t.resource.0 t.index a b
 
 eq_part : (p q : PartId) → part_eq p q ≡ true → p ≡ q
 eq_part p q h =

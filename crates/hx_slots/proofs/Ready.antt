@@ -1,11 +1,11 @@
--- Rows that stand for cells.
-use Rattle.std.proofs.Common.{◌≡◌, ℕ, zero, suc, ◌<◌, ◌≤◌, ◌+◌, Bool, true, false, cond, not, List, [], ◌∷◌, ◌++◌, length, map, filter, take, Some, None, Option, Result, Ok, Err, refl, sym, ap, ◌∙◌, arith, get_or}
-use Rattle.std.specs.Prelude.{◌==◌, slice_get, slice_set, option_map, unwrap_or, IfSome, OnOk, is_ok, if◌then◌else◌}
-use Rattle.std.specs.List.{AllByRecursion, insert, position_or_len, filter_map}
+-- Rows of cells.
+use Rattle.std.proofs.Common.{◌≡◌, ℕ, zero, suc, ◌<◌, ◌≤◌, ◌+◌, Bool, true, false, cond, not, List, [], ◌∷◌, length, map, take, Some, None, Option, Result, Ok, Err, refl, sym, ap, ◌∙◌, subst, arith, get_or}
+use Rattle.std.specs.Prelude.{slice_get, slice_set, is_some, OnOk, OnErr}
+use Rattle.std.specs.List.{AllByRecursion, insert, position_or_len, filter_map, cons_option}
 use Rattle.std.specs.List.Sorted.{IsPartitionedBy, IsPartitionPoint}
+use Rattle.std.proofs.Math.Numerals.{one-add}
 use Rattle.std.proofs.lemmas.List.{get_or-map, length-map}
 use Rattle.std.proofs.lemmas.List.Sums.{position_or_len_is}
-use Rattle.hx_lists.specs.Lists.{count}
 use Rattle.hx_ids.specs.declared.SessionId.{SessionId}
 use Rattle.hx_ids.specs.declared.StateId.{StateId}
 use Rattle.hx_ids.specs.declared.PartId.{PartId}
@@ -13,8 +13,9 @@ use Rattle.hx_model.specs.Model.{dropped}
 use Rattle.hx_cluster.specs.declared.state.Row.{Row}
 use Rattle.hx_cluster.specs.Ends.{part_before}
 use Rattle.hx_slots.specs.declared.cells.Cell.{Cell}
-use Rattle.hx_slots.specs.Cells.{cell_in, cell_row, state_in, is_full, AreInOrder, AreRowsOf}
-use Rattle.hx_slots.proofs.Placing.{parted}
+use Rattle.hx_slots.specs.Cells.{cell_in, cell_with, cell_row, row_at, row_placed, cell_before, AreInOrder}
+use Rattle.hx_slots.proofs.Entries.{some_is}
+use Rattle.hx_slots.proofs.Placing.{parted, after_part, is_none}
 
 part_at : (rows : List Row) (k : ℕ) (d : Row) → k < length rows → (get_or (map cell_in rows) k (cell_in d)).part ≡ (get_or rows k d).part
 part_at rows k d less = ap (λ (c : Cell). c.part) (get_or-map cell_in rows k d (cell_in d) less)
@@ -34,104 +35,144 @@ row_place p rows n fits point =
     (λ k less. ap not (ap (λ (q : PartId). part_before q p) (part_at rows k d (omega (arith, less, fits))) ∙ point.0 k d (omega arith) less))
     (λ less. let here : n < length rows = omega (arith, less, length-map rows cell_in) in ap not (ap (λ (q : PartId). part_before q p) (part_at rows n d here) ∙ point.1 n d (omega arith) here)))
 
--- a row more
-map-take : {X Y : Type 0} (f : X → Y) (n : ℕ) (xs : List X) → map f (take n xs) ≡ take n (map f xs)
-map-take f zero xs = refl
-map-take f (suc n) [] = refl
-map-take f (suc n) (x ∷ xs) = ap (λ ys. f x ∷ ys) (map-take f n xs)
+-- the rows of cells
+abbrev pub rows_in : SessionId → List Cell → List Row
+rows_in s cells = filter_map (cell_row s) cells
 
-pub map-insert : {X Y : Type 0} (f : X → Y) (xs : List X) (n : ℕ) (x : X) → map f (insert xs n x) ≡ insert (map f xs) n (f x)
-map-insert f xs zero x = refl
-map-insert f [] (suc n) x = refl
-map-insert f (y ∷ xs) (suc n) x = ap (λ ys. f y ∷ ys) (map-insert f xs n x)
-
-pub all-insert : {X : Type 0} (P : X → Type 0) (xs : List X) (n : ℕ) (x : X) → AllByRecursion P xs → P x → AllByRecursion P (insert xs n x)
-all-insert P xs zero x all own = (own, all)
-all-insert P [] (suc n) x all own = (own, tt)
-all-insert P (y ∷ xs) (suc n) x all own = (all.0, all-insert P xs n x all.1 own)
-
-pub count-insert : (rows : List Row) (n : ℕ) (r : Row) → is_full r ≡ false → count is_full (insert rows n r) ≡ count is_full rows
-count-insert rows zero r bare = rw bare refl
-count-insert [] (suc n) r bare = rw bare refl
-count-insert (x ∷ rows) (suc n) r bare = one (is_full x) (count-insert rows n r bare)
+all-rows : (s : SessionId) (P : Cell → Type 0) (Q : Cell → Type 0) → ((p : PartId) (t : StateId) → P (record { part = p; state = Some t }) → Q (record { part = p; state = Some t })) → (cells : List Cell) → AllByRecursion P cells
+    → AllByRecursion Q (map cell_in (rows_in s cells))
+all-rows s P Q h [] all = tt
+all-rows s P Q h (c ∷ cells) all = one c.state refl (all-rows s P Q h cells all.1)
   where
-    one : (b : Bool) → count is_full (insert rows n r) ≡ count is_full rows → length (cond b (x ∷ filter is_full (insert rows n r)) (filter is_full (insert rows n r))) ≡ length (cond b (x ∷ filter is_full rows) (filter is_full rows))
-    one true same = ap suc same
-    one false same = same
+    one : (o : Option StateId) → c.state ≡ o → AllByRecursion Q (map cell_in (rows_in s cells)) → AllByRecursion Q (map cell_in (cons_option (row_at s c.part c.state) (rows_in s cells)))
+    one None is rest = rw is rest
+    one (Some t) is rest = rw is (h c.part t (subst P (ap (λ (o : Option StateId). record { part = c.part; state = o }) is) all.0), rest)
 
--- another row in a place
-pub map-get : {X Y : Type 0} (f : X → Y) (xs : List X) (n : ℕ) → slice_get (map f xs) n ≡ option_map f (slice_get xs n)
-map-get f [] n = refl
-map-get f (x ∷ xs) zero = refl
-map-get f (x ∷ xs) (suc n) = map-get f xs n
-
-pub map-set : {X Y : Type 0} (f : X → Y) (xs : List X) (n : ℕ) (x : X) → map f (slice_set xs n x) ≡ slice_set (map f xs) n (f x)
-map-set f [] n x = refl
-map-set f (y ∷ xs) zero x = refl
-map-set f (y ∷ xs) (suc n) x = ap (λ ys. f y ∷ ys) (map-set f xs n x)
-
-pub all-put : {X : Type 0} (P : X → Type 0) (xs : List X) (n : ℕ) (x : X) → AllByRecursion P xs → P x → AllByRecursion P (slice_set xs n x)
-all-put P [] n x all own = tt
-all-put P (y ∷ xs) zero x all own = (own, all.1)
-all-put P (y ∷ xs) (suc n) x all own = (all.0, all-put P xs n x all.1 own)
-
-abbrev pub one_if : Bool → ℕ
-one_if b = if b then 1 else 0
-
-count-step : (x : Row) (rows : List Row) → count is_full (x ∷ rows) ≡ one_if (is_full x) + count is_full rows
-count-step x rows = one (is_full x)
+-- are in order as they are
+pub rows-ordered : (s : SessionId) (cells : List Cell) → AreInOrder cells → AreInOrder (map cell_in (rows_in s cells))
+rows-ordered s [] ordered = tt
+rows-ordered s (c ∷ cells) ordered = one c.state refl (rows-ordered s cells ordered.1)
   where
-    one : (b : Bool) → length (cond b (x ∷ filter is_full rows) (filter is_full rows)) ≡ one_if b + length (filter is_full rows)
-    one true = omega arith
-    one false = omega arith
+    one : (o : Option StateId) → c.state ≡ o → AreInOrder (map cell_in (rows_in s cells)) → AreInOrder (map cell_in (cons_option (row_at s c.part c.state) (rows_in s cells)))
+    one None is rest = rw is rest
+    one (Some t) is rest = rw is (all-rows s (λ d. cell_before c d ≡ true) (λ d. part_before c.part d.part ≡ true) (λ p u before. before) cells ordered.0, rest)
 
-pub count-set : (rows : List Row) (n : ℕ) (r before : Row) → Some before ≡ slice_get rows n → count is_full (slice_set rows n r) + one_if (is_full before) ≡ count is_full rows + one_if (is_full r)
-count-set [] n r before at = cc
-count-set (x ∷ rows) zero r before at =
-    let same : one_if (is_full before) ≡ one_if (is_full x) = ap (λ (o : Option Row). unwrap_or (option_map (λ y. one_if (is_full y)) o) 0) at in
-    omega (arith, same, count-step x rows, count-step r rows)
-count-set (x ∷ rows) (suc n) r before at = omega (arith, count-set rows n r before at, count-step x rows, count-step x (slice_set rows n r))
+-- how many of them are of the cells before a place
+abbrev pub rows_before : SessionId → List Cell → ℕ → ℕ
+rows_before s cells n = length (rows_in s (take n cells))
 
-pub count-most : (rows : List Row) → count is_full rows ≤ length rows
-count-most [] = omega arith
-count-most (x ∷ rows) = one (is_full x) (count-step x rows) (count-most rows)
+at_once : (p : PartId) (cells : List Cell) → AllByRecursion (λ c. part_before c.part p ≡ false) cells → position_or_len (λ c. not (part_before c.part p)) cells ≡ 0
+at_once p [] all = refl
+at_once p (c ∷ cells) all = rw all.0 refl
+
+-- the place of a part's row
+pub rows_place : (s : SessionId) (p : PartId) (cells : List Cell) → AreInOrder cells
+    → position_or_len (λ c. not (part_before c.part p)) (map cell_in (rows_in s cells)) ≡ rows_before s cells (position_or_len (λ c. not (part_before c.part p)) cells)
+rows_place s p [] ordered = refl
+rows_place s p (c ∷ cells) ordered = one (part_before c.part p) refl c.state refl (rows_place s p cells ordered.1)
   where
-    one : (b : Bool) → count is_full (x ∷ rows) ≡ one_if b + count is_full rows → count is_full rows ≤ length rows → count is_full (x ∷ rows) ≤ length (x ∷ rows)
-    one true step less = omega (arith, step, less)
-    one false step less = omega (arith, step, less)
+    n : ℕ
+    n = position_or_len (λ d. not (part_before d.part p)) cells
 
--- the state that a row shows
-pub shown_in : (o : Option StateId) → IfSome o (λ t. (t.0 == dropped.0) ≡ false) → state_in (unwrap_or o dropped) ≡ o
-shown_in None h = refl
-shown_in (Some t) h = ap (λ (b : Bool). if b then None else Some t) h
+    behind : part_before c.part p ≡ false → AllByRecursion (λ d. part_before d.part p ≡ false) (map cell_in (rows_in s cells))
+    behind i = all-rows s (λ d. cell_before c d ≡ true) (λ d. part_before d.part p ≡ false) (λ q t before. after_part c.part q p i before) cells ordered.0
 
--- where each has a state, the rows are those of the cells
-pub all_shown : (s : SessionId) (rows : List Row) → AreRowsOf s rows → count is_full rows ≡ length rows → rows ≡ filter_map (cell_row s) (map cell_in rows)
-all_shown s [] all full = refl
-all_shown s (r ∷ rows) all full = one (r.state.0 == dropped.0) refl (count-step r rows) (all_shown s rows all.1)
+    one : (b : Bool) → part_before c.part p ≡ b → (o : Option StateId) → c.state ≡ o → position_or_len (λ d. not (part_before d.part p)) (map cell_in (rows_in s cells)) ≡ rows_before s cells n
+        → position_or_len (λ d. not (part_before d.part p)) (map cell_in (cons_option (row_at s c.part c.state) (rows_in s cells))) ≡ rows_before s (c ∷ cells) (cond (not (not (part_before c.part p))) (1 + n) 0)
+    one true i None is rest = rw (i, is, one-add n) rest
+    one true i (Some t) is rest = rw (i, is, one-add n) (rw i (ap (λ (k : ℕ). 1 + k) rest ∙ one-add (rows_before s cells n)))
+    one false i None is rest = rw (i, is) (at_once p (map cell_in (rows_in s cells)) (behind i))
+    one false i (Some t) is rest = rw (i, is) (rw i refl)
+
+-- a cell without a state more
+pub rows-bare : (s : SessionId) (cells : List Cell) (n : ℕ) (c : Cell) → c.state ≡ None → rows_in s (insert cells n c) ≡ rows_in s cells
+rows-bare s cells zero c bare = rw bare refl
+rows-bare s [] (suc n) c bare = rw bare refl
+rows-bare s (d ∷ cells) (suc n) c bare = ap (cons_option (cell_row s d)) (rows-bare s cells n c bare)
+
+-- there are at most as many rows, and fewer where a cell has no state
+pub rows-most : (s : SessionId) (cells : List Cell) → length (rows_in s cells) ≤ length cells
+rows-most s [] = omega arith
+rows-most s (c ∷ cells) = one (cell_row s c) (rows-most s cells)
   where
-    own : r ≡ record { session = s; part = r.part; state = r.state }
-    own = ap (λ (x : SessionId). record { session = x; part = r.part; state = r.state }) all.0
+    one : (o : Option Row) → length (rows_in s cells) ≤ length cells → length (cons_option o (rows_in s cells)) ≤ length (c ∷ cells)
+    one None most = omega (arith, most)
+    one (Some r) most = omega (arith, most)
 
-    one : (b : Bool) → (r.state.0 == dropped.0) ≡ b → count is_full (r ∷ rows) ≡ one_if (is_full r) + count is_full rows → (count is_full rows ≡ length rows → rows ≡ filter_map (cell_row s) (map cell_in rows))
-        → r ∷ rows ≡ filter_map (cell_row s) (map cell_in (r ∷ rows))
-    one true bare step again =
-        let none : one_if (is_full r) ≡ 0 = rw bare refl in
-        absurd (omega (arith, full, step, none, count-most rows))
-    one false fullness step again =
-        let some : one_if (is_full r) ≡ 1 = rw fullness refl in
-        let rest : count is_full rows ≡ length rows = omega (arith, full, step, some) in
-        rw fullness (ap (λ (x : Row). x ∷ rows) own ∙ ap (λ (xs : List Row). record { session = s; part = r.part; state = r.state } ∷ xs) (again rest))
+pub rows-fewer : (s : SessionId) (cells : List Cell) (n : ℕ) (c : Cell) → Some c ≡ slice_get cells n → is_some c.state ≡ false → length (rows_in s cells) < length cells
+rows-fewer s [] n c there bare = cc
+rows-fewer s (d ∷ cells) zero c there bare = let none : d.state ≡ None = ap (λ (x : Cell). x.state) (sym (some_is c d there)) ∙ is_none c.state bare in rw none (omega (arith, rows-most s cells))
+rows-fewer s (d ∷ cells) (suc n) c there bare = one (cell_row s d) (rows-fewer s cells n c there bare)
+  where
+    one : (o : Option Row) → length (rows_in s cells) < length cells → length (cons_option o (rows_in s cells)) < length (d ∷ cells)
+    one None most = omega (arith, most)
+    one (Some r) most = omega (arith, most)
 
--- how many have a state once another row is put in a place
-pub full_set : (rows now : List Row) (n full : ℕ) (r before : Row) (had has : Bool) → full ≡ count is_full rows → now ≡ slice_set rows n r → Some before ≡ slice_get rows n → had ≡ is_full before → has ≡ is_full r
-    → count is_full now + one_if had ≡ full + one_if has
-full_set rows now n full r before had has counted is at was will =
-    let a : one_if had ≡ one_if (is_full before) = ap one_if was in
-    let b : one_if has ≡ one_if (is_full r) = ap one_if will in
-    let c : count is_full now ≡ count is_full (slice_set rows n r) = ap (count is_full) is in
-    omega (arith, count-set rows n r before at, a, b, c, counted)
+-- a cell is put in the place of another one
+behind_row : (had : Bool) (o : Option Row) (x : Row) (rows : List Row) (n : ℕ) → row_placed had o (x ∷ rows) (suc n) ≡ x ∷ row_placed had o rows n
+behind_row true None x rows n = refl
+behind_row false None x rows n = refl
+behind_row true (Some r) x rows n = refl
+behind_row false (Some r) x rows n = refl
 
-pub ok_extended : {T E X : Type 0} (result : Result T E) (now old more all : List X) → now ≡ (if is_ok result then old ++ more else old) → more ≡ all → OnOk result (now ≡ old ++ all)
-ok_extended (Ok x) now old more all is same = is ∙ ap (λ xs. old ++ xs) same
-ok_extended (Err e) now old more all is same = tt
+pub rows-put : (s : SessionId) (cells : List Cell) (n : ℕ) (c put : Cell) → Some c ≡ slice_get cells n → rows_in s (slice_set cells n put) ≡ row_placed (is_some c.state) (cell_row s put) (rows_in s cells) (rows_before s cells n)
+rows-put s [] n c put there = cc
+rows-put s (d ∷ cells) zero c put there = one d.state (cell_row s put) ∙ ap (λ (x : Cell). row_placed (is_some x.state) (cell_row s put) (rows_in s (d ∷ cells)) 0) (sym (some_is c d there))
+  where
+    one : (o : Option StateId) (row : Option Row) → cons_option row (rows_in s cells) ≡ row_placed (is_some o) row (cons_option (row_at s d.part o) (rows_in s cells)) 0
+    one None None = refl
+    one None (Some r) = refl
+    one (Some t) None = refl
+    one (Some t) (Some r) = refl
+rows-put s (d ∷ cells) (suc n) c put there = one (cell_row s d) (rows-put s cells n c put there)
+  where
+    one : (o : Option Row) → rows_in s (slice_set cells n put) ≡ row_placed (is_some c.state) (cell_row s put) (rows_in s cells) (rows_before s cells n)
+        → cons_option o (rows_in s (slice_set cells n put)) ≡ row_placed (is_some c.state) (cell_row s put) (cons_option o (rows_in s cells)) (length (cons_option o (rows_in s (take n cells))))
+    one None rest = rest
+    one (Some x) rest = ap (λ (rows : List Row). x ∷ rows) rest ∙ sym (behind_row (is_some c.state) (cell_row s put) x (rows_in s cells) (rows_before s cells n))
+
+-- the place of a cell's row is among the rows
+pub row_within : (s : SessionId) (cells : List Cell) (n : ℕ) (c : Cell) → Some c ≡ slice_get cells n → is_some c.state ≡ true → rows_before s cells n < length (rows_in s cells)
+row_within s [] n c there had = cc
+row_within s (d ∷ cells) zero c there had = one d.state (ap (λ (x : Cell). is_some x.state) (sym (some_is c d there)) ∙ had)
+  where
+    one : (o : Option StateId) → is_some o ≡ true → 0 < length (cons_option (row_at s d.part o) (rows_in s cells))
+    one None h = cc
+    one (Some t) h = omega arith
+row_within s (d ∷ cells) (suc n) c there had = one (cell_row s d) (row_within s cells n c there had)
+  where
+    one : (o : Option Row) → rows_before s cells n < length (rows_in s cells) → length (cons_option o (rows_in s (take n cells))) < length (cons_option o (rows_in s cells))
+    one None less = less
+    one (Some x) less = omega (arith, less)
+
+-- the place that is found for a part's row
+pub place_among : (s : SessionId) (p : PartId) (cells seen : List Cell) (rows : List Row) (n m : ℕ) → cells ≡ seen → rows ≡ rows_in s cells → AreInOrder seen → n ≡ position_or_len (λ c. not (part_before c.part p)) seen
+    → m ≡ position_or_len (λ c. not (part_before c.part p)) (map cell_in rows) → m ≡ rows_before s cells n
+place_among s p cells seen rows n m view are ordered at place =
+    place ∙ ap (λ (xs : List Row). position_or_len (λ c. not (part_before c.part p)) (map cell_in xs)) are ∙ rows_place s p cells (subst AreInOrder (sym view) ordered)
+    ∙ ap (rows_before s cells) (ap (position_or_len (λ c. not (part_before c.part p))) view ∙ sym at)
+
+pub found_rows : (s : SessionId) (cells seen : List Cell) (rows : List Row) → cells ≡ seen → rows ≡ rows_in s cells → AreInOrder seen → AreInOrder (map cell_in rows)
+found_rows s cells seen rows view are ordered = subst (λ (xs : List Row). AreInOrder (map cell_in xs)) (sym are) (rows-ordered s cells (subst AreInOrder (sym view) ordered))
+
+-- once it is there
+pub set_rows : (s : SessionId) (cells now : List Cell) (n : ℕ) (c put : Cell) (had : Bool) (row : Option Row) (rows after : List Row) (m : ℕ) → Some c ≡ slice_get cells n → had ≡ is_some c.state → row ≡ cell_row s put → rows ≡ rows_in s cells → m ≡ rows_before s cells n
+    → after ≡ row_placed had row rows m → now ≡ slice_set cells n put → after ≡ rows_in s now
+set_rows s cells now n c put had row rows after m there was will are at is set = is ∙ rw (was, will, are, at, set) (sym (rows-put s cells n c put there))
+
+-- with a cell more
+insert-length : {X : Type 0} (xs : List X) (n : ℕ) (x : X) → length (insert xs n x) ≡ length xs + 1
+insert-length xs zero x = omega arith
+insert-length [] (suc n) x = omega arith
+insert-length (y ∷ xs) (suc n) x = omega (arith, insert-length xs n x)
+
+pub added_rows : {T E : Type 0} (r : Result T E) (s : SessionId) (rows : List Row) (cells now : List Cell) (n room : ℕ) (p : PartId) → OnOk r (now ≡ insert cells n (cell_with p None)) → OnErr r (now ≡ cells) → rows ≡ rows_in s cells → length cells + 1 ≤ room
+    → (rows ≡ rows_in s now) × (length now ≤ room)
+added_rows (Ok x) s rows cells now n room p ok err are fits =
+    (are ∙ sym (rows-bare s cells n (cell_with p None) refl) ∙ ap (rows_in s) (sym ok), omega (arith, fits, ap (λ (xs : List Cell). length xs) ok, insert-length cells n (cell_with p None)))
+added_rows (Err e) s rows cells now n room p ok err are fits = (are ∙ ap (rows_in s) (sym err), omega (arith, fits, ap (λ (xs : List Cell). length xs) err))
+
+pub set-length : {X : Type 0} (xs : List X) (n : ℕ) (x : X) → length (slice_set xs n x) ≡ length xs
+set-length [] n x = refl
+set-length (y ∷ xs) zero x = omega arith
+set-length (y ∷ xs) (suc n) x = omega (arith, set-length xs n x)

@@ -1,12 +1,11 @@
 -- The cells of sessions: of each slot of a session the part and the state, in order of part. No public clause cites this module.
-use Rattle.std.specs.Prelude.{◌≡◌, Bool, true, not, ◌==◌, List, [], ◌∷◌, Option, None, Some, if◌then◌else◌}
-use Rattle.std.specs.List.{AllByRecursion}
+use Rattle.std.specs.Prelude.{◌≡◌, ℕ, slice_set, Bool, true, ◌==◌, List, [], ◌∷◌, Option, None, Some, if◌then◌else◌}
+use Rattle.std.specs.List.{AllByRecursion, insert, remove}
 use Rattle.std.specs.Map.{lookup}
 use Rattle.hx_lists.specs.Lists.{insert_by}
 use Rattle.hx_ids.specs.declared.SessionId.{SessionId}
 use Rattle.hx_ids.specs.declared.StateId.{StateId}
 use Rattle.hx_ids.specs.declared.PartId.{PartId}
-use Rattle.hx_model.specs.Model.{dropped}
 use Rattle.hx_cluster.specs.declared.state.Row.{Row}
 use Rattle.hx_cluster.specs.Ends.{part_eq, part_before}
 use Rattle.hx_slots.specs.declared.cells.Cell.{Cell}
@@ -52,17 +51,11 @@ PutsCells session cells before now = (s : SessionId) → kept_of now s ≡ (if s
 abbrev pub KeepsCells : List (SessionId × List Cell) → List (SessionId × List Cell) → Type 0
 KeepsCells before now = (s : SessionId) → kept_of now s ≡ kept_of before s
 
--- the state of a row that stands for a cell, which is none at DROPPED
-abbrev pub state_in : StateId → Option StateId
-state_in t = if t.0 == dropped.0 then None else Some t
-
+-- the cell of a row
 abbrev pub cell_in : Row → Cell
-cell_in r = cell_with r.part (state_in r.state)
+cell_in r = cell_with r.part (Some r.state)
 
--- whether it has one
-abbrev pub is_full : Row → Bool
-is_full r = not (r.state.0 == dropped.0)
-
--- each is a row of a session
-abbrev pub AreRowsOf : SessionId → List Row → Type 0
-AreRowsOf s rows = AllByRecursion (λ r. r.session ≡ s) rows
+-- rows once the one in a place was changed or taken out, or one was put there
+abbrev pub row_placed : Bool → Option Row → List Row → ℕ → List Row
+row_placed had None rows n = if had then remove rows n else rows
+row_placed had (Some r) rows n = if had then slice_set rows n r else insert rows n r

@@ -12,6 +12,7 @@ use Rattle.hx_ids.specs.declared.PartId.{PartId}
 use Rattle.hx_model.specs.Model.{dropped}
 use Rattle.hx_cluster.specs.declared.state.Row.{Row}
 use Rattle.hx_cluster.specs.declared.state.Message.{Message}
+use Rattle.hx_cluster.specs.Ends.{is_message}
 use Rattle.hx_cluster.specs.Weight.{one_unless}
 use Rattle.hx_store.specs.declared.Record.{Record}
 use Rattle.hx_store.specs.Records.{record_at, created, set_to, deleted, owned_from}
@@ -66,6 +67,15 @@ unwritten_in (m ∷ ms) = one_unless m.written + unwritten_in ms
 abbrev pub sent_last : Option (Record Slot) → Option MsgId
 sent_last None = None
 sent_last (Some r) = r.value.sent
+
+-- the message of a part by what its slot was sent last
+abbrev pub of_replica : SessionId → PartId → Option (Record Message) → Option Message
+of_replica s p None = None
+of_replica s p (Some r) = if is_message s p r.value then Some r.value else None
+
+abbrev pub by_sent : List (ℕ × Record Message) → SessionId → PartId → Option MsgId → Option Message
+by_sent mail s p None = None
+by_sent mail s p (Some id) = of_replica s p (record_at mail id.0)
 
 -- a slot
 abbrev pub slot_with : SessionId → PartId → Option StateId → Option MsgId → Slot

@@ -1,18 +1,17 @@
-//! The cells of a session, as rows that stand ready to be copied.
-ghost use Rattle.std.specs.Prelude.{◌≡◌, ◌==◌, ◌<◌, ◌≤◌, ◌++◌, ◌∷◌, [], not, map, length, false};
-ghost use Rattle.std.specs.Prelude.{None, Some, IfSome, IfOk, OnOk, OnErr, slice_set};
+//! The cells of a session, beside the rows that stand ready to be copied.
+ghost use Rattle.std.specs.Prelude.{◌≡◌, ◌+◌, ◌*◌, ◌<◌, ◌≤◌, ◌++◌, ◌∷◌, [], not, map, length, true, false};
+ghost use Rattle.std.specs.Prelude.{None, Some, IfOk, OnOk, OnErr, slice_get, slice_set, option_map};
 ghost use Rattle.std.specs.Prelude.{vec_len, vec_capacity};
 ghost use Rattle.std.specs.List.{position_or_len, filter_map};
-ghost use Rattle.hx_lists.specs.Lists.{count};
-ghost use Rattle.hx_model.specs.Model.{dropped};
 ghost use Rattle.hx_cluster.specs.Ends.{part_before};
 ghost use Rattle.hx_slots.specs.Cells.{AreInOrder, with_cell, cell_with, cell_put, cell_row};
-ghost use Rattle.hx_slots.specs.Cells.{cell_in, is_full};
+ghost use Rattle.hx_slots.specs.Cells.{cell_in, row_placed};
 
+use crate::cells::Cell;
+use crate::owned::push_or_cut;
 use hx_cluster::Row;
 use hx_ids::{PartId, SessionId, StateId};
 use hx_lists::Seq;
-use hx_model::DROPPED;
 use std::alloc::{AllocError, Global};
 use std::marker::Model;
 
@@ -20,23 +19,23 @@ use std::marker::Model;
 #[derive(Drop)]
 pub(crate) struct CellRows {
     session: SessionId,
-    // A row for each cell, at DROPPED where that has no state.
-    rows: Seq<Row>,
-    // How many have one.
-    full: usize,
+    cells: Seq<Cell>,
+    // The rows of those that have a state, with room for one of each cell.
+    rows: Vec<Row>,
 }
 
 impl Model for CellRows {
-    ghost use Rattle.std.specs.Prelude.{◌≡◌, List, map};
+    ghost use Rattle.std.specs.Prelude.{◌≡◌, ◌≤◌, List, length, vec_capacity};
+    ghost use Rattle.std.specs.List.{filter_map};
     ghost use Rattle.hx_slots.specs.declared.cells.Cell.{Cell};
-    ghost use Rattle.hx_lists.specs.Lists.{count};
-    ghost use Rattle.hx_slots.specs.Cells.{cell_in, is_full, AreRowsOf};
+    ghost use Rattle.hx_slots.specs.Cells.{cell_row};
 
     ghost Value = { List Cell };
 
-    ghost view = { λ a. map cell_in a.rows };
+    ghost view = { λ a. a.cells };
 
-    ghost invariant = { λ a. AreRowsOf a.session a.rows × (a.full ≡ count is_full a.rows) };
+    ghost invariant = { λ a. (a.rows.items ≡ filter_map (cell_row a.session) a.cells)
+        × (length a.cells ≤ vec_capacity a.rows) };
 }
 
 impl CellRows {
@@ -48,30 +47,59 @@ impl CellRows {
     ) -> Result<CellRows, AllocError>
         ensures { IfOk result (λ cells. cells ≡ cell_with part None ∷ []) }
     {
-        let mut rows = Seq::new(alloc);
-        rows.push(Row {
-            session,
-            part,
-            state: DROPPED,
-        })?;
+        let rows = Vec::with_capacity(alloc, 1)?;
+        let mut cells = Seq::new(alloc);
+        cells.push(Cell { part, state: None })?;
         Ok(CellRows {
             session,
+            cells,
             rows,
-            full: 0,
         })
     }
+
+    // Puts a part's cell, which is in this place, at a state or at none.
+    fn set(&mut self, place: usize, cell: Cell)
+        requires ordered { AreInOrder self.old }
+        requires place { place
+            ≡ position_or_len (λ c. not (part_before c.part cell.part)) self.old }
+        requires part { option_map (λ c. c.part) (slice_get self.old place) ≡ Some cell.part }
+        ensures { self.new ≡ slice_set self.old place cell }
+    {
+        let Some(before) = self.cells.get(place) else {
+            unreachable!()
+        };
+        let had = before.state.is_some();
+        let row_place = place_of_row(&self.rows, cell.part);
+        put_row(&mut self.rows, row_place, had, cell.row(self.session));
+        self.cells.set(place, cell);
+    }
+}
+
+// A number for a part. Parts stand in order of it.
+fn order_of(part: PartId) -> u64
+    ensures { result ≡ part.resource.0 * 4294967296 + part.index }
+{
+    u64::from(part.resource.0) * 4_294_967_296 + u64::from(part.index)
 }
 
 // Whether a part comes before another one.
 fn is_before(part: PartId, other: PartId) -> bool
     ensures { result ≡ part_before part other }
 {
-    part.resource.0 < other.resource.0
-        || (part.resource.0 == other.resource.0 && part.index < other.index)
+    order_of(part) < order_of(other)
 }
 
-// The place of a part's row, or the one where it would stand, found by halving.
-fn place_of(rows: &[Row], part: PartId) -> usize
+// The place of a part's cell, or the one where it would stand, found by halving.
+fn place_of(cells: &[Cell], part: PartId) -> usize
+    requires { AreInOrder cells.now }
+    ensures bound { result ≤ length cells.now }
+    ensures place { result ≡ position_or_len (λ c. not (part_before c.part part)) cells.now }
+{
+    cells.partition_point(|cell| is_before(cell.part, part))
+}
+
+// The same, of its row.
+fn place_of_row(rows: &[Row], part: PartId) -> usize
     requires { AreInOrder (map cell_in rows.now) }
     ensures bound { result ≤ length rows.now }
     ensures place { result
@@ -80,66 +108,47 @@ fn place_of(rows: &[Row], part: PartId) -> usize
     rows.partition_point(|row| is_before(row.part, part))
 }
 
+// Puts a row in a place, or none there, where one stands or none yet.
+fn put_row(rows: &mut Vec<Row>, place: usize, had: bool, row: Option<Row>)
+    requires bound { place ≤ vec_len rows.old }
+    requires there { had ≡ true → place < vec_len rows.old }
+    requires room { had ≡ false → vec_len rows.old < vec_capacity rows.old }
+    ensures items { rows.new.items ≡ row_placed had row rows.old.items place }
+    ensures capacity { vec_capacity rows.new ≡ vec_capacity rows.old }
+{
+    match row {
+        Some(row) if had => rows[place] = row,
+        Some(row) => rows.insert(place, row).unwrap(),
+        None if had => {
+            rows.remove(place);
+        }
+        None => {}
+    }
+}
+
 /// Puts a cell without a state into its place.
 pub(crate) fn add_cell(cells: &mut CellRows, part: PartId) -> Result<(), AllocError>
     requires { AreInOrder cells.old }
     ensures ok { OnOk result (cells.new ≡ with_cell part cells.old) }
     ensures err { OnErr result (cells.new ≡ cells.old) }
 {
-    let place = place_of(cells.rows.as_slice(), part);
-    let row = Row {
-        session: cells.session,
-        part,
-        state: DROPPED,
-    };
-    cells.rows.insert(place, row)
-}
-
-// Puts another row in a place, and gives how many have a state then.
-fn set_row(rows: &mut Seq<Row>, place: usize, row: Row, full: usize) -> usize
-    requires place { place < length rows.old }
-    requires full { full ≡ count is_full rows.old }
-    ensures rows { rows.new ≡ slice_set rows.old place row }
-    ensures full { result ≡ count is_full rows.new }
-{
-    let Some(before) = rows.get(place) else {
-        unreachable!()
-    };
-    let had = before.state != DROPPED;
-    let has = row.state != DROPPED;
-    rows.set(place, row);
-    if had {
-        if has {
-            return full;
-        }
-        return full - 1;
-    }
-    if has {
-        if full < rows.len() {
-            return full + 1;
-        }
-        return full;
-    }
-    full
+    let place = place_of(cells.cells.as_slice(), part);
+    let room = cells.cells.len() - cells.rows.len() + 1;
+    cells.rows.reserve(room)?;
+    cells.cells.insert(place, Cell { part, state: None })
 }
 
 /// Puts the cell of a part at a state, or at none, if it is there. It takes no memory.
 pub(crate) fn put_cell(cells: &mut CellRows, part: PartId, state: Option<StateId>)
-    requires ordered { AreInOrder cells.old }
-    requires state { IfSome state (λ t. (t.0 == dropped.0) ≡ false) }
+    requires { AreInOrder cells.old }
     ensures { cells.new ≡ map (cell_put part state) cells.old }
 {
-    let place = place_of(cells.rows.as_slice(), part);
-    let Some(row) = cells.rows.get(place) else {
+    let place = place_of(cells.cells.as_slice(), part);
+    let Some(cell) = cells.cells.get(place) else {
         return;
     };
-    if row.part == part {
-        let put = Row {
-            session: cells.session,
-            part,
-            state: state.unwrap_or(DROPPED),
-        };
-        cells.full = set_row(&mut cells.rows, place, put, cells.full);
+    if cell.part == part {
+        cells.set(place, Cell { part, state });
     }
 }
 
@@ -152,39 +161,22 @@ pub(crate) fn push_cells(
     ensures ok { OnOk result (rows.new ≡ rows.old ++ filter_map (cell_row session) cells.now) }
     ensures err { OnErr result (rows.new ≡ rows.old) }
 {
-    let mut list = rows.take_all();
-    let added = add_rows(&mut list, session, cells);
-    *rows = Seq::from_vec(list);
-    added
-}
-
-// The same, to a vector. Where each cell has a state the rows are copied as they stand.
-fn add_rows(rows: &mut Vec<Row>, session: SessionId, cells: &CellRows) -> Result<(), AllocError>
-    ensures ok { OnOk result
-        (rows.new.items ≡ rows.old.items ++ filter_map (cell_row session) cells.now) }
-    ensures err { OnErr result (rows.new.items ≡ rows.old.items) }
-{
-    if cells.full == cells.rows.len() && cells.session == session {
-        rows.extend_from_slice(cells.rows.as_slice())
+    if cells.session == session {
+        rows.extend_from_slice(&cells.rows)
     } else {
-        add_each(rows, session, cells.rows.as_slice())
+        push_each(rows, session, cells.cells.as_slice())
     }
 }
 
 // The same, row by row.
-fn add_each(rows: &mut Vec<Row>, session: SessionId, cells: &[Row]) -> Result<(), AllocError>
-    ensures ok { OnOk result (rows.new.items
-        ≡ rows.old.items ++ filter_map (cell_row session) (map cell_in cells.now)) }
-    ensures err { OnErr result (rows.new.items ≡ rows.old.items) }
+fn push_each(rows: &mut Seq<Row>, session: SessionId, cells: &[Cell]) -> Result<(), AllocError>
+    ensures ok { OnOk result (rows.new ≡ rows.old ++ filter_map (cell_row session) cells.now) }
+    ensures err { OnErr result (rows.new ≡ rows.old) }
 {
-    rows.reserve(cells.len())?;
+    let before = rows.len();
     for cell in cells {
-        if cell.state != DROPPED {
-            rows.push_reserved(Row {
-                session,
-                part: cell.part,
-                state: cell.state,
-            });
+        if let Some(row) = cell.row(session) {
+            push_or_cut(rows, before, row)?;
         }
     }
     Ok(())

@@ -1,12 +1,12 @@
 //! The cells of sessions: of each slot of a session the part and the state, side by side in order
 //! of part.
-ghost use Rattle.std.specs.Prelude.{◌≡◌, ◌==◌, ◌∷◌, [], map, is_some, false};
+ghost use Rattle.std.specs.Prelude.{◌≡◌, ◌∷◌, [], map, is_some};
 ghost use Rattle.std.specs.Prelude.{None, Some, IfSome, IfOk, OnOk, OnErr, option_map, option_copied};
-ghost use Rattle.hx_model.specs.Model.{dropped};
-ghost use Rattle.hx_slots.specs.Cells.{AreInOrder, with_cell, cell_with, cell_put};
+ghost use Rattle.hx_slots.specs.Cells.{AreInOrder, with_cell, cell_with, cell_put, cell_row};
 ghost use Rattle.hx_slots.specs.Cells.{kept_of, PutsCells, KeepsCells};
 
 use crate::cell_rows::{CellRows, add_cell, put_cell};
+use hx_cluster::Row;
 use hx_ids::{PartId, SessionId, StateId};
 use std::alloc::{AllocError, Global};
 use std::collections::HashMap;
@@ -17,6 +17,19 @@ use std::marker::Model;
 pub(crate) struct Cell {
     pub(crate) part: PartId,
     pub(crate) state: Option<StateId>,
+}
+
+impl Cell {
+    /// The row that it has in a session, if it has a state.
+    pub(crate) fn row(&self, session: SessionId) -> Option<Row>
+        ensures { result ≡ cell_row session self.now }
+    {
+        Some(Row {
+            session,
+            part: self.part,
+            state: self.state?,
+        })
+    }
 }
 
 /// The cells of sessions, for each that has any kept. Contracts see the sessions in no order.
@@ -84,8 +97,7 @@ impl Cells {
 
     /// Puts the cell of a part at a state, or at none, where it is kept. It takes no memory.
     pub(crate) fn put(&mut self, session: SessionId, part: PartId, state: Option<StateId>)
-        requires ordered { IfSome (kept_of self.old session) AreInOrder }
-        requires state { IfSome state (λ t. (t.0 == dropped.0) ≡ false) }
+        requires { IfSome (kept_of self.old session) AreInOrder }
         ensures { PutsCells session (option_map (map (cell_put part state))
             (kept_of self.old session)) self.old self.new }
     {

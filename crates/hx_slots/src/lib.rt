@@ -20,7 +20,7 @@ use hx_ids::{MsgId, PartId, ResourceId, SessionId, StateId};
 use hx_lists::Seq;
 use hx_store::Store;
 use owned::{pop_owned, push_or_cut};
-use slot::{Slot, add_message, note_sent, put_at, slot_of};
+use slot::{Slot, add_message, last_message, note_sent, put_at, slot_of};
 use std::alloc::{AllocError, Global};
 use std::marker::Model;
 
@@ -84,13 +84,21 @@ impl Slots {
     pub fn message(&self, session: SessionId, part: PartId) -> Option<&Message>
         ensures { option_copied result ≡ message_of self.now.mail session part }
     {
-        let id = slot_of(&self.slots, session, part)?.sent?;
-        let (_, message) = self.mail.get(id.0)?;
-        if message.is_of(session, part) {
-            Some(message)
-        } else {
-            None
-        }
+        self.standing(session, part).1
+    }
+
+    /// The state of a session's replica, if it has a row, and its pending message. It takes no
+    /// memory.
+    #[inline(always)]
+    pub fn standing(&self, session: SessionId, part: PartId) -> (Option<StateId>, Option<&Message>)
+        ensures state { result.0 ≡ state_of self.now.rows session part }
+        ensures message { option_copied result.1 ≡ message_of self.now.mail session part }
+    {
+        let Some(slot) = slot_of(&self.slots, session, part) else {
+            return (None, None);
+        };
+        let message = last_message(&self.mail, session, part, slot.sent);
+        (slot.state, message)
     }
 
     /// A session's pending message by number. It takes no memory.
@@ -239,13 +247,7 @@ impl Slots {
         ensures mail { self.new.mail
             ≡ map (as_written message.now.session message.now.id) self.old.mail }
     {
-        let had = put_at(
-            &mut self.slots,
-            &mut self.cells,
-            message.session,
-            message.part,
-            state,
-        );
+        let had = put_at(&mut self.slots, &mut self.cells, message, state);
         self.changes += 1;
         let written = Message {
             written: true,

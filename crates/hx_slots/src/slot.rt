@@ -1,13 +1,13 @@
 //! Slots, their keys, and changes of single slots and messages.
 ghost use Rattle.std.specs.Prelude.{◌≡◌, ◌==◌, ◌&&◌, None, Some, is_some, IsSome, MatchOption};
-ghost use Rattle.std.specs.Prelude.{OnOk, OnErr, option_map};
+ghost use Rattle.std.specs.Prelude.{OnOk, OnErr, option_copied, option_map};
 ghost use Rattle.std.specs.Map.{keys_of};
 ghost use Rattle.std.specs.List.Sorted.{IsStrictlySortedBy};
 ghost use Rattle.std.specs.Ordering.{nat_cmp};
 ghost use Rattle.hx_store.specs.Records.{record_at, created};
 ghost use Rattle.hx_store.specs.Refusals.{CanChange};
 ghost use Rattle.hx_slots.specs.Slots.{IsPlaced, slot_key, row_of as row_of_slot};
-ghost use Rattle.hx_slots.specs.Slots.{IsSlotOf, sent_at, put_at as put_at_of};
+ghost use Rattle.hx_slots.specs.Slots.{IsSlotOf, sent_at, sent_last, by_sent, put_at as put_at_of};
 ghost use Rattle.hx_slots.specs.Mirror.{AreMirrored, AreAllSlots, IsNoted};
 
 use crate::cells::Cells;
@@ -152,42 +152,69 @@ pub(crate) fn note_sent(
     Ok(())
 }
 
-/// Puts a replica whose slot is there at a state, or nowhere for DROPPED, and gives the state that
-/// it had, if any. It takes no memory.
+/// Puts the replica of the message that its slot was sent last at a state, or nowhere for DROPPED,
+/// and gives the state that it had, if any. It takes no memory.
 pub(crate) fn put_at(
     slots: &mut Store<Slot>,
     cells: &mut Cells,
-    session: SessionId,
-    part: PartId,
+    message: &Message,
     state: StateId,
 ) -> Option<StateId>
     requires slots { AreAllSlots slots.old }
     requires mirrored { AreMirrored slots.old cells.old }
-    requires placed { IsPlaced session part }
-    requires there { IsSome (record_at slots.old (slot_key session part)) }
-    requires room { CanChange (record_at slots.old (slot_key session part)) }
+    requires placed { IsPlaced message.now.session message.now.part }
+    requires sent { sent_last (record_at slots.old (slot_key message.now.session message.now.part))
+        ≡ Some message.now.id }
+    requires room { CanChange
+        (record_at slots.old (slot_key message.now.session message.now.part)) }
     ensures ordered { IsStrictlySortedBy nat_cmp (keys_of slots.old) }
-    ensures had { option_map (λ r. r.value.state) (record_at slots.old (slot_key session part))
-        ≡ Some result }
-    ensures slots { slots.new ≡ put_at_of slots.old (slot_key session part) session part state }
+    ensures had { option_map (λ r. r.value.state)
+        (record_at slots.old (slot_key message.now.session message.now.part)) ≡ Some result }
+    ensures slots { slots.new
+        ≡ put_at_of slots.old (slot_key message.now.session message.now.part)
+        message.now.session message.now.part state }
     ensures mirrored { AreMirrored slots.new cells.new }
 {
+    let Message {
+        id,
+        session,
+        part,
+        ..
+    } = *message;
     let Some(key) = key_of(session, part) else {
         unreachable!()
     };
-    let Some((_, slot)) = slots.get(key) else {
-        unreachable!()
-    };
-    let had = slot.state;
     let put = Slot {
         session,
         part,
         state: if state == DROPPED { None } else { Some(state) },
-        sent: slot.sent,
+        sent: Some(id),
+    };
+    let Some(before) = slots.replace(key, put) else {
+        unreachable!()
     };
     cells.put(session, part, put.state);
-    slots.replace(key, put);
-    had
+    before.state
+}
+
+/// The message that was sent last to a session's part, if it is still pending. It takes no memory.
+/// The keys of all records rise.
+#[inline(always)]
+pub(crate) fn last_message(
+    mail: &Store<Message>,
+    session: SessionId,
+    part: PartId,
+    sent: Option<MsgId>,
+) -> Option<&Message>
+    ensures message { option_copied result ≡ by_sent mail.now session part sent }
+    ensures ordered { IsSome sent → IsStrictlySortedBy nat_cmp (keys_of mail.now) }
+{
+    let (_, message) = mail.get(sent?.0)?;
+    if message.is_of(session, part) {
+        Some(message)
+    } else {
+        None
+    }
 }
 
 /// Adds a message. One whose number is taken is answered as want of memory.

@@ -4,7 +4,7 @@ use Rattle.hx_slots.specs.Slots.{slot_key}
 use Rattle.hx_cluster.specs.Ends.{state_of}
 use Rattle.hx_cluster.specs.Messages.{has_id, row_put}
 use Rattle.hx_slots.proofs.RowsOf.{state_had}
-use Rattle.hx_slots.proofs.Calls.{slot_room, message_placed, message_slot, mail_room, marked_mail, written_kept, written_rows}
+use Rattle.hx_slots.proofs.Calls.{slot_room, message_placed, message_sent, mail_room, marked_mail, written_kept, written_rows}
 use Rattle.hx_slots.proofs.Slots.write.Goals as goal
 
 pub put_at-had-requires-clause-slots : goal.put_at-had-requires-clause-slots
@@ -15,10 +15,10 @@ put_at-had-requires-clause-placed c =
     let m = c.args.message.now in
     message_placed c.self.inside.slots m (has_id m.session m.id) c.self.inside.mail c.self.invariant.0.each_message (ap (λ (x : Kept). find (has_id m.session m.id) x.mail) c.self.view_is ∙ c.requires.pending)
 
-pub put_at-had-requires-clause-there : goal.put_at-had-requires-clause-there
-put_at-had-requires-clause-there c =
+pub put_at-had-requires-clause-sent : goal.put_at-had-requires-clause-sent
+put_at-had-requires-clause-sent c =
     let m = c.args.message.now in
-    message_slot c.self.inside.slots m (has_id m.session m.id) c.self.inside.mail c.self.invariant.0.each_message (ap (λ (x : Kept). find (has_id m.session m.id) x.mail) c.self.view_is ∙ c.requires.pending)
+    message_sent c.self.inside.slots m (has_id m.session m.id) c.self.inside.mail c.self.invariant.0.each_message (ap (λ (x : Kept). find (has_id m.session m.id) x.mail) c.self.view_is ∙ c.requires.pending)
 
 pub put_at-had-requires-clause-room : goal.put_at-had-requires-clause-room
 put_at-had-requires-clause-room c =

@@ -3,8 +3,8 @@ use Rattle.hx_slots.specs.Cells.{cell_put}
 use Rattle.hx_slots.proofs.Mirroring.{in_order, written}
 use Rattle.hx_slots.proofs.cells.Cells.put.Goals as goal
 
-pub put_cell-requires-clause-ordered : goal.put_cell-requires-clause-ordered
-put_cell-requires-clause-ordered c = in_order c.args.session c.in-Some.cells.now c.self.inside.lists.entries c.args.self.now c.self.view_is c.in-Some.ensures.value c.requires.ordered
+pub put_cell-requires : goal.put_cell-requires
+put_cell-requires c = in_order c.args.session c.in-Some.cells.now c.self.inside.lists.entries c.args.self.now c.self.view_is c.in-Some.ensures.value c.requires
 
 pub returns : goal.returns
 returns c =
