@@ -1,5 +1,5 @@
 -- What columns that fit are counted by.
-use Rattle.std.proofs.Common.{◌≡◌, ℕ, ◌+◌, ◌*◌, ◌≤◌, List, [], ◌∷◌, length, take, drop, ap, ◌∙◌, arith, add-mul}
+use Rattle.std.proofs.Common.{◌≡◌, ℕ, zero, suc, ◌+◌, ◌*◌, ◌≤◌, Bool, List, [], ◌∷◌, length, take, drop, refl, ap, ◌∙◌, arith, add-mul}
 use Rattle.std.specs.Prelude.{option_to_list, slice_index, None, Some}
 use Rattle.std.specs.List.{sum_by}
 use Rattle.std.proofs.lemmas.List.Sums.{sum_by-cons, sum_by-append}
@@ -12,6 +12,17 @@ use Rattle.hx_history.specs.declared.kinds.Kind.TheVariants as kinds
 use Rattle.hx_history.specs.Columns.{words_of, kept_of, controller, begun, event_of, events_of, Fit}
 use Rattle.hx_history.specs.Counted.{is_write_of, CountsWrites, IsCountedBy}
 use Rattle.hx_history.proofs.Columns.{fits_on}
+
+-- how many kinds pass a test, in two parts
+pub count-split : (test : Kind → Bool) (n : ℕ) (ks : List Kind) → count test (take n ks) + count test (drop n ks) ≡ count test ks
+count-split test zero ks = omega arith
+count-split test (suc n) [] = refl
+count-split test (suc n) (k ∷ ks) = grind (arith, count-split test n ks)
+
+-- those are at most all
+pub count-le : (test : Kind → Bool) (ks : List Kind) → count test ks ≤ length ks
+count-le test [] = omega arith
+count-le test (k ∷ ks) = grind (arith, count-le test ks)
 
 -- what an event of a kind counts for, where words tell it
 abbrev weight : ℕ → ℕ → Kind → ℕ

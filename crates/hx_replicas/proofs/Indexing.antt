@@ -17,12 +17,10 @@ use Rattle.hx_replicas.specs.declared.queue.Waiting.{Waiting}
 use Rattle.hx_replicas.specs.declared.slots.Slot.{Slot}
 use Rattle.hx_replicas.specs.declared.slots.Work.{Work}
 use Rattle.hx_replicas.specs.declared.slots.Work.TheVariants.{Idle, Accepted, Out}
-use Rattle.hx_replicas.specs.declared.indexed.Found.{Found}
-use Rattle.hx_replicas.specs.declared.indexed.Found.TheVariants.{Alone, Several}
 use Rattle.hx_replicas.specs.declared.indexed.Indexed.{Indexed}
 use Rattle.hx_replicas.specs.Participants.{accepted_of, has_accepted}
 use Rattle.hx_replicas.specs.Layout.{has_part, has_number, taken, fresh, sent_out, wiped}
-use Rattle.hx_replicas.specs.Indexes.{alter, waits_in, waits_of, is_of, is_waiting, number_eq, Tells, noted, forgotten, AreWaiting, IsIndexed, HasRoom}
+use Rattle.hx_replicas.specs.Indexes.{alter, waits_in, waits_of, is_of, is_waiting, number_eq, Tells, AreWaiting, IsIndexed, HasRoom}
 use Rattle.hx_replicas.proofs.Parts.{part_same}
 use Rattle.hx_replicas.proofs.Queues.{Entries, count-none}
 use Rattle.hx_replicas.proofs.Altering.{only-one, stands-some, past, length-alter, get-alter, count-alter, get-push, get-map, count-push, count-le, position-none, position-only, position-alter, position-map, position-push_other, position-push}
@@ -276,24 +274,22 @@ module _ {H : Type 0} where
       by_test false at x stood becomes = let is : y ≡ x = rw at at becomes in (x, stood, ap (has_number id) is)
 
   -- a slot changes and has accepted the number as it had
-  tells-alter : (id : MsgId) (f : Option Found) (g : Slot H → Slot H) (i : ℕ) (xs : List (Slot H)) → ((x : Slot H) → slice_get xs i ≡ Some x → has_number id (g x) ≡ has_number id x) → Tells id f xs → Tells id f (alter g i xs)
+  tells-alter : (id : MsgId) (f : Option ℕ) (g : Slot H → Slot H) (i : ℕ) (xs : List (Slot H)) → ((x : Slot H) → slice_get xs i ≡ Some x → has_number id (g x) ≡ has_number id x) → Tells id f xs → Tells id f (alter g i xs)
   tells-alter id None g i xs same was = λ j y e. let k = number_kept id g i j xs y same e in k.2 ∙ was j k.0 k.1
-  tells-alter id (Some (Alone p)) g i xs same was = (rw (length-alter g i xs) was.0, λ j y e. let k = number_kept id g i j xs y same e in k.2 ∙ was.1 j k.0 k.1)
-  tells-alter id (Some Several) g i xs same was = tt
+  tells-alter id (Some p) g i xs same was = (rw (length-alter g i xs) was.0, λ j y e. let k = number_kept id g i j xs y same e in k.2 ∙ was.1 j k.0 k.1)
 
   -- one slot more has accepted it
-  tells-one : (id : MsgId) (f : Option Found) (g : Slot H → Slot H) (i : ℕ) (xs : List (Slot H)) → i < length xs → ((x : Slot H) → has_number id (g x) ≡ true) → Tells id f xs → Tells id (Some (noted i f)) (alter g i xs)
-  tells-one id None g i xs lt on was = (rw (length-alter g i xs) lt, λ j y e. let w = was_at g i j xs y e in by_test j y (i == j) refl w.x w.stood w.becomes)
+  tells-one : (id : MsgId) (g : Slot H → Slot H) (i : ℕ) (xs : List (Slot H)) → i < length xs → ((x : Slot H) → has_number id (g x) ≡ true) → Tells id None xs → Tells id (Some i) (alter g i xs)
+  tells-one id g i xs lt on was = (rw (length-alter g i xs) lt, λ j y e. let w = was_at g i j xs y e in by_test j y (i == j) refl w.x w.stood w.becomes)
     where
       by_test : (j : ℕ) (y : Slot H) (b : Bool) → (i == j) ≡ b → (x : Slot H) → slice_get xs j ≡ Some x → y ≡ (if i == j then g x else x) → has_number id y ≡ (i == j)
       by_test j y true at x stood becomes = let is : y ≡ g x = rw at at becomes in ap (has_number id) is ∙ on x ∙ sym at
       by_test j y false at x stood becomes = let is : y ≡ x = rw at at becomes in ap (has_number id) is ∙ was j x stood ∙ sym at
-  tells-one id (Some found) g i xs lt on was = tt
 
   -- the slot that has accepted it has not any more
-  tells-gone : (id : MsgId) (f : Option Found) (g : Slot H → Slot H) (i : ℕ) (x : Slot H) (xs : List (Slot H)) → slice_get xs i ≡ Some x → has_number id x ≡ true → ((x : Slot H) → has_number id (g x) ≡ false) → Tells id f xs → Tells id (forgotten f) (alter g i xs)
+  tells-gone : (id : MsgId) (f : Option ℕ) (g : Slot H → Slot H) (i : ℕ) (x : Slot H) (xs : List (Slot H)) → slice_get xs i ≡ Some x → has_number id x ≡ true → ((x : Slot H) → has_number id (g x) ≡ false) → Tells id f xs → Tells id None (alter g i xs)
   tells-gone id None g i x xs is on off was = absurd (let no = was i x is in cc)
-  tells-gone id (Some (Alone p)) g i x xs is on off was = λ j y e. let w = was_at g i j xs y e in by_test j y (i == j) refl w.x w.stood w.becomes
+  tells-gone id (Some p) g i x xs is on off was = λ j y e. let w = was_at g i j xs y e in by_test j y (i == j) refl w.x w.stood w.becomes
     where
       here : p ≡ i
       here = eqb-true p i (sym (was.1 i x is) ∙ on)
@@ -301,7 +297,6 @@ module _ {H : Type 0} where
       by_test : (j : ℕ) (y : Slot H) (b : Bool) → (i == j) ≡ b → (z : Slot H) → slice_get xs j ≡ Some z → y ≡ (if i == j then g z else z) → has_number id y ≡ false
       by_test j y true at z stood becomes = let same : y ≡ g z = rw at at becomes in ap (has_number id) same ∙ off z
       by_test j y false at z stood becomes = let same : y ≡ z = rw at at becomes in ap (has_number id) same ∙ was.1 j z stood ∙ ap (λ (k : ℕ). k == j) here ∙ at
-  tells-gone id (Some Several) g i x xs is on off was = tt
 
   -- a new slot
   pushed_at : (xs : List (Slot H)) (y z : Slot H) (j : ℕ) (b : Bool) → (length xs == j) ≡ b → slice_get (xs ++ y ∷ []) j ≡ Some z → (if b then Some y else slice_get xs j) ≡ Some z
@@ -311,13 +306,13 @@ module _ {H : Type 0} where
   length-push [] y = refl
   length-push (x ∷ xs) y = omega (arith, length-push xs y)
 
-  tells-push_other : (id : MsgId) (f : Option Found) (xs : List (Slot H)) (y : Slot H) → has_number id y ≡ false → Tells id f xs → Tells id f (xs ++ y ∷ [])
+  tells-push_other : (id : MsgId) (f : Option ℕ) (xs : List (Slot H)) (y : Slot H) → has_number id y ≡ false → Tells id f xs → Tells id f (xs ++ y ∷ [])
   tells-push_other id None xs y off was = λ j z e. by_test j z (length xs == j) refl e
     where
       by_test : (j : ℕ) (z : Slot H) (b : Bool) → (length xs == j) ≡ b → slice_get (xs ++ y ∷ []) j ≡ Some z → has_number id z ≡ false
       by_test j z true at e = let same : Some y ≡ Some z = pushed_at xs y z j true at e in let is : z ≡ y = cc in ap (has_number id) is ∙ off
       by_test j z false at e = was j z (pushed_at xs y z j false at e)
-  tells-push_other id (Some (Alone p)) xs y off was = (omega (arith, was.0, length-push xs y), λ j z e. by_test j z (length xs == j) refl e)
+  tells-push_other id (Some p) xs y off was = (omega (arith, was.0, length-push xs y), λ j z e. by_test j z (length xs == j) refl e)
     where
       by_test : (j : ℕ) (z : Slot H) (b : Bool) → (length xs == j) ≡ b → slice_get (xs ++ y ∷ []) j ≡ Some z → has_number id z ≡ (p == j)
       by_test j z true at e =
@@ -326,25 +321,18 @@ module _ {H : Type 0} where
           let apart : (p == j) ≡ false = grind (arith, nat_tests, was.0, at) in
           ap (has_number id) is ∙ off ∙ sym apart
       by_test j z false at e = was.1 j z (pushed_at xs y z j false at e)
-  tells-push_other id (Some Several) xs y off was = tt
 
-  tells-push : (id : MsgId) (f : Option Found) (xs : List (Slot H)) (y : Slot H) → has_number id y ≡ true → Tells id f xs → Tells id (Some (noted (length xs) f)) (xs ++ y ∷ [])
-  tells-push id None xs y on was = (omega (arith, length-push xs y), λ j z e. by_test j z (length xs == j) refl e)
+  tells-push : (id : MsgId) (xs : List (Slot H)) (y : Slot H) → has_number id y ≡ true → Tells id None xs → Tells id (Some (length xs)) (xs ++ y ∷ [])
+  tells-push id xs y on was = (omega (arith, length-push xs y), λ j z e. by_test j z (length xs == j) refl e)
     where
       by_test : (j : ℕ) (z : Slot H) (b : Bool) → (length xs == j) ≡ b → slice_get (xs ++ y ∷ []) j ≡ Some z → has_number id z ≡ (length xs == j)
       by_test j z true at e = let same : Some y ≡ Some z = pushed_at xs y z j true at e in let is : z ≡ y = cc in ap (has_number id) is ∙ on ∙ sym at
       by_test j z false at e = was j z (pushed_at xs y z j false at e) ∙ sym at
-  tells-push id (Some found) xs y on was = tt
 
   -- what the note of a number says of the search
-  pub place_none : (id : MsgId) (f : Option Found) (xs : List (Slot H)) → f ≡ None → Tells id f xs → position (has_number id) xs ≡ None
-  place_none id None xs e was = position-none (has_number id) xs was
-  place_none id (Some found) xs e was = absurd (cc)
-
-  pub place_alone : (id : MsgId) (f : Option Found) (p : ℕ) (xs : List (Slot H)) → f ≡ Some (Alone p) → Tells id f xs → position (has_number id) xs ≡ Some p
-  place_alone id None p xs e was = absurd (cc)
-  place_alone id (Some Several) p xs e was = absurd (cc)
-  place_alone id (Some (Alone q)) p xs e was = let same : q ≡ p = cc in position-only (has_number id) xs q was.0 was.1 ∙ ap (λ k. Some k) same
+  pub place_told : (id : MsgId) (f : Option ℕ) (xs : List (Slot H)) → Tells id f xs → f ≡ position (has_number id) xs
+  place_told id None xs was = sym (position-none (has_number id) xs was)
+  place_told id (Some p) xs was = sym (position-only (has_number id) xs p was.0 was.1)
 
   idle_number : (id : MsgId) (x : Slot H) → x.work ≡ Idle → has_number id x ≡ false
   idle_number id x e = rw e refl
@@ -352,46 +340,49 @@ module _ {H : Type 0} where
   accepted_number : (id : MsgId) (x : Slot H) (m : Message) → x.work ≡ Accepted m → has_number id x ≡ (m.id.0 == id.0)
   accepted_number id x m e = rw e refl
 
-  module _ (fs gs : MsgId → Option Found) (xs : List (Slot H)) (was : (q : MsgId) → Tells q (fs q) xs) where
-    numbers-accept : (i : ℕ) (m : Message) (n : Node) → i < length xs → ((x : Slot H) → slice_get xs i ≡ Some x → x.work ≡ Idle) → ((q : MsgId) → gs q ≡ (if m.id.0 == q.0 then Some (noted i (fs m.id)) else fs q)) → (q : MsgId) → Tells q (gs q) (alter (taken m n) i xs)
-    numbers-accept i m n lt idle gets q = by_test (m.id.0 == q.0) refl
+  module _ (fs gs : MsgId → Option ℕ) (xs : List (Slot H)) (was : (q : MsgId) → Tells q (fs q) xs) where
+    none_yet : (m : Message) (q : MsgId) → (m.id.0 == q.0) ≡ true → fs m.id ≡ None → Tells q None xs
+    none_yet m q e first = subst (λ (f : Option ℕ). Tells q f xs) (ap fs (sym (same_number m.id q e)) ∙ first) (was q)
+
+    numbers-accept : (i : ℕ) (m : Message) (n : Node) → i < length xs → ((x : Slot H) → slice_get xs i ≡ Some x → x.work ≡ Idle) → fs m.id ≡ None → ((q : MsgId) → gs q ≡ (if m.id.0 == q.0 then Some i else fs q)) → (q : MsgId) → Tells q (gs q) (alter (taken m n) i xs)
+    numbers-accept i m n lt idle first gets q = by_test (m.id.0 == q.0) refl
       where
         by_test : (b : Bool) → (m.id.0 == q.0) ≡ b → Tells q (gs q) (alter (taken m n) i xs)
         by_test true e =
-            let is : gs q ≡ Some (noted i (fs q)) = gets q ∙ rw e refl ∙ ap (λ (k : MsgId). Some (noted i (fs k))) (same_number m.id q e) in
-            subst (λ (f : Option Found). Tells q f (alter (taken m n) i xs)) (sym is) (tells-one q (fs q) (taken m n) i xs lt (λ x. e) (was q))
+            let is : gs q ≡ Some i = gets q ∙ rw e refl in
+            subst (λ (f : Option ℕ). Tells q f (alter (taken m n) i xs)) (sym is) (tells-one q (taken m n) i xs lt (λ x. e) (none_yet m q e first))
         by_test false e =
             let is : gs q ≡ fs q = gets q ∙ rw e refl in
-            subst (λ (f : Option Found). Tells q f (alter (taken m n) i xs)) (sym is) (tells-alter q (fs q) (taken m n) i xs (λ x at. e ∙ sym (idle_number q x (idle x at))) (was q))
+            subst (λ (f : Option ℕ). Tells q f (alter (taken m n) i xs)) (sym is) (tells-alter q (fs q) (taken m n) i xs (λ x at. e ∙ sym (idle_number q x (idle x at))) (was q))
 
-    numbers-fresh : (m : Message) (n : Node) → ((q : MsgId) → gs q ≡ (if m.id.0 == q.0 then Some (noted (length xs) (fs m.id)) else fs q)) → (q : MsgId) → Tells q (gs q) (xs ++ fresh m n ∷ [])
-    numbers-fresh m n gets q = by_test (m.id.0 == q.0) refl
+    numbers-fresh : (m : Message) (n : Node) → fs m.id ≡ None → ((q : MsgId) → gs q ≡ (if m.id.0 == q.0 then Some (length xs) else fs q)) → (q : MsgId) → Tells q (gs q) (xs ++ fresh m n ∷ [])
+    numbers-fresh m n first gets q = by_test (m.id.0 == q.0) refl
       where
         by_test : (b : Bool) → (m.id.0 == q.0) ≡ b → Tells q (gs q) (xs ++ fresh m n ∷ [])
         by_test true e =
-            let is : gs q ≡ Some (noted (length xs) (fs q)) = gets q ∙ rw e refl ∙ ap (λ (k : MsgId). Some (noted (length xs) (fs k))) (same_number m.id q e) in
-            subst (λ (f : Option Found). Tells q f (xs ++ fresh m n ∷ [])) (sym is) (tells-push q (fs q) xs (fresh m n) e (was q))
+            let is : gs q ≡ Some (length xs) = gets q ∙ rw e refl in
+            subst (λ (f : Option ℕ). Tells q f (xs ++ fresh m n ∷ [])) (sym is) (tells-push q xs (fresh m n) e (none_yet m q e first))
         by_test false e =
             let is : gs q ≡ fs q = gets q ∙ rw e refl in
-            subst (λ (f : Option Found). Tells q f (xs ++ fresh m n ∷ [])) (sym is) (tells-push_other q (fs q) xs (fresh m n) e (was q))
+            subst (λ (f : Option ℕ). Tells q f (xs ++ fresh m n ∷ [])) (sym is) (tells-push_other q (fs q) xs (fresh m n) e (was q))
 
-    numbers-send : (i : ℕ) (x : Slot H) (m : Message) → slice_get xs i ≡ Some x → x.work ≡ Accepted m → ((q : MsgId) → gs q ≡ (if m.id.0 == q.0 then forgotten (fs m.id) else fs q)) → (q : MsgId) → Tells q (gs q) (alter (λ y. sent_out y m) i xs)
+    numbers-send : (i : ℕ) (x : Slot H) (m : Message) → slice_get xs i ≡ Some x → x.work ≡ Accepted m → ((q : MsgId) → gs q ≡ (if m.id.0 == q.0 then None else fs q)) → (q : MsgId) → Tells q (gs q) (alter (λ y. sent_out y m) i xs)
     numbers-send i x m at work gets q = by_test (m.id.0 == q.0) refl
       where
         by_test : (b : Bool) → (m.id.0 == q.0) ≡ b → Tells q (gs q) (alter (λ y. sent_out y m) i xs)
         by_test true e =
-            let is : gs q ≡ forgotten (fs q) = gets q ∙ rw e refl ∙ ap (λ (k : MsgId). forgotten (fs k)) (same_number m.id q e) in
-            subst (λ (f : Option Found). Tells q f (alter (λ y. sent_out y m) i xs)) (sym is) (tells-gone q (fs q) (λ y. sent_out y m) i x xs at (accepted_number q x m work ∙ e) (λ y. refl) (was q))
+            let is : gs q ≡ None = gets q ∙ rw e refl in
+            subst (λ (f : Option ℕ). Tells q f (alter (λ y. sent_out y m) i xs)) (sym is) (tells-gone q (fs q) (λ y. sent_out y m) i x xs at (accepted_number q x m work ∙ e) (λ y. refl) (was q))
         by_test false e =
             let is : gs q ≡ fs q = gets q ∙ rw e refl in
             let still : (y : Slot H) → slice_get xs i ≡ Some y → has_number q (sent_out y m) ≡ has_number q y = λ y stood. sym (ap (has_number q) (only-one (slice_get xs i) x y at stood) ∙ accepted_number q x m work ∙ e) in
-            subst (λ (f : Option Found). Tells q f (alter (λ y. sent_out y m) i xs)) (sym is) (tells-alter q (fs q) (λ y. sent_out y m) i xs still (was q))
+            subst (λ (f : Option ℕ). Tells q f (alter (λ y. sent_out y m) i xs)) (sym is) (tells-alter q (fs q) (λ y. sent_out y m) i xs still (was q))
 
-  numbers-same : (fs : MsgId → Option Found) (xs : List (Slot H)) → ((q : MsgId) → Tells q (fs q) xs) → (i : ℕ) (x y : Slot H) → slice_get xs i ≡ Some x → accepted_of y.work ≡ accepted_of x.work → (q : MsgId) → Tells q (fs q) (alter (λ z. y) i xs)
+  numbers-same : (fs : MsgId → Option ℕ) (xs : List (Slot H)) → ((q : MsgId) → Tells q (fs q) xs) → (i : ℕ) (x y : Slot H) → slice_get xs i ≡ Some x → accepted_of y.work ≡ accepted_of x.work → (q : MsgId) → Tells q (fs q) (alter (λ z. y) i xs)
   numbers-same fs xs was i x y at work q = tells-alter q (fs q) (λ z. y) i xs (λ z stood. number_same q y.work x.work work ∙ sym (ap (has_number q) (only-one (slice_get xs i) x z at stood))) (was q)
 
-  numbers-wiped : (fs : MsgId → Option Found) (xs : List (Slot H)) → ((q : MsgId) → fs q ≡ None) → (q : MsgId) → Tells q (fs q) (map wiped xs)
-  numbers-wiped fs xs none q = subst (λ (f : Option Found). Tells q f (map wiped xs)) (sym (none q)) all
+  numbers-wiped : (fs : MsgId → Option ℕ) (xs : List (Slot H)) → ((q : MsgId) → fs q ≡ None) → (q : MsgId) → Tells q (fs q) (map wiped xs)
+  numbers-wiped fs xs none q = subst (λ (f : Option ℕ). Tells q f (map wiped xs)) (sym (none q)) all
     where
       by_case : (j : ℕ) (x : Slot H) (o : Option (Slot H)) → slice_get xs j ≡ o → slice_get (map wiped xs) j ≡ Some x → has_number q x ≡ false
       by_case j x None is e = let none : slice_get (map wiped xs) j ≡ None = get-map wiped xs j ∙ rw is refl in absurd (let both : None ≡ Some x = sym none ∙ e in cc)
@@ -413,44 +404,44 @@ module _ {H : Type 0} where
 -- slots stay indexed
 module _ {H : Type 0} (s t : Indexed H) (was : IsIndexed s) where
   pub indexed-accept : (i : ℕ) (m : Message) (n : Node) → i < length s.items.items → ((x : Slot H) → slice_get s.items.items i ≡ Some x → x.work ≡ Idle) → t.items.items ≡ alter (taken m n) i s.items.items
-      → t.queue.entries ≡ s.queue.entries ++ (n, record { place = i; message = m }) ∷ [] → ((p : PartId) → get part_eq t.places p ≡ get part_eq s.places p) → ((q : MsgId) → get number_eq t.numbers q ≡ (if m.id.0 == q.0 then Some (noted i (get number_eq s.numbers m.id)) else get number_eq s.numbers q)) → IsIndexed t
-  indexed-accept i m n lt idle items entries places numbers = record {
+      → t.queue.entries ≡ s.queue.entries ++ (n, record { place = i; message = m }) ∷ [] → ((p : PartId) → get part_eq t.places p ≡ get part_eq s.places p) → (t.repeats ≡ false → (s.repeats ≡ false) × (get number_eq s.numbers m.id ≡ None)) → ((q : MsgId) → get number_eq t.numbers q ≡ (if m.id.0 == q.0 then Some i else get number_eq s.numbers q)) → IsIndexed t
+  indexed-accept i m n lt idle items entries places first numbers = record {
     queue = rw (items, entries) (waits-accept s.queue.entries s.items.items i m n lt idle was.queue);
     places = λ p. places p ∙ was.places p ∙ sym (position-alter (has_part p) (taken m n) s.items.items i (λ x e. refl)) ∙ sym (ap (position (has_part p)) items);
-    numbers = rw items (numbers-accept (get number_eq s.numbers) (get number_eq t.numbers) s.items.items was.numbers i m n lt idle numbers);
+    numbers = λ clear. rw items (let one = first clear in numbers-accept (get number_eq s.numbers) (get number_eq t.numbers) s.items.items (was.numbers one.0) i m n lt idle one.1 numbers);
   }
 
   pub indexed-fresh : (m : Message) (n : Node) → position (has_part m.part) s.items.items ≡ None → t.items.items ≡ s.items.items ++ fresh m n ∷ []
       → t.queue.entries ≡ s.queue.entries ++ (n, record { place = length s.items.items; message = m }) ∷ [] → ((p : PartId) → get part_eq t.places p ≡ cond (part_eq m.part p) (Some (length s.items.items)) (get part_eq s.places p))
-      → ((q : MsgId) → get number_eq t.numbers q ≡ (if m.id.0 == q.0 then Some (noted (length s.items.items) (get number_eq s.numbers m.id)) else get number_eq s.numbers q)) → IsIndexed t
-  indexed-fresh m n new items entries places numbers = record {
+      → (t.repeats ≡ false → (s.repeats ≡ false) × (get number_eq s.numbers m.id ≡ None)) → ((q : MsgId) → get number_eq t.numbers q ≡ (if m.id.0 == q.0 then Some (length s.items.items) else get number_eq s.numbers q)) → IsIndexed t
+  indexed-fresh m n new items entries places first numbers = record {
     queue = rw (items, entries) (waits-fresh s.queue.entries s.items.items m n was.queue);
     places = rw items (places-fresh (get part_eq s.places) (get part_eq t.places) s.items.items m n was.places new places);
-    numbers = rw items (numbers-fresh (get number_eq s.numbers) (get number_eq t.numbers) s.items.items was.numbers m n numbers);
+    numbers = λ clear. rw items (let one = first clear in numbers-fresh (get number_eq s.numbers) (get number_eq t.numbers) s.items.items (was.numbers one.0) m n one.1 numbers);
   }
 
   pub indexed-send : (i : ℕ) (x : Slot H) (m : Message) → NodesOnce s.queue.entries → slice_get s.items.items i ≡ Some x → x.work ≡ Accepted m → t.items.items ≡ alter (λ y. sent_out y m) i s.items.items
-      → t.queue.entries ≡ without x.node s.queue.entries → ((p : PartId) → get part_eq t.places p ≡ get part_eq s.places p) → ((q : MsgId) → get number_eq t.numbers q ≡ (if m.id.0 == q.0 then forgotten (get number_eq s.numbers m.id) else get number_eq s.numbers q)) → IsIndexed t
-  indexed-send i x m once at work items entries places numbers = record {
+      → t.queue.entries ≡ without x.node s.queue.entries → ((p : PartId) → get part_eq t.places p ≡ get part_eq s.places p) → t.repeats ≡ s.repeats → ((q : MsgId) → get number_eq t.numbers q ≡ (if m.id.0 == q.0 then None else get number_eq s.numbers q)) → IsIndexed t
+  indexed-send i x m once at work items entries places repeats numbers = record {
     queue = rw (items, entries) (waits-send s.queue.entries s.items.items i x m once at work was.queue);
     places = λ p. places p ∙ was.places p ∙ sym (position-alter (has_part p) (λ y. sent_out y m) s.items.items i (λ y e. refl)) ∙ sym (ap (position (has_part p)) items);
-    numbers = rw items (numbers-send (get number_eq s.numbers) (get number_eq t.numbers) s.items.items was.numbers i x m at work numbers);
+    numbers = λ clear. rw items (numbers-send (get number_eq s.numbers) (get number_eq t.numbers) s.items.items (was.numbers (sym repeats ∙ clear)) i x m at work numbers);
   }
 
   -- a slot changes, but not its part and what it has accepted
   pub indexed-same : (i : ℕ) (x y : Slot H) → slice_get s.items.items i ≡ Some x → y.part ≡ x.part → y.node ≡ x.node → accepted_of y.work ≡ accepted_of x.work → t.items.items ≡ alter (λ z. y) i s.items.items
-      → t.queue.entries ≡ s.queue.entries → ((p : PartId) → get part_eq t.places p ≡ get part_eq s.places p) → ((q : MsgId) → get number_eq t.numbers q ≡ get number_eq s.numbers q) → IsIndexed t
-  indexed-same i x y at part node work items entries places numbers = record {
+      → t.queue.entries ≡ s.queue.entries → ((p : PartId) → get part_eq t.places p ≡ get part_eq s.places p) → t.repeats ≡ s.repeats → ((q : MsgId) → get number_eq t.numbers q ≡ get number_eq s.numbers q) → IsIndexed t
+  indexed-same i x y at part node work items entries places repeats numbers = record {
     queue = rw (items, entries) (waits-same s.queue.entries s.items.items i x y at node work was.queue);
     places = λ p. places p ∙ was.places p ∙ sym (position-alter (has_part p) (λ z. y) s.items.items i (λ z e. ap (λ (r : PartId). part_eq r p) (part ∙ sym (ap (λ (w : Slot H). w.part) (only-one (slice_get s.items.items i) x z at e))))) ∙ sym (ap (position (has_part p)) items);
-    numbers = λ q. subst (λ (f : Option Found). Tells q f t.items.items) (sym (numbers q)) (rw items (numbers-same (get number_eq s.numbers) s.items.items was.numbers i x y at work q));
+    numbers = λ clear q. subst (λ (f : Option ℕ). Tells q f t.items.items) (sym (numbers q)) (rw items (numbers-same (get number_eq s.numbers) s.items.items (was.numbers (sym repeats ∙ clear)) i x y at work q));
   }
 
   pub indexed-wiped : t.items.items ≡ map wiped s.items.items → t.queue.entries ≡ [] → ((p : PartId) → get part_eq t.places p ≡ get part_eq s.places p) → ((q : MsgId) → get number_eq t.numbers q ≡ None) → IsIndexed t
   indexed-wiped items entries places numbers = record {
     queue = rw (items, entries) (waits-wiped s.items.items);
     places = λ p. places p ∙ was.places p ∙ sym (position-map (has_part p) wiped s.items.items (λ x. refl)) ∙ sym (ap (position (has_part p)) items);
-    numbers = rw items (numbers-wiped (get number_eq t.numbers) s.items.items numbers);
+    numbers = λ clear. rw items (numbers-wiped (get number_eq t.numbers) s.items.items numbers);
   }
 
   -- fewer messages wait than there are slots

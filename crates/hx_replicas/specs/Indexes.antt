@@ -9,8 +9,6 @@ use Rattle.hx_cluster.specs.Ends.{part_eq}
 use Rattle.hx_links.specs.declared.Node.{Node}
 use Rattle.hx_replicas.specs.declared.queue.Waiting.{Waiting}
 use Rattle.hx_replicas.specs.declared.slots.Slot.{Slot}
-use Rattle.hx_replicas.specs.declared.indexed.Found.{Found}
-use Rattle.hx_replicas.specs.declared.indexed.Found.TheVariants.{Alone, Several}
 use Rattle.hx_replicas.specs.declared.indexed.Indexed.{Indexed}
 use Rattle.hx_replicas.specs.Participants.{Participant, accepted_of}
 use Rattle.hx_replicas.specs.Layout.{has_part, has_number}
@@ -39,21 +37,10 @@ is_waiting x = is_some (accepted_of x.work)
 abbrev pub number_eq : MsgId → MsgId → Bool
 number_eq a b = a.0 == b.0
 
--- which slots have accepted a number
-abbrev pub Tells : {H : Type 0} → MsgId → Option Found → List (Slot H) → Type 0
+-- the place of the slot that has accepted a number, if one has
+abbrev pub Tells : {H : Type 0} → MsgId → Option ℕ → List (Slot H) → Type 0
 Tells {H} id None xs = (j : ℕ) (x : Slot H) → slice_get xs j ≡ Some x → has_number id x ≡ false
-Tells {H} id (Some (Alone place)) xs = (place < length xs) × ((j : ℕ) (x : Slot H) → slice_get xs j ≡ Some x → has_number id x ≡ (place == j))
-Tells {H} id (Some Several) xs = Unit {0}
-
--- what is noted of a number when one more slot has accepted it, and when one gives it away
-abbrev pub noted : ℕ → Option Found → Found
-noted place None = Alone place
-noted place (Some found) = Several
-
-abbrev pub forgotten : Option Found → Option Found
-forgotten None = None
-forgotten (Some (Alone place)) = None
-forgotten (Some Several) = Some Several
+Tells {H} id (Some place) xs = (place < length xs) × ((j : ℕ) (x : Slot H) → slice_get xs j ≡ Some x → has_number id x ≡ (place == j))
 
 -- the place of a part's slot
 abbrev pub place_of : Participant → PartId → Option ℕ
@@ -67,7 +54,7 @@ pub record AreWaiting {H : Type 0} (es : List (Node × Waiting)) (xs : List (Slo
 pub record IsIndexed {H : Type 0} (s : Indexed H) : Type 0 where
   pub queue : AreWaiting s.queue.entries s.items.items
   pub places : (p : PartId) → get part_eq s.places p ≡ position (has_part p) s.items.items
-  pub numbers : (id : MsgId) → Tells id (get number_eq s.numbers id) s.items.items
+  pub numbers : s.repeats ≡ false → (id : MsgId) → Tells id (get number_eq s.numbers id) s.items.items
 
 -- so many more messages need no memory
 pub record HasRoom {H : Type 0} (n : ℕ) (s : Indexed H) : Type 0 where

@@ -1,7 +1,7 @@
 //! The slots of a participant, found by part, by the number of an accepted message, and in order
 //! of delivery.
 ghost use Rattle.std.specs.Prelude.{◌≡◌, ℕ, ◌+◌, ◌-◌, ◌^◌, ◌<◌, ◌≤◌, ◌==◌, List, [], ◌∷◌, ◌++◌, length};
-ghost use Rattle.std.specs.Prelude.{Option, None, Some, position, slice_get, OnOk};
+ghost use Rattle.std.specs.Prelude.{false, Option, None, Some, position, slice_get, OnOk};
 ghost use Rattle.std.specs.Prelude.{if◌then◌else◌};
 ghost use Rattle.std.specs.HashMap.{get, spare as room_of};
 ghost use Rattle.hx_links.specs.declared.Node.{Node};
@@ -12,7 +12,6 @@ ghost use Rattle.hx_replicas.specs.declared.slots.Slot.{Slot};
 ghost use Rattle.hx_replicas.specs.Jobs.{seen_in};
 ghost use Rattle.hx_replicas.specs.Layout.{IsSlot, has_part, has_number, taken, fresh, sent_out};
 ghost use Rattle.hx_replicas.specs.Indexes.{IsIndexed, HasRoom, number_eq, alter};
-ghost use Rattle.hx_replicas.specs.Indexes.{noted, forgotten};
 
 use crate::jobs::Job;
 use crate::queue::{Queue, Waiting};
@@ -23,13 +22,6 @@ use hx_ids::{MsgId, PartId};
 use std::alloc::{AllocError, Global};
 use std::collections::HashMap;
 
-/// Which slots have accepted a number: the one in a place, or several.
-#[derive(Clone, Copy)]
-pub enum Found {
-    Alone(usize),
-    Several,
-}
-
 /// The slots, and where they are found.
 pub struct Indexed<H> {
     pub items: Vec<Slot<H>>,
@@ -37,37 +29,34 @@ pub struct Indexed<H> {
     pub queue: Queue,
     // The place of each part's slot.
     pub places: HashMap<PartId, usize>,
-    // Which slots have accepted a number. What is noted as several stays so until all are emptied,
-    // which costs a search: a board gives no number twice.
-    pub numbers: HashMap<MsgId, Found>,
+    // The place of the slot that has accepted a number.
+    pub numbers: HashMap<MsgId, usize>,
+    // Whether two slots have accepted one number since all were emptied. Then a number is searched
+    // for among the slots: a board gives none twice.
+    pub repeats: bool,
 }
 
-// Notes that the slot in a place has accepted a number.
-fn note(numbers: &mut HashMap<MsgId, Found>, id: MsgId, place: usize)
+// Notes that the slot in a place has accepted a number, and whether another one had before.
+fn note(numbers: &mut HashMap<MsgId, usize>, repeats: &mut bool, id: MsgId, place: usize)
     requires { 0 < room_of numbers.old }
+    ensures first { repeats.new ≡ false
+        → (repeats.old ≡ false) × (get number_eq numbers.old id ≡ None) }
     ensures gets { (q : MsgId) → get number_eq numbers.new q
-        ≡ (if id.0 == q.0 then Some (noted place (get number_eq numbers.old id))
-        else get number_eq numbers.old q) }
+        ≡ (if id.0 == q.0 then Some place else get number_eq numbers.old q) }
     ensures room { room_of numbers.old ≤ room_of numbers.new + 1 }
 {
-    let found = if numbers.contains_key(&id) {
-        Found::Several
-    } else {
-        Found::Alone(place)
-    };
-    let _ = numbers.insert(id, found);
+    if let Ok(Some(_)) = numbers.insert(id, place) {
+        *repeats = true;
+    }
 }
 
-// Forgets the slot that has accepted a number, if it is the only one.
-fn forget(numbers: &mut HashMap<MsgId, Found>, id: MsgId)
+// Forgets the slot that has accepted a number.
+fn forget(numbers: &mut HashMap<MsgId, usize>, id: MsgId)
     ensures gets { (q : MsgId) → get number_eq numbers.new q
-        ≡ (if id.0 == q.0 then forgotten (get number_eq numbers.old id)
-        else get number_eq numbers.old q) }
+        ≡ (if id.0 == q.0 then None else get number_eq numbers.old q) }
     ensures room { room_of numbers.old ≤ room_of numbers.new }
 {
-    if let Some(Found::Alone(_)) = numbers.get(&id) {
-        numbers.remove(&id);
-    }
+    numbers.remove(&id);
 }
 
 impl<H> Indexed<H> {
@@ -81,6 +70,7 @@ impl<H> Indexed<H> {
             queue: Queue::new(alloc),
             places: HashMap::new(alloc),
             numbers: HashMap::new(alloc),
+            repeats: false,
         }
     }
 
@@ -98,11 +88,10 @@ impl<H> Indexed<H> {
         requires { IsIndexed self.now }
         ensures { result ≡ position (has_number id) self.now.items.items }
     {
-        match self.numbers.get(&id) {
-            None => None,
-            Some(Found::Alone(place)) => Some(*place),
-            Some(Found::Several) => accepted_place(&self.items, id),
+        if self.repeats {
+            return accepted_place(&self.items, id);
         }
+        self.numbers.get(&id).copied()
     }
 
     /// Makes room for so many more accepted messages.
@@ -136,7 +125,7 @@ impl<H> Indexed<H> {
             place,
             message: *message,
         });
-        note(&mut self.numbers, message.id, place);
+        note(&mut self.numbers, &mut self.repeats, message.id, place);
         let slot = &mut self.items[place];
         slot.state = message.from;
         slot.last = message.id;
@@ -160,7 +149,7 @@ impl<H> Indexed<H> {
             place,
             message: *message,
         });
-        note(&mut self.numbers, message.id, place);
+        note(&mut self.numbers, &mut self.repeats, message.id, place);
         let Ok(_) = self.places.insert(message.part, place) else {
             unreachable!()
         };
@@ -185,6 +174,7 @@ impl<H> Indexed<H> {
     {
         self.queue.clear();
         self.numbers.clear();
+        self.repeats = false;
     }
 }
 

@@ -41,7 +41,7 @@ const FEW: usize = 16;
 
 /// How many it is made for at least where there is none yet. What isn't used costs an address
 /// alone.
-const MANY: usize = 64;
+const MANY: usize = 128;
 
 /// An instance's session, its parts, and its factory of handlers. It can't be dropped: it has to be
 /// closed.
@@ -300,6 +300,7 @@ impl<F: Factory> Participant<F> {
     }
 
     /// Takes a job back. Its handler is retired at DROPPED. It takes no memory.
+    #[inline(always)]
     pub fn finish(&mut self, done: Done<F::H>)
         requires out { (slot_of self.old.plain done.message.part).work
             ≡ Out done.message (is_some done.handler) }
@@ -365,6 +366,7 @@ impl<F: Factory> Participant<F> {
             queue: _,
             places: _,
             numbers: _,
+            repeats: _,
         } = slots;
         wipe_all(&mut items, &mut factory);
         free(items);

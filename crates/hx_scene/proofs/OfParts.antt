@@ -1,5 +1,5 @@
 -- A scene is put together of parts that agree.
-use Rattle.std.proofs.Common.{◌≡◌, Bool, false, [], refl, sym, subst}
+use Rattle.std.proofs.Common.{◌≡◌, false, [], refl, sym, subst}
 use Rattle.std.proofs.lemmas.List.Elements.{All-nil}
 use Rattle.std.specs.List.{All}
 use Rattle.std.specs.Prelude.{List}
@@ -47,7 +47,3 @@ module _ (spec : Spec) (board : Held) (ks : List Controller) (staff : List Parti
         in_step = of_parts_in_step spec (world_of s) valid of_parts legal;
         listed = All-nil (IsListed (lists_of s));
       }
-
--- muted it is one too
-pub scene_muted : {s : SceneState} (muted : Bool) → IsScene s → IsScene (record s { muted = muted })
-scene_muted muted is = record { own = is.own; history = is.history; of_history = is.of_history; in_step = is.in_step; listed = is.listed }

@@ -76,6 +76,9 @@ impl Bag {
         requires { length messages.now ≤ self.old.spare }
         ensures { self.new.items ≡ all_put self.old.items messages.now }
     {
+        if messages.is_empty() {
+            return;
+        }
         self.recent.extend_from_slice(messages).unwrap();
     }
 

@@ -187,9 +187,13 @@ fn numbers_of<H: Handler>(
 
 impl<F: Factory> Scene<F> {
     /// The numbers of an instance's open jobs, rising.
+    #[inline(always)]
     pub fn open_jobs(&self, instance: InstanceId) -> Result<Vec<MsgId>, AllocError>
         ensures { IfOk result (λ numbers. numbers.items ≡ open_numbers self.now instance) }
     {
+        if self.jobs.is_empty() {
+            return Ok(Vec::new(self.alloc()));
+        }
         numbers_of(self.alloc(), self.jobs.as_slice(), instance)
     }
 }

@@ -15,4 +15,4 @@ returns-clause-indexed g c =
     let n = c.push_reserved-node.result in
     indexed-accept c.args.self.now _ c.requires.indexed c.args.place c.args.message.now n c.requires.place c.requires.idle
     (sym (alter-set (taken c.args.message.now n) c.args.self.now.items.items c.args.place c.index_mut-slot.result.now c.requires.place c.index_mut-slot.ensures.value))
-    c.push_reserved-node.ensures.entries (λ p. refl) c.note.ensures.gets
+    c.push_reserved-node.ensures.entries (λ p. refl) c.note.ensures.first c.note.ensures.gets

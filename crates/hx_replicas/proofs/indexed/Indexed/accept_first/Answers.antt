@@ -10,4 +10,4 @@ returns-clause-indexed g c =
     let place : c.len-place.result ≡ length c.args.self.now.items.items = grind (arith, common_steps) in
     let updates = MatchResult-at_ok _ _ c.in-Ok.field-0 c.in-Ok.is c.insert.ensures.updates in
     indexed-fresh c.args.self.now _ c.requires.indexed c.args.message.now n c.requires.new c.push_reserved.ensures.items
-    (rw place at c.push_reserved-node.ensures.entries) (rw place at updates.0) (rw place at c.note.ensures.gets)
+    (rw place at c.push_reserved-node.ensures.entries) (rw place at updates.0) c.note.ensures.first (rw place at c.note.ensures.gets)

@@ -9,5 +9,5 @@ pub returns-clause-indexed : goal.returns-clause-indexed
 returns-clause-indexed g c = record {
   queue = rw (c.reserve.ensures.items, c.reserve-2.ensures.entries) c.requires.indexed.queue;
   places = λ p. c.reserve-3.ensures.entries.2 p ∙ rw c.reserve.ensures.items (c.requires.indexed.places p);
-  numbers = λ id. rw (c.reserve.ensures.items, c.reserve-4.ensures.entries.2 id) (c.requires.indexed.numbers id);
+  numbers = λ clear id. rw (c.reserve.ensures.items, c.reserve-4.ensures.entries.2 id) (c.requires.indexed.numbers clear id);
 }

@@ -43,4 +43,4 @@ returns-clause-indexed g c =
     let at : slice_get xs c.args.place ≡ Some x = stands-in xs c.args.place x c.requires.place c.index.ensures in
     indexed-send c.args.self.now _ c.requires.indexed c.args.place x c.args.message.now c.unlink.ensures.once at (c.requires.accepted x at)
     (rw c.give.ensures.slot (sym (alter-set (λ y. sent_out y c.args.message.now) xs c.args.place c.index_mut.result.now c.requires.place c.index_mut.ensures.value)))
-    c.unlink.ensures.entries (λ p. refl) c.forget.ensures.gets
+    c.unlink.ensures.entries (λ p. refl) refl c.forget.ensures.gets

@@ -40,7 +40,7 @@ invariant_of-self g c =
     let x = c.index_mut-slot.result.now in
     let idle : None ≡ accepted_of x.work = ap accepted_of (sym back.work) in (
       rw (c.bring.ensures, now.made, now.listed) laid,
-      indexed-same c.self.inside.slots _ c.self.invariant.1 i x c.bring.new.slot (stands-in xs i x back.lt back.at_i) (rw c.bring.ensures refl) (rw c.bring.ensures refl) (rw c.bring.ensures idle) (set-alter xs i c.bring.new.slot x back.lt back.at_i) refl (λ p. refl) (λ q. refl),
+      indexed-same c.self.inside.slots _ c.self.invariant.1 i x c.bring.new.slot (stands-in xs i x back.lt back.at_i) (rw c.bring.ensures refl) (rw c.bring.ensures refl) (rw c.bring.ensures idle) (set-alter xs i c.bring.new.slot x back.lt back.at_i) refl (λ p. refl) refl (λ q. refl),
       record { items = c.self.invariant.2.items; queue = c.self.invariant.2.queue; places = c.self.invariant.2.places; numbers = c.self.invariant.2.numbers },
     )
 

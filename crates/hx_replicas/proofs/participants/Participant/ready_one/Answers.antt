@@ -43,7 +43,7 @@ kept g c =
     let i = c.args.place in
     let t = slot-held c.self.invariant.0 c.args.message.now i x (rw (← c.self.view_is) at c.requires.place) c.index_mut.ensures.value (rw (← c.self.view_is) at c.requires.accepted) in (
       rw (now.listed, now.retired) (IsLaidOut-ready t y now.slot now.fits now.made c.self.invariant.0),
-      indexed-same c.self.inside.slots _ c.self.invariant.1 i x y (stands-in xs i x t.lt t.at_i) (ap (λ (s : Slot g.row.F-H.Denot). s.part) now.slot) (ap (λ (s : Slot g.row.F-H.Denot). s.node) now.slot) (ap (λ (s : Slot g.row.F-H.Denot). accepted_of s.work) now.slot) (set-alter xs i y x t.lt t.at_i) refl (λ p. refl) (λ q. refl),
+      indexed-same c.self.inside.slots _ c.self.invariant.1 i x y (stands-in xs i x t.lt t.at_i) (ap (λ (s : Slot g.row.F-H.Denot). s.part) now.slot) (ap (λ (s : Slot g.row.F-H.Denot). s.node) now.slot) (ap (λ (s : Slot g.row.F-H.Denot). accepted_of s.work) now.slot) (set-alter xs i y x t.lt t.at_i) refl (λ p. refl) refl (λ q. refl),
       record { items = c.self.invariant.2.items; queue = c.self.invariant.2.queue; places = c.self.invariant.2.places; numbers = c.self.invariant.2.numbers },
     )
 
