@@ -67,7 +67,10 @@ fn put(found: &mut Vec<Target>, first: usize, target: Target) -> Result<bool, Al
         return Ok(false);
     }
     if place == found.len() {
-        found.push(target)?;
+        if place == found.capacity() {
+            found.reserve(1)?;
+        }
+        found.push_reserved(target);
     } else {
         found.insert(place, target)?;
     }

@@ -39,17 +39,8 @@ impl Shown<'_> {
     }
 }
 
-/// Whether a part is gone over: all are where none are marked.
-fn is_among(marks: Option<&Marks>, part: PartId) -> bool
-    ensures { result ≡ is_among (option_copied marks.entry) part }
-{
-    match marks {
-        Some(marks) => marks.has(part),
-        None => true,
-    }
-}
-
-/// The first part of a resource from an index on that is gone over, or the number of its parts.
+/// The first part of a resource from an index on that is gone over, or the number of its parts. All
+/// are gone over where none are marked.
 fn next_among(marks: Option<&Marks>, resource: ResourceId, from: u32, count: u32) -> u32
     requires { from ≤ count }
     ensures behind { from ≤ result }
@@ -60,11 +51,10 @@ fn next_among(marks: Option<&Marks>, resource: ResourceId, from: u32, count: u32
         → is_among (option_copied marks.entry) (record { resource = resource; index = result })
         ≡ true }
 {
-    let mut index = from;
-    while index < count && !is_among(marks, PartId { resource, index }) {
-        index += 1;
+    match marks {
+        Some(marks) => marks.next(resource, from, count),
+        None => from,
     }
-    index
 }
 
 /// Adds those of a resource's targets.

@@ -1,6 +1,6 @@
 -- Cells of parts, and the parts that are marked.
-use Rattle.std.proofs.Common.{◌≡◌, ℕ, zero, suc, ◌+◌, ◌<◌, ◌≤◌, ◌==◌, ◌||◌, Bool, true, false, List, [], ◌∷◌, ◌++◌, refl, sym, ◌∙◌, ap, get_or, length, drop, arith}
-use Rattle.std.specs.Prelude.{Option, None, slice_get, unwrap_or}
+use Rattle.std.proofs.Common.{◌≡◌, ℕ, zero, suc, ◌+◌, ◌-◌, ◌<◌, ◌≤◌, ◌==◌, ◌||◌, Bool, true, false, List, [], ◌∷◌, ◌++◌, refl, sym, ◌∙◌, ap, get_or, length, drop, arith}
+use Rattle.std.specs.Prelude.{Option, None, Some, slice_get, slice_set, unwrap_or}
 use Rattle.std.specs.List.{list_any, list_all}
 use Rattle.std.proofs.lemmas.Option.{unwrap_or-slice_get}
 use Rattle.std.proofs.lemmas.List.{append-nil, append_assoc}
@@ -90,16 +90,16 @@ pub all_rise : (cells : List (List Bool)) → are_rising (marked_from 0 cells) �
 all_rise cells = rows_rise 0 cells
 
 -- ---- the loop over resources
-drop_first : (all : List (List Bool)) (n : ℕ) (d : List Bool) → n < length all → drop n all ≡ get_or all n d ∷ drop (suc n) all
+drop_first : {X : Type 0} (all : List X) (n : ℕ) (d : X) → n < length all → drop n all ≡ get_or all n d ∷ drop (suc n) all
 drop_first [] n d lt = grind (arith, lt)
-drop_first (cells ∷ all) zero d lt = refl
-drop_first (cells ∷ all) (suc n) d lt = drop_first all n d (omega (arith, lt))
+drop_first (x ∷ all) zero d lt = refl
+drop_first (x ∷ all) (suc n) d lt = drop_first all n d (omega (arith, lt))
 
-drop_all : (all : List (List Bool)) (n : ℕ) → length all ≤ n → drop n all ≡ []
+drop_all : {X : Type 0} (all : List X) (n : ℕ) → length all ≤ n → drop n all ≡ []
 drop_all [] zero le = refl
 drop_all [] (suc n) le = refl
-drop_all (cells ∷ all) zero le = grind (arith, le)
-drop_all (cells ∷ all) (suc n) le = drop_all all n (omega (arith, le))
+drop_all (x ∷ all) zero le = grind (arith, le)
+drop_all (x ∷ all) (suc n) le = drop_all all n (omega (arith, le))
 
 pub parts_more : (all : List (List Bool)) (n r : ℕ) (d : List Bool) → n < length all → r ≡ n → (old new total : List PartId)
     → old ++ marked_from n (drop n all) ≡ total → new ≡ old ++ marked_in (record { 0 = r }) 0 (get_or all n d) → new ++ marked_from (n + 1) (drop (n + 1) all) ≡ total
@@ -112,3 +112,50 @@ parts_more all n r d lt is old new total so more =
 
 pub parts_done : (all : List (List Bool)) (n : ℕ) → length all ≤ n → (parts total : List PartId) → parts ++ marked_from n (drop n all) ≡ total → parts ≡ total
 parts_done all n le parts total so = sym (append-nil parts) ∙ sym (ap (λ (rest : List (List Bool)). parts ++ marked_from n rest) (drop_all all n le)) ∙ so
+
+-- ---- the loop over the cells of a resource
+-- a cell that isn't marked adds no part
+free_at : (r : ResourceId) (k n : ℕ) (cells : List Bool) → get_or cells n false ≡ false → marked_in r (k + 1) (drop (suc n) cells) ≡ marked_in r k (drop n cells)
+free_at r k zero [] free = refl
+free_at r k (suc n) [] free = refl
+free_at r k zero (true ∷ cells) free = grind (arith, free)
+free_at r k zero (false ∷ cells) free = refl
+free_at r k (suc n) (cell ∷ cells) free = free_at r k n cells free
+
+free_run : (r : ResourceId) (n j : ℕ) (cells : List Bool) → ((k : ℕ) → n ≤ k → k < n + j → get_or cells k false ≡ false)
+    → marked_in r (n + j) (drop (n + j) cells) ≡ marked_in r n (drop n cells)
+free_run r n zero cells free = ap (λ (m : ℕ). marked_in r m (drop m cells)) (omega arith)
+free_run r n (suc j) cells free =
+    let step : n + suc j ≡ n + j + 1 = omega arith in
+    let next : n + j + 1 ≡ suc (n + j) = omega arith in
+    ap (λ (m : ℕ). marked_in r m (drop m cells)) step ∙ ap (λ (m : ℕ). marked_in r (n + j + 1) (drop m cells)) next
+    ∙ free_at r (n + j) (n + j) cells (free (n + j) (omega arith) (omega arith))
+    ∙ free_run r n j cells (λ k le lt. free k le (omega (arith, lt)))
+
+pub free_parts : (r : ResourceId) (n m : ℕ) (cells : List Bool) → n ≤ m → ((k : ℕ) → n ≤ k → k < m → get_or cells k false ≡ false)
+    → marked_in r m (drop m cells) ≡ marked_in r n (drop n cells)
+free_parts r n m cells le free =
+    let far : m ≡ n + (m - n) = omega (arith, le) in
+    ap (λ (i : ℕ). marked_in r i (drop i cells)) far ∙ free_run r n (m - n) cells (λ k above lt. free k above (omega (arith, le, lt)))
+
+-- the part of a marked cell stands before those of the marked cells behind it
+pub marked_more : (r : ResourceId) (n i m : ℕ) (cells : List Bool) → n < length cells → i ≡ n → get_or cells n false ≡ true → n + 1 ≤ m → ((k : ℕ) → n + 1 ≤ k → k < m → get_or cells k false ≡ false)
+    → (old new total : List PartId) → old ++ marked_in r n (drop n cells) ≡ total → new ≡ old ++ record { resource = r; index = i } ∷ [] → new ++ marked_in r m (drop m cells) ≡ total
+marked_more r n i m cells lt is marked le free old new total so more =
+    let next : n + 1 ≡ suc n = omega arith in
+    let here : drop n cells ≡ true ∷ drop (n + 1) cells =
+    drop_first cells n false lt ∙ ap (λ (c : Bool). c ∷ drop (suc n) cells) marked ∙ ap (λ (j : ℕ). true ∷ drop j cells) (sym next) in
+    rw (more, is)
+    (append_assoc old (record { resource = r; index = n } ∷ []) (marked_in r m (drop m cells))
+    ∙ ap (λ (ps : List PartId). old ++ record { resource = r; index = n } ∷ ps) (free_parts r (n + 1) m cells le free)
+    ∙ sym (ap (λ (cs : List Bool). old ++ marked_in r n cs) here) ∙ so)
+
+pub marked_done : (r : ResourceId) (n : ℕ) (cells : List Bool) → length cells ≤ n → (parts total : List PartId) → parts ++ marked_in r n (drop n cells) ≡ total → parts ≡ total
+marked_done r n cells le parts total so = sym (append-nil parts) ∙ sym (ap (λ (cs : List Bool). parts ++ marked_in r n cs) (drop_all cells n le)) ∙ so
+
+-- ---- a cell that is set
+-- an item that is read and put back
+pub put_back : {X : Type 0} (xs : List X) (n : ℕ) (x : X) → slice_get xs n ≡ Some x → slice_set xs n x ≡ xs
+put_back [] n x is = refl
+put_back (y ∷ ys) zero x is = ap (λ z. z ∷ ys) (grind (arith, is))
+put_back (y ∷ ys) (suc n) x is = ap (λ zs. y ∷ zs) (put_back ys n x is)

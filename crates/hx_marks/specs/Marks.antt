@@ -1,5 +1,5 @@
 -- Sets of parts, and lists that get new items of some parts.
-use Rattle.std.specs.Prelude.{◌≡◌, ℕ, ◌+◌, ◌++◌, Bool, true, false, ◌&&◌, List, [], ◌∷◌, slice_index_or, filter, if◌then◌else◌}
+use Rattle.std.specs.Prelude.{◌≡◌, ℕ, ◌+◌, ◌%◌, ◌++◌, Bool, true, false, ◌&&◌, List, [], ◌∷◌, slice_index_or, filter, if◌then◌else◌}
 use Rattle.std.specs.List.{list_all}
 use Rattle.hx_ids.specs.declared.PartId.{PartId}
 use Rattle.hx_ids.specs.declared.ResourceId.{ResourceId}
@@ -9,6 +9,10 @@ use Rattle.hx_parts.specs.Parts.{items_at, IsByPart}
 -- whether the cell of a part is marked; a part without one isn't
 abbrev pub is_marked : List (List Bool) → PartId → Bool
 is_marked cells p = slice_index_or (slice_index_or cells p.resource.0 []) p.index false
+
+-- a part is marked only where there is a hint for the last byte of its index
+abbrev pub AreHints : List (List Bool) → List Bool → Type 0
+AreHints cells hints = (p : PartId) → slice_index_or hints (p.index % 256) false ≡ false → is_marked cells p ≡ false
 
 -- the marked parts of a resource, from an index on, and of all resources from one on
 abbrev pub marked_in : ResourceId → ℕ → List Bool → List PartId

@@ -3,21 +3,25 @@
 #![tactic(auto)]
 
 mod changes;
+mod hints;
 mod keeping;
+mod seeking;
 mod splicing;
 
-ghost use Rattle.std.specs.Prelude.{◌≡◌, ◌||◌, false, true, IsTrue, IfOk, OnOk, [], ◌++◌};
+ghost use Rattle.std.specs.Prelude.{◌≡◌, ◌||◌, ◌<◌, ◌≤◌, ℕ, false, true, IsTrue, IfOk, OnOk, [], ◌++◌};
 ghost use Rattle.std.specs.Prelude.{slice_index_or};
 ghost use Rattle.std.specs.List.{list_any};
 ghost use Rattle.hx_ids.specs.declared.PartId.{PartId};
 ghost use Rattle.hx_cluster.specs.Ends.{part_eq};
-ghost use Rattle.hx_marks.specs.Marks.{is_marked, marked_in, are_rising};
+ghost use Rattle.hx_marks.specs.Marks.{AreHints, is_marked, marked_in, are_rising};
 
 pub use changes::{Listed, mark_changes};
+use hints::set_hint;
 use hx_cluster::Resource;
 use hx_ids::{PartId, ResourceId};
 use hx_lists::Seq;
 pub use keeping::keep_marked;
+use seeking::next_marked;
 pub use splicing::splice;
 use std::alloc::{AllocError, Global};
 use std::marker::Model;
@@ -30,14 +34,19 @@ const SOME_PARTS: usize = 32;
 #[derive(Drop)]
 pub struct Marks {
     cells: Seq<Seq<bool>>,
+    // Whether a part may be in the set, by the last byte of its index.
+    hints: [bool; 256],
 }
 
 impl Model for Marks {
     ghost use Rattle.std.specs.Prelude.{List, Bool};
+    ghost use Rattle.hx_marks.specs.Marks.{AreHints};
 
     ghost Value = { List (List Bool) };
 
     ghost view = { λ a. a.cells };
+
+    ghost invariant = { λ a. AreHints a.cells a.hints };
 }
 
 /// A number of 32 bits. A larger one is want of memory.
@@ -55,11 +64,11 @@ fn push_marked(
 ) -> Result<(), AllocError>
     ensures { OnOk result (parts.new.items ≡ parts.old.items ++ marked_in resource 0 cells.now) }
 {
-    for (place, marked) in cells.iter().enumerate() {
-        if *marked {
-            let index = number(place)?;
-            parts.push(PartId { resource, index })?;
-        }
+    let mut place = next_marked(cells, 0);
+    while place < cells.len() {
+        let index = number(place)?;
+        parts.push(PartId { resource, index })?;
+        place = next_marked(cells, place + 1);
     }
     Ok(())
 }
@@ -74,6 +83,22 @@ fn is_marked_at(cells: &[bool], index: u32) -> bool
     }
 }
 
+/// Marks the cell of a part, if there is one.
+fn set_cell(cells: &mut Seq<Seq<bool>>, part: PartId) -> bool
+    ensures set { IsTrue result
+        → (p : PartId) → is_marked cells.new p ≡ (part_eq p part || is_marked cells.old p) }
+    ensures kept { result ≡ false → cells.new ≡ cells.old }
+{
+    let Some(row) = cells.get_mut(part.resource.0 as usize) else {
+        return false;
+    };
+    let Some(cell) = row.get_mut(part.index as usize) else {
+        return false;
+    };
+    *cell = true;
+    true
+}
+
 impl Marks {
     /// No parts, with room for those of some resources.
     pub fn none(alloc: Global, resources: &[Resource]) -> Result<Marks, AllocError>
@@ -86,6 +111,7 @@ impl Marks {
         }
         Ok(Marks {
             cells: Seq::from_vec(cells),
+            hints: [false; 256],
         })
     }
 
@@ -97,6 +123,13 @@ impl Marks {
             Some(cells) => cells.as_slice(),
             None => &[],
         }
+    }
+
+    /// The hints.
+    fn hints(&self) -> &[bool; 256]
+        ensures { AreHints self.now result.now }
+    {
+        &self.hints
     }
 
     /// Whether a part is in the set. It takes no memory.
@@ -111,14 +144,28 @@ impl Marks {
         ensures { IsTrue result
             → (p : PartId) → is_marked self.new p ≡ (part_eq p part || is_marked self.old p) }
     {
-        let Some(cells) = self.cells.get_mut(part.resource.0 as usize) else {
-            return false;
-        };
-        let Some(cell) = cells.get_mut(part.index as usize) else {
-            return false;
-        };
-        *cell = true;
-        true
+        set_hint(&mut self.hints, part.index);
+        set_cell(&mut self.cells, part)
+    }
+
+    /// The first part of a resource from an index on that is in the set, or the number of its parts.
+    /// It takes no memory.
+    pub fn next(&self, resource: ResourceId, from: u32, count: u32) -> u32
+        requires { from ≤ count }
+        ensures behind { from ≤ result }
+        ensures within { result ≤ count }
+        ensures skipped { (k : ℕ) → from ≤ k → k < result
+            → is_marked self.now (record { resource = resource; index = k }) ≡ false }
+        ensures found { result < count
+            → is_marked self.now (record { resource = resource; index = result }) ≡ true }
+    {
+        let cells = self.of_resource(resource);
+        let next = next_marked(cells, from as usize);
+        if next < cells.len() && next < count as usize {
+            next as u32
+        } else {
+            count
+        }
     }
 
     /// The parts, in order.

@@ -1,2 +1,3 @@
+pub mod Drafted
 pub mod Kept
 pub mod Known

@@ -1,10 +1,9 @@
 //! A planner of views one after another.
 ghost use Rattle.std.specs.Prelude.{◌≡◌, true, false, [], None, Some, length};
 ghost use Rattle.std.specs.Prelude.{IfOk, OnErr, IfSome, MatchOption};
-ghost use Rattle.hx_cluster.specs.Views.{is_well_formed};
-ghost use Rattle.hx_pass.specs.Drafts.{draft as draft_of};
 ghost use Rattle.hx_pass.specs.Turns.{posted_of};
 ghost use Rattle.hx_local.specs.Local.{IsAlike};
+ghost use Rattle.hx_planner.specs.Drafted.{IsDraftOf, IsPlanned};
 ghost use Rattle.hx_planner.specs.Known.{IsKnownOf};
 
 use crate::kept::Kept;
@@ -76,13 +75,8 @@ impl Planner {
         wants_same: bool,
     ) -> Result<Option<Draft>, AllocError>
         requires { wants_same ≡ true → IfSome self.old (λ last. last.ideals ≡ view.now.ideals) }
-        ensures made { IfOk result (λ draft.
-            let spec = described.now.spec.now in
-            let formed = is_well_formed spec.models (length spec.instances) view.now in
-            MatchOption draft (formed ≡ false) (λ d.
-            (formed ≡ true) × (d ≡ draft_of spec.models spec.rules view.now))) }
-        ensures planned { IfOk result (λ draft.
-            MatchOption draft (self.new ≡ None) (λ _. self.new ≡ Some view.now)) }
+        ensures made { IfOk result (IsDraftOf described.now.spec.now view.now) }
+        ensures planned { IfOk result (λ draft. IsPlanned view.now draft self.new) }
         ensures refused { OnErr result (self.new ≡ None) }
     {
         let Some(known) = self.know(alloc, described, view, wants_same)? else {
@@ -105,12 +99,8 @@ impl Planner {
         view: &View,
     ) -> Result<Option<Draft>, AllocError>
         requires { hops.now ≡ spec.now.models }
-        ensures made { IfOk result (λ draft.
-            let formed = is_well_formed spec.now.models (length spec.now.instances) view.now in
-            MatchOption draft (formed ≡ false) (λ d.
-            (formed ≡ true) × (d ≡ draft_of spec.now.models spec.now.rules view.now))) }
-        ensures planned { IfOk result (λ draft.
-            MatchOption draft (self.new ≡ None) (λ _. self.new ≡ Some view.now)) }
+        ensures made { IfOk result (IsDraftOf spec.now view.now) }
+        ensures planned { IfOk result (λ draft. IsPlanned view.now draft self.new) }
         ensures refused { OnErr result (self.new ≡ None) }
     {
         let described = Described { spec, hops };
@@ -128,12 +118,8 @@ impl Planner {
     ) -> Result<Option<Draft>, AllocError>
         requires hops { hops.now ≡ spec.now.models }
         requires same { IfSome self.old (λ last. last.ideals ≡ view.now.ideals) }
-        ensures made { IfOk result (λ draft.
-            let formed = is_well_formed spec.now.models (length spec.now.instances) view.now in
-            MatchOption draft (formed ≡ false) (λ d.
-            (formed ≡ true) × (d ≡ draft_of spec.now.models spec.now.rules view.now))) }
-        ensures planned { IfOk result (λ draft.
-            MatchOption draft (self.new ≡ None) (λ _. self.new ≡ Some view.now)) }
+        ensures made { IfOk result (IsDraftOf spec.now view.now) }
+        ensures planned { IfOk result (λ draft. IsPlanned view.now draft self.new) }
         ensures refused { OnErr result (self.new ≡ None) }
     {
         let described = Described { spec, hops };

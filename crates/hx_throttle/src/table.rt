@@ -41,7 +41,8 @@ fn place_in(cells: usize, rule: usize, key: u32) -> Option<usize>
     if place < cells { Some(place) } else { None }
 }
 
-/// A load more. One past the end of its type is want of memory.
+/// A load more. One past the end of its type is want of memory. It is rare, so it is a call.
+#[inline(never)]
 fn raise_other(loads: &mut Counts, rule: usize, key: u32) -> Result<(), AllocError>
     ensures { OnOk result ((r : ℕ) (k : ℕ)
         → loads_of loads.new r k
@@ -51,6 +52,14 @@ fn raise_other(loads: &mut Counts, rule: usize, key: u32) -> Result<(), AllocErr
         return Err(AllocError);
     }
     loads.raise_load(rule, key)
+}
+
+/// How many loads there are of a rule under a key. It is rare, so it is a call.
+#[inline(never)]
+fn load_other(loads: &Counts, rule: usize, key: u32) -> u32
+    ensures { result ≡ loads_of loads.now rule key }
+{
+    loads.load(rule, key)
 }
 
 impl Loads {
@@ -70,7 +79,7 @@ impl Loads {
     {
         match place_in(self.cells.len(), rule, key) {
             Some(place) => self.cells[place],
-            None => self.others.load(rule, key),
+            None => load_other(&self.others, rule, key),
         }
     }
 

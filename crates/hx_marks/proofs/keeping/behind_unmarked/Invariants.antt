@@ -1,4 +1,4 @@
-use Rattle.std.proofs.Common.{◌≡◌, ◌-◌, ◌≤◌, Bool, List, [], length, take, slice_index_or}
+use Rattle.std.proofs.Common.{◌≡◌, ◌-◌, ◌≤◌, length, take}
 use Rattle.std.specs.Prelude.{filter}
 use Rattle.hx_marks.specs.Marks.{is_marked}
 use Rattle.hx_marks.proofs.keeping.behind_unmarked.Given as goal
@@ -8,8 +8,7 @@ abbrev pub invariant-loop-place : goal.invariant-loop-place
 invariant-loop-place g l = record {
   above : l.from ≤ l.place;
   fits : l.place ≤ length l.items;
-  none : (marks : List (List Bool)) → l.cells.marked.now ≡ slice_index_or marks l.cells.resource.0 []
-      → filter (λ x. is_marked marks (g.T.OfPart.part_of x)) (take l.place l.items) ≡ filter (λ x. is_marked marks (g.T.OfPart.part_of x)) (take l.from l.items);
+  none : filter (λ x. is_marked l.marks (g.T.OfPart.part_of x)) (take l.place l.items) ≡ filter (λ x. is_marked l.marks (g.T.OfPart.part_of x)) (take l.from l.items);
 }
 
 abbrev pub decreases-loop-place : goal.decreases-loop-place
@@ -19,8 +18,7 @@ abbrev pub invariant-loop-place-2 : goal.invariant-loop-place-2
 invariant-loop-place-2 g l = record {
   above : l.from ≤ l.place;
   fits : l.place ≤ length l.items;
-  none : (marks : List (List Bool)) → l.cells.marked.now ≡ slice_index_or marks l.cells.resource.0 []
-      → filter (λ x. is_marked marks (g.T.OfPart.part_of x)) (take l.place l.items) ≡ filter (λ x. is_marked marks (g.T.OfPart.part_of x)) (take l.from l.items);
+  none : filter (λ x. is_marked l.marks (g.T.OfPart.part_of x)) (take l.place l.items) ≡ filter (λ x. is_marked l.marks (g.T.OfPart.part_of x)) (take l.from l.items);
 }
 
 abbrev pub decreases-loop-place-2 : goal.decreases-loop-place-2

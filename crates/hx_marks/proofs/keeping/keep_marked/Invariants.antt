@@ -1,14 +1,13 @@
-use Rattle.std.proofs.Common.{◌≡◌, ◌-◌, ◌≤◌, [], length, take, slice_index_or}
+use Rattle.std.proofs.Common.{◌≡◌, ◌-◌, ◌≤◌, length, take}
 use Rattle.std.specs.Prelude.{filter}
 use Rattle.hx_marks.specs.Marks.{is_marked}
 use Rattle.hx_marks.proofs.keeping.keep_marked.Given as goal
 
--- those of the marked parts so far, and the cells at hand are the resource's
+-- those of the marked parts so far
 abbrev pub invariant-loop-place : goal.invariant-loop-place
 invariant-loop-place g l = record {
   fits : l.place ≤ length l.items;
   kept : l.list ≡ filter (λ x. is_marked l.marks (g.T.OfPart.part_of x)) (take l.place l.items);
-  cells : l.cells.marked.now ≡ slice_index_or l.marks l.cells.resource.0 [];
 }
 
 abbrev pub decreases-loop-place : goal.decreases-loop-place
