@@ -3,7 +3,8 @@ ghost use Rattle.std.specs.Prelude.{◌≡◌, ℕ, ◌+◌, ◌^◌, ◌<◌, S
 ghost use Rattle.std.specs.Prelude.{OnOk, OnErr, option_copied};
 ghost use Rattle.std.specs.List.{list_all};
 ghost use Rattle.hx_cluster.specs.declared.state.Cluster.{Cluster};
-ghost use Rattle.hx_cluster.specs.Ends.{count_of, limit_at, state_of, message_of, instance_in, shown_of, is_live};
+ghost use Rattle.hx_cluster.specs.Ends.{count_of, limit_at, state_of, message_of};
+ghost use Rattle.hx_cluster.specs.Ends.{instance_in, shown_of, is_live};
 ghost use Rattle.hx_cluster.specs.Messages.{proposal_load, throttled_from, bounded, placed_of, after_placed};
 ghost use Rattle.hx_cluster.specs.Messages.{after_proposal, after_proposals, placed_all};
 ghost use Rattle.hx_cluster.specs.Messages.{after_dispatch};

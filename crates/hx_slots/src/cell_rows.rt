@@ -1,7 +1,7 @@
 //! The cells of a session, beside the rows that stand ready to be copied.
-ghost use Rattle.std.specs.Prelude.{◌≡◌, ◌+◌, ◌*◌, ◌<◌, ◌≤◌, ◌++◌, ◌∷◌, [], not, map, length, true, false};
-ghost use Rattle.std.specs.Prelude.{None, Some, IfOk, OnOk, OnErr, slice_get, slice_set, option_map};
-ghost use Rattle.std.specs.Prelude.{vec_len, vec_capacity};
+ghost use Rattle.std.specs.Prelude.{◌≡◌, ◌+◌, ◌*◌, ◌<◌, ◌≤◌, ◌++◌, ◌∷◌, [], not, map, length};
+ghost use Rattle.std.specs.Prelude.{true, false, None, Some, IfOk, OnOk, OnErr, option_map};
+ghost use Rattle.std.specs.Prelude.{slice_get, slice_set, vec_len, vec_capacity};
 ghost use Rattle.std.specs.List.{position_or_len, filter_map};
 ghost use Rattle.hx_cluster.specs.Ends.{part_before};
 ghost use Rattle.hx_slots.specs.Cells.{AreInOrder, with_cell, cell_with, cell_put, cell_row};
