@@ -1,7 +1,7 @@
 -- A controller takes a step of its turn in a scene: the scene stays one, and what is done is the operation.
 use Rattle.std.proofs.Common.{◌≡◌, ℕ, ◌⊎◌, inl, inr, not, Bool, true, false, List, [], ◌∷◌, ◌++◌, length, Option, None, Some, refl, sym, ap, subst, ◌∙◌}
-use Rattle.std.specs.Prelude.{if◌then◌else◌, slice_index_or, slice_set, Result, Ok, Err, IfOk, IsErrAnd}
-use Rattle.std.proofs.lemmas.List.{set-get_or, get_or_read}
+use Rattle.std.specs.Prelude.{if◌then◌else◌, slice_index_or, slice_set, Result, Ok, Err, IfNone, IsErrAnd}
+use Rattle.std.proofs.lemmas.List.{append-nil, set-get_or, get_or_read}
 use Rattle.std.proofs.Math.Seq.{take-nil}
 use Rattle.hx_ids.specs.declared.ControllerId.{ControllerId}
 use Rattle.hx_cluster.specs.declared.description.Spec.{Spec}
@@ -34,7 +34,7 @@ use Rattle.hx_worlds.specs.Runs.{Run, gives, and_then}
 use Rattle.hx_scripted.proofs.Standing.{since}
 use Rattle.hx_agreed.proofs.Operations.{controller_is, turn_planned, restart_stands}
 use Rattle.hx_scene.specs.Scenes.{SceneState, at, world_of}
-use Rattle.hx_scene.specs.Heard.{event_heard, entry_heard}
+use Rattle.hx_scene.specs.Heard.{heard, event_heard, entry_heard}
 use Rattle.hx_scene.specs.Kept.{IsScene}
 use Rattle.hx_scene.specs.Doing.{Keeps, Ends, IsCut, Fails, Does}
 use Rattle.hx_scene.specs.Advances.{advanced, advance, with_turn, IsStepped, IsRollFor}
@@ -79,10 +79,10 @@ pub scene_restarted : {s : SceneState} (k : ControllerId) (x y : Controller) →
     → IsScene (record s { controllers = slice_set s.controllers k.0 y })
 scene_restarted k x y is there e idle = subst IsScene (sym (idle_is k x y is there e idle)) (scene_idle k is)
 
--- a roll that serves it serves where it is printed
-pub rolls_printed : {E : Type 0} (s : SceneState) (k : ControllerId) (result : Result Roll E) → IfOk result (λ roll. IsRollFor s k roll) → IfOk result (λ roll. s.muted ≡ false → IsRollFor s k roll)
-rolls_printed s k (Ok roll) serves = λ printed. serves
-rolls_printed s k (Err e) serves = tt
+-- what is known where none is found
+pub none_found : {X P : Type 0} (found : Option X) → ((x : X) → found ≡ Some x → ⊥) → IfNone found P → P
+none_found None none is = is
+none_found (Some x) none is = absurd (none x refl)
 
 -- what a step prints
 abbrev printed_of : SceneState → Step → List ℕ
@@ -183,6 +183,22 @@ pub stepped_is : {s : SceneState} (k : ControllerId) (x : Controller) (b : Held)
     → x ≡ slice_index_or s.controllers k.0 x → Takes (step_of s.spec s.board.cluster x) s.board b x y result → IsStepped s (with_turn s k b y) k result
 stepped_is k x b y result is there e takes = record { board = b; turn = y; takes = takes_read k x b y result is there e takes; left = refl }
 
+ends_of : {s u : SceneState} {k : ControllerId} {outcome : Option PassOutcome} → IsScene s → (stepped : IsStepped s u k (Ok outcome))
+    → Ends (λ x. advance k x) s [] (Ok outcome) u (printed_of s (next_in s k))
+ends_of {s} {u} {k} {outcome} is stepped =
+    subst (λ v. Ends (λ x. advance k x) s [] (Ok outcome) v (printed_of s (next_in s k))) (sym stepped.left)
+    (made_ends k stepped.board stepped.turn outcome (next_in s k) is refl stepped.takes.refused stepped.takes.made)
+
+-- in a muted scene nothing of it is
+silent_step : (s : SceneState) (step : Step) → s.muted ≡ true → printed_of s step ≡ []
+silent_step s (Calls e o) muted = ap (λ (b : Bool). heard b (entry_text s.spec s.board.cluster e)) muted
+silent_step s (Plans p) muted = refl
+silent_step s (Refuses f) muted = refl
+
+pub advance_silent : {s u : SceneState} {k : ControllerId} {outcome : Option PassOutcome} (p : List ℕ) → IsScene s → IsStepped s u k (Ok outcome) → s.muted ≡ true → Ends (λ x. advance k x) s p (Ok outcome) u p
+advance_silent {s} {u} {k} {outcome} p is stepped muted =
+    printed_after p p (ends_of is stepped) (sym (append-nil p) ∙ ap (λ (t : List ℕ). p ++ t) (sym (silent_step s (next_in s k) muted)))
+
 -- a step that was made is printed
 printed_step : {T E : Type 0} {s u : SceneState} {k : ControllerId} {outcome : Option PassOutcome} (roll : Roll) (p q : List ℕ) (printed : Result T E) (before : ℕ) (step : Step) → next_in s k ≡ step
     → (made : IsStepped s u k (Ok outcome)) → step_fault s.board step ≡ None → IsMade step s.board made.board (turn_in s k) made.turn outcome → (s.muted ≡ false → IsRollFor s k roll) → before ≡ length s.board.history
@@ -197,12 +213,6 @@ printed_step {T} {E} {s} {u} {k} {outcome} roll p q printed before (Refuses f) n
   where
     none : (fault : ControlFault) → Some fault ≡ None → ⊥
     none fault e = cc
-
-ends_of : {s u : SceneState} {k : ControllerId} {outcome : Option PassOutcome} → IsScene s → (stepped : IsStepped s u k (Ok outcome))
-    → Ends (λ x. advance k x) s [] (Ok outcome) u (printed_of s (next_in s k))
-ends_of {s} {u} {k} {outcome} is stepped =
-    subst (λ v. Ends (λ x. advance k x) s [] (Ok outcome) v (printed_of s (next_in s k))) (sym stepped.left)
-    (made_ends k stepped.board stepped.turn outcome (next_in s k) is refl stepped.takes.refused stepped.takes.made)
 
 pub advance_printed : {T E : Type 0} {s u : SceneState} {k : ControllerId} {outcome : Option PassOutcome} (roll : Roll) (p q : List ℕ) (t : T) (before : ℕ) → IsScene s → IsStepped s u k (Ok outcome)
     → (s.muted ≡ false → IsRollFor s k roll) → before ≡ length s.board.history

@@ -1,6 +1,6 @@
 //! The steps of controllers.
 
-ghost use Rattle.std.specs.Prelude.{◌≡◌, true, false, slice_set, IfOk};
+ghost use Rattle.std.specs.Prelude.{◌≡◌, true, slice_set, IfOk, IfNone, IfSome};
 ghost use Rattle.hx_cluster.specs.Steps.{has_controller};
 ghost use Rattle.hx_control.specs.Controllers.{idle_controller};
 ghost use Rattle.hx_scene.specs.Advances.{advance as advances, IsRollFor, IsStepped};
@@ -39,15 +39,15 @@ impl<F: Factory> Scene<F> {
     }
 
     /// What the log lines of a controller's next step need, if they are printed.
-    fn roll_for(&self, controller: ControllerId) -> Result<Roll, AllocError>
+    fn roll_for(&self, controller: ControllerId) -> Result<Option<Roll>, AllocError>
         requires { has_controller self.now.board.cluster controller ≡ true }
-        ensures { IfOk result (λ roll.
-            self.now.muted ≡ false → IsRollFor self.now controller roll) }
+        ensures none { IfOk result (λ found. IfNone found (self.now.muted ≡ true)) }
+        ensures some { IfOk result (λ found. IfSome found (IsRollFor self.now controller)) }
     {
         if self.muted {
-            return Ok(self.no_roll());
+            return Ok(None);
         }
-        self.turn_roll(controller)
+        Ok(Some(self.turn_roll(controller)?))
     }
 
     /// Takes the next step of a controller's turn.
@@ -77,21 +77,25 @@ impl<F: Factory> Scene<F> {
     }
 
     /// Makes the next step of a controller's turn, whose log lines, if they are printed, need this
-    /// roll.
+    /// roll. Without one they aren't.
     fn advance_with(
         &mut self,
         controller: ControllerId,
-        roll: &Roll,
+        roll: &Option<Roll>,
         out: &mut Page,
     ) -> Result<Result<Option<PassOutcome>, ControlFault>, RoomFault>
         requires controller { has_controller self.old.board.cluster controller ≡ true }
-        requires roll { self.old.muted ≡ false → IsRollFor self.old controller roll.now }
+        requires none { IfNone roll.now (self.old.muted ≡ true) }
+        requires some { IfSome roll.now (IsRollFor self.old controller) }
         ensures { Does (λ x. advances controller x) (λ answer. answer)
             self.old out.old self.new out.new result }
     {
         let before = self.board.history().entries.len();
         match self.take_step(controller) {
             Ok(outcome) => {
+                let Some(roll) = roll else {
+                    return Ok(Ok(outcome));
+                };
                 self.print_grown(before, roll, out)?;
                 Ok(Ok(outcome))
             }

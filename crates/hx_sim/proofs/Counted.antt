@@ -1,9 +1,9 @@
 -- A history that is counted: its writes as its words tell them, the rest event by event.
-use Rattle.std.proofs.Common.{◌≡◌, ℕ, ◌+◌, ◌<◌, ◌≤◌, Bool, true, false, List, [], ◌∷◌, length, drop, subst, refl, arith}
-use Rattle.std.specs.Prelude.{cond, slice_index_or}
+use Rattle.std.proofs.Common.{◌≡◌, ℕ, ◌+◌, ◌≤◌, Bool, true, false, List, [], length, drop, subst, refl, arith}
+use Rattle.std.specs.Prelude.{cond}
 use Rattle.std.specs.List.{sum_by}
-use Rattle.std.proofs.lemmas.List.{drop_more, drop_all}
-use Rattle.std.proofs.lemmas.List.Sums.{sum_by-cons, length-filter}
+use Rattle.std.proofs.lemmas.List.{drop_all}
+use Rattle.std.proofs.lemmas.List.Sums.{length-filter}
 use Rattle.hx_lists.specs.Lists.{count}
 use Rattle.hx_ids.specs.declared.MsgId.{MsgId}
 use Rattle.hx_ids.specs.declared.SessionId.{SessionId}
@@ -17,7 +17,7 @@ use Rattle.hx_history.specs.Counted.{CountsWrites, IsCountedBy}
 use Rattle.hx_worlds.specs.Summaries.{sent_in, joined_in, ended_in, is_write, summary_of}
 use Rattle.hx_scene.specs.declared.telling.Summary.{Summary}
 use Rattle.hx_scene.specs.Telling.{text_of}
-use Rattle.hx_sim.specs.Counting.{has_outcome, IsCounted}
+use Rattle.hx_sim.specs.Counting.{has_outcome}
 
 -- what is counted and what is left are all
 pub record AreCounted (s : Summary) (left all : List Event) : Type 0 where
@@ -110,28 +110,7 @@ counted_first kept all ok failed is = record {
   ended = omega (arith, is ended_in 0 0 ended_none);
 }
 
-count_first : (p : Event → Bool) (e : Event) (es : List Event) → count p (e ∷ es) ≡ count p (e ∷ []) + count p es
-count_first p e es = one (p e) refl
-  where
-    one : (b : Bool) → p e ≡ b → count p (e ∷ es) ≡ count p (e ∷ []) + count p es
-    one true is = rw is (omega arith)
-    one false is = rw is (omega arith)
-
--- then one event more
-pub counted_next : (s t : Summary) (kept all : List Event) (i : ℕ) (d : Event) → i < length kept → AreCounted s (drop i kept) all → IsCounted s (slice_index_or kept i d) t → AreCounted t (drop (i + 1) kept) all
-counted_next s t kept all i d below were one =
-    let e = slice_index_or kept i d in
-    let rest = drop (i + 1) kept in
-    let P : List Event → Type 0 = λ es. AreCounted s es all in
-    let from = subst P (drop_more kept i d below) were in
-    record {
-      sent = omega (arith, from.sent, one.sent, sum_by-cons sent_in e rest);
-      ok = omega (arith, from.ok, one.ok, count_first (is_write (has_outcome outcomes.Ok)) e rest);
-      failed = omega (arith, from.failed, one.failed, count_first (is_write (has_outcome outcomes.Failed)) e rest);
-      joined = omega (arith, from.joined, one.joined, sum_by-cons joined_in e rest);
-      ended = omega (arith, from.ended, one.ended, sum_by-cons ended_in e rest);
-    }
-
+-- at last all are counted
 pub counted_all : (s : Summary) (kept all : List Event) (i : ℕ) → length kept ≤ i → AreCounted s (drop i kept) all → text_of s ≡ summary_of all
 counted_all s kept all i past were =
     let P : List Event → Type 0 = λ es. AreCounted s es all in

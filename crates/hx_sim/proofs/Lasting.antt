@@ -2,9 +2,8 @@
 use Rattle.std.proofs.Common.{◌≡◌, ℕ, List, true, sym, ap, ◌∙◌, subst}
 use Rattle.std.specs.Prelude.{nat_lt}
 use Rattle.hx_ids.specs.declared.InstanceId.{InstanceId}
-use Rattle.hx_ids.specs.declared.ControllerId.{ControllerId}
 use Rattle.hx_cluster.specs.declared.state.Cluster.{Cluster}
-use Rattle.hx_cluster.specs.Steps.{has_instance, has_controller}
+use Rattle.hx_cluster.specs.Steps.{has_instance}
 use Rattle.hx_safe.proofs.Fixed.{IsFixed}
 use Rattle.hx_covers.proofs.Whole.{fixed_along}
 use Rattle.hx_worlds.specs.World.{Missing, State}
@@ -21,7 +20,3 @@ fixed_after {A} {f} {g} {s} {u} e =
 pub instance_lasts : {A : Type 0} {f g : State → Run A} {s u : SceneState} {p q : List ℕ} → Reaches f s p g u q → (i : InstanceId) → has_instance s.board.cluster i ≡ true
     → has_instance u.board.cluster i ≡ true
 instance_lasts {A} {f} {g} {s} {u} e i there = ap (nat_lt i.0) (fixed_after e).instances ∙ there
-
-pub controller_lasts : {A : Type 0} {f g : State → Run A} {s u : SceneState} {p q : List ℕ} → Reaches f s p g u q → (k : ControllerId) → has_controller s.board.cluster k ≡ true
-    → has_controller u.board.cluster k ≡ true
-controller_lasts {A} {f} {g} {s} {u} e k there = ap (nat_lt k.0) (fixed_after e).controllers ∙ there

@@ -1,7 +1,7 @@
 -- The parts that a view shows, and those that are left of them.
-use Rattle.std.proofs.Common.{◌≡◌, ℕ, suc, ◌+◌, ◌-◌, ◌<◌, ◌≤◌, ◌++◌, Bool, true, false, List, [], ◌∷◌, length, map, drop, get_or, sym, ap, ◌∙◌, append_assoc, arith}
+use Rattle.std.proofs.Common.{◌≡◌, ℕ, suc, ◌+◌, ◌-◌, ◌<◌, ◌++◌, Bool, true, false, List, [], ◌∷◌, length, map, drop, get_or, sym, ap, ◌∙◌, append_assoc, arith}
 use Rattle.std.specs.Prelude.{filter, cond}
-use Rattle.std.proofs.lemmas.List.{append-nil, at_drop_more, drop_all}
+use Rattle.std.proofs.lemmas.List.{at_drop_more}
 use Rattle.hx_lists.specs.Lists.{numbers_from}
 use Rattle.hx_ids.specs.declared.PartId.{PartId}
 use Rattle.hx_cluster.specs.declared.description.Resource.{Resource}
@@ -43,13 +43,6 @@ passes shows resource index parts ps whole less is e =
     ap (λ (qs : List PartId). ps ++ qs) (sym (on_more shows resource index parts less ∙ ap (λ (b : Bool). cond b (part_of resource index ∷ rest) rest) is))
     ∙ e
 
-pub adds_none : (shows : PartId → Bool) (resource index parts : ℕ) (ps whole : List PartId) → parts ≤ index → ps ++ viewed_on shows resource index parts ≡ whole → ps ≡ whole
-adds_none shows resource index parts ps whole past e =
-    let none : parts - index ≡ 0 = omega arith in
-    sym (append-nil ps)
-    ∙ ap (λ (n : ℕ). ps ++ filter shows (map (part_of resource) (numbers_from index n))) (sym none)
-    ∙ e
-
 -- the resources from a place on, where rows tell what is shown
 pub views_more : (rows : List Seen) (c : Cluster) → IsViewOf rows c → (n : ℕ) (x : Resource) (ps qs whole : List PartId) → n < length c.resources → x ≡ get_or c.resources n x
     → qs ≡ ps ++ filter (is_shown_by rows x.dropped) (parts_at n x.ideal.parts) → ps ++ viewed_from c n (drop n c.resources) ≡ whole → qs ++ viewed_from c (n + 1) (drop (n + 1) c.resources) ≡ whole
@@ -60,10 +53,4 @@ views_more rows c view n x ps qs whole less is added e =
     ∙ append_assoc ps (own x) rest
     ∙ ap (λ (r : Resource). ps ++ (own r ++ rest)) is
     ∙ ap (λ (zs : List PartId). ps ++ zs) (sym (at_drop_more (viewed_from c n) c.resources n x less))
-    ∙ e
-
-pub views_none : (c : Cluster) (n : ℕ) (ps whole : List PartId) → length c.resources ≤ n → ps ++ viewed_from c n (drop n c.resources) ≡ whole → ps ≡ whole
-views_none c n ps whole past e =
-    sym (append-nil ps)
-    ∙ ap (λ (rs : List Resource). ps ++ viewed_from c n rs) (sym (drop_all n c.resources past))
     ∙ e
