@@ -31,39 +31,37 @@ impl Model for Planner {
     ghost view = { λ a. option_map (λ k. k.view) a.known };
 }
 
+/// What there is to know of a view that is well formed, by what is known of the last one where that
+/// helps. Where the view is known to want the same as the last one, that isn't looked at.
+fn know(
+    last: Option<Known>,
+    alloc: Global,
+    described: &Described,
+    view: &View,
+    wants_same: bool,
+) -> Result<Option<Known>, AllocError>
+    requires { wants_same ≡ true → IfSome last (λ last. last.view.ideals ≡ view.now.ideals) }
+    ensures { IfOk result (λ known. IsKnownOf described.now.spec.now view.now known) }
+{
+    let Some(known) = last else {
+        return Known::of(alloc, described, view, Kept::nothing(alloc));
+    };
+    if !known.is_for(described.spec, view, wants_same) {
+        return Known::of(alloc, described, view, known.into_kept());
+    }
+    let mut marks = Marks::none(alloc, view.ideals.resources.as_slice())?;
+    if !known.mark_changes(view, &mut marks) {
+        return Known::of(alloc, described, view, known.into_kept());
+    }
+    known.again(alloc, described.hops, view, &marks)
+}
+
 impl Planner {
     /// Nothing was planned. It takes no memory.
     pub fn new() -> Planner
         ensures { result ≡ None }
     {
         Planner { known: None }
-    }
-
-    /// What there is to know of a view that is well formed, by what is known of the last one where
-    /// that helps. What was known is forgotten. Where the view is known to want the same as the last
-    /// one, that isn't looked at.
-    fn know(
-        &mut self,
-        alloc: Global,
-        described: &Described,
-        view: &View,
-        wants_same: bool,
-    ) -> Result<Option<Known>, AllocError>
-        requires { wants_same ≡ true → IfSome self.old (λ last. last.ideals ≡ view.now.ideals) }
-        ensures known { IfOk result (λ known. IsKnownOf described.now.spec.now view.now known) }
-        ensures forgotten { self.new ≡ None }
-    {
-        let Some(known) = self.known.take() else {
-            return Known::of(alloc, described, view, Kept::nothing(alloc));
-        };
-        if !known.is_for(described.spec, view, wants_same) {
-            return Known::of(alloc, described, view, known.into_kept());
-        }
-        let mut marks = Marks::none(alloc, view.ideals.resources.as_slice())?;
-        if !known.mark_changes(view, &mut marks) {
-            return Known::of(alloc, described, view, known.into_kept());
-        }
-        known.again(alloc, described.hops, view, &marks)
     }
 
     /// The draft of a view, if it is well formed with the description.
@@ -79,7 +77,8 @@ impl Planner {
         ensures planned { IfOk result (λ draft. IsPlanned view.now draft self.new) }
         ensures refused { OnErr result (self.new ≡ None) }
     {
-        let Some(known) = self.know(alloc, described, view, wants_same)? else {
+        let last = self.known.take();
+        let Some(known) = know(last, alloc, described, view, wants_same)? else {
             return Ok(None);
         };
         let draft = draft_of_accepted(alloc, described.spec, view, known.accepted())?;
