@@ -30,7 +30,7 @@ use Rattle.hx_agreed.specs.InStep.{Each, of_instance, IsPending, is_lent_as, Has
 use Rattle.hx_agreed.proofs.Lists.{each-le}
 use Rattle.hx_agreed.proofs.Slots.{part_sym}
 use Rattle.hx_safe.proofs.Sessions.{session_live}
-use Rattle.hx_agreed.proofs.Frames.{same_is, same_both, IsLike, HasParts, untouched_like, one_instance, work_like, slot_like, row_like, placed_like, in_bag_like}
+use Rattle.hx_agreed.proofs.Frames.{same_is, same_initial, same_both, IsLike, HasParts, untouched_like, one_instance, work_like, slot_like, row_like, placed_like, in_bag_like}
 use Rattle.hx_agreed.proofs.Quiet.{same_parts}
 
 pub instance_same : (i j : InstanceId) → (i.0 == j.0) ≡ true → i ≡ j
@@ -278,7 +278,7 @@ module _ (c d : Cluster) (ws ws' : List Participant) (jobs jobs' : List Job) (ba
       let old = a.mail t p w.before w.found in
       record {
         number = subst (λ (id : MsgId). 0 < id.0) x.id old.number;
-        initial = sym x.initial ∙ old.initial ∙ ap (λ (r : PartId). initial_of c r) x.part ∙ initial n.part;
+        initial = sym (same_initial w.before n w.same) ∙ old.initial ∙ ap (λ (r : PartId). initial_of c r) x.part ∙ initial n.part;
       }
     where
       initial : (r : PartId) → initial_of c r ≡ initial_of d r

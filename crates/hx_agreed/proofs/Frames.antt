@@ -33,14 +33,12 @@ use Rattle.hx_agreed.proofs.Lists.{or-first, or-second}
 use Rattle.hx_agreed.proofs.Lent.{exactly_same}
 use Rattle.hx_agreed.proofs.Placed.{placed_work, placed_live}
 
--- two messages that are the same but for their marks
+-- what is used of two messages that are the same but for their marks
 pub record AreSame (a b : Message) : Type 0 where
   pub id : a.id ≡ b.id
   pub session : a.session ≡ b.session
   pub part : a.part ≡ b.part
-  pub from : a.from ≡ b.from
   pub to : a.to ≡ b.to
-  pub initial : a.initial ≡ b.initial
 
 id_is : (a b : MsgId) → (a.0 == b.0) ≡ true → a ≡ b
 id_is a b e = let same : a.0 ≡ b.0 = grind (arith, nat_tests, e) in ap (λ (n : ℕ). record { 0 = n }) same
@@ -53,10 +51,11 @@ same_is a b e = record {
   id = id_is a.id b.id (grind (arith, e));
   session = session_same a.session b.session (grind (arith, e));
   part = part_same a.part b.part (grind (arith, e));
-  from = state_is a.from b.from (grind (arith, e));
   to = state_is a.to b.to (grind (arith, e));
-  initial = state_is a.initial b.initial (grind (arith, e));
 }
+
+pub same_initial : (a b : Message) → is_same a b ≡ true → a.initial ≡ b.initial
+same_initial a b e = state_is a.initial b.initial (grind (arith, e))
 
 pub same_sym : (a b : Message) → is_same a b ≡ true → is_same b a ≡ true
 same_sym a b e = grind (arith, nat_tests, e)

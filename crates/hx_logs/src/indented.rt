@@ -91,30 +91,6 @@ fn throttle_answer(
     })
 }
 
-/// A proposal with its answer.
-fn move_of(
-    spec: &Spec,
-    answer: Placed,
-    session: &str,
-    part: &str,
-    states: &str,
-) -> Result<LogMove, ScriptKind>
-    requires { length spec.now.states ≤ 256 }
-    ensures { result
-        ≡ Logs.move_of spec.now answer (session.now ∷ part.now ∷ states.now ∷ []) }
-{
-    let session = session_word(session)?;
-    let part = part_named(spec, part)?;
-    let (from, to) = move_word(spec, states)?;
-    Ok(LogMove {
-        session,
-        part,
-        from,
-        to,
-        answer,
-    })
-}
-
 /// A proposal with its answer, where that is one.
 fn then_move(
     spec: &Spec,
@@ -127,7 +103,17 @@ fn then_move(
     ensures { result
         ≡ Logs.then_move spec.now (session.now ∷ part.now ∷ states.now ∷ []) answer }
 {
-    move_of(spec, answer?, session, part, states)
+    let answer = answer?;
+    let session = session_word(session)?;
+    let part = part_named(spec, part)?;
+    let (from, to) = move_word(spec, states)?;
+    Ok(LogMove {
+        session,
+        part,
+        from,
+        to,
+        answer,
+    })
 }
 
 /// What became of a proposal, by the words of its line.

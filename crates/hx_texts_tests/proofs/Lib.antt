@@ -1,4 +1,1 @@
-pub mod Worked
-pub mod EachFault
-pub mod Inputs
 pub mod Session

@@ -1,5 +1,5 @@
-//! Tests of pages, lines and words, of the printed texts, of descriptions, of scripts and of logs, by
-//! their public calls alone; and in proofs/ what the definitions make of worked descriptions.
+//! Tests of pages, lines and words, of the printed texts, of scripts and of logs, by their public
+//! calls alone.
 #![tactic(auto)]
 
 #[cfg(test)]

@@ -6,7 +6,6 @@ use hx_text::{Lines, split_lines};
 use std::alloc::Global;
 use std::test::Fail;
 
-mod descriptions;
 mod histories;
 mod lines;
 mod logs;

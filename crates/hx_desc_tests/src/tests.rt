@@ -1,4 +1,3 @@
-//! Descriptions: what the reader answers to each fault, and to a whole one.
 use hx_desc::{DescKind, DescRefusal, read};
 use std::test::Fail;
 
