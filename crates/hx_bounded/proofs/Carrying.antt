@@ -16,7 +16,7 @@ use Rattle.hx_cluster.specs.declared.happenings.Outcome.{Outcome}
 use Rattle.hx_cluster.specs.declared.happenings.WriteRefusal.TheVariants as refusals
 use Rattle.hx_cluster.specs.Marks.{write_fault}
 use Rattle.hx_cluster.specs.Ends.{is_message, is_live, message_of}
-use Rattle.hx_cluster.specs.Messages.{has_id, pending_of, as_taken, as_written, written_of, after_take, after_write, after_ack}
+use Rattle.hx_cluster.specs.Messages.{is_same, has_id, pending_of, as_taken, as_written, written_of, after_take, after_write, after_ack}
 use Rattle.hx_cluster.specs.Events.{can_write, can_ack}
 use Rattle.hx_cluster.specs.Safe.{IsSafe}
 use Rattle.hx_cluster.specs.Ranged.{IsRanged}
@@ -116,6 +116,10 @@ pub record IsWorking (P : Cluster → Type 0) (H : Job → Type 0) (live : List 
   pub jobs : Each (OfLive live H) w.jobs
   pub controllers : w.controllers ≡ ks
 
+-- two messages that are the same but for their marks lead from one state
+same_from : (a b : Message) → is_same a b ≡ true → a.from ≡ b.from
+same_from a b e = let same : a.from.0 ≡ b.from.0 = grind (arith, nat_tests, e) in ap (λ (n : ℕ). record { 0 = n }) same
+
 -- a job that is written is live
 pub write_live : (c : Cluster) (j : Job) (ws : List Participant) (jobs : List Job) → IsKept c → IsHeldJob c ws jobs j → is_live c.live j.message.session ≡ true
     → (m : Message) → pending_of c j.message.session j.message.id ≡ Some m → m.from ≡ j.message.from
@@ -123,7 +127,7 @@ write_live c j ws jobs k h live m at =
     let t = h.taken live in
     let found = pending_found c k j.message.session j.message.id j.message.part t.now t.found (sym (same_is j.message t.now t.taken.same).id) in
     let same : t.now ≡ m = some_is t.now m (sym found ∙ at) in
-    ap (λ (x : Message). x.from) (sym same) ∙ sym (same_is j.message t.now t.taken.same).from
+    ap (λ (x : Message). x.from) (sym same) ∙ sym (same_from j.message t.now t.taken.same)
   where
     some_is : (a b : Message) → Some a ≡ Some b → a ≡ b
     some_is a b e = cc
