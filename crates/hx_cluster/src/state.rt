@@ -19,12 +19,12 @@ pub struct Message {
     pub id: MsgId,
     pub session: SessionId,
     pub part: PartId,
+    /// The epoch in which it was sent.
+    pub epoch: Epoch,
     pub from: StateId,
     pub to: StateId,
     /// The initial state of the part's model.
     pub initial: StateId,
-    /// The epoch in which it was sent.
-    pub epoch: Epoch,
     /// The session began the transition.
     pub taken: bool,
     /// The outcome came to the row.
