@@ -31,7 +31,7 @@ impl Records {
     pub fn roster(&self, alloc: Global) -> Result<Vec<(SessionId, InstanceId)>, AllocError>
         ensures { IfOk result (λ shown. shown.items ≡ shown_of self.now.live) }
     {
-        let mut shown = Vec::new(alloc);
+        let mut shown = Vec::with_capacity(alloc, self.seats.len())?;
         let mut next = self.sessions.first();
         while let Some(live) = next {
             shown.push((live.session, live.instance))?;
