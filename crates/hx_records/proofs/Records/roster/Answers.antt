@@ -11,7 +11,7 @@ use Rattle.hx_records.proofs.Records.roster.Goals as goal
 pub loop-next-init : goal.loop-next-init
 loop-next-init c =
     let its : c.self.inside.sessions.live ≡ c.args.self.now.live = ap (λ (x : Cluster). x.live) c.self.view_is in
-    none_shown c.args.self.now.live c.first-next.result _ (c.first-next.ensures.first ∙ ap first_live its) c.new-shown.ensures.items
+    none_shown c.args.self.now.live c.first-next.result _ (c.first-next.ensures.first ∙ ap first_live its) c.in_ok-shown.ensures.items
 
 pub loop-next-smaller : goal.loop-next-smaller
 loop-next-smaller c =
