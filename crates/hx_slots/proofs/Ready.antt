@@ -1,5 +1,5 @@
 -- The rows of a session's slots, as one of them is put at a state.
-use Rattle.std.proofs.Common.{Less, ◌≡◌, ℕ, ◌⊎◌, inl, inr, zero, suc, ◌<◌, ◌≤◌, ◌+◌, Bool, true, false, cond, not, List, [], ◌∷◌, length, Some, None, Option, refl, sym, ap, ◌∙◌, subst, arith, get_or}
+use Rattle.std.proofs.Common.{Less, ◌≡◌, ℕ, zero, suc, ◌<◌, ◌≤◌, ◌+◌, Bool, true, false, cond, not, List, [], ◌∷◌, length, Some, None, Option, refl, sym, ap, ◌∙◌, subst, arith, get_or}
 use Rattle.std.specs.Prelude.{◌==◌, ◌&&◌, ◌||◌, nat_lt, is_some, if◌then◌else◌}
 use Rattle.std.specs.List.{list_any, cons_option, AllByRecursion}
 use Rattle.std.specs.List.Sorted.{IsStrictlySortedBy, IsPartitionedBy, IsPartitionPoint}
@@ -18,13 +18,12 @@ use Rattle.hx_cluster.specs.Ends.{is_row, part_eq, part_before}
 use Rattle.hx_store.specs.declared.Record.{Record}
 use Rattle.hx_store.specs.Records.{record_at, set_to, changed}
 use Rattle.hx_store.proofs.Entries.{absent-past_head, map-absent}
-use Rattle.hx_store.proofs.Sorted.{below_first, which}
 use Rattle.hx_slots.specs.declared.slot.Slot.{Slot}
 use Rattle.hx_slots.specs.Slots.{IsPlaced, IsSlot, slot_key, row_with, row_of, rows_of}
 use Rattle.hx_slots.specs.Index.{Ready, CanPut, place_of, row_placed}
 use Rattle.hx_slots.proofs.Keys.{key_before}
 use Rattle.hx_slots.proofs.Entries.{all-weaker, some_is}
-use Rattle.hx_slots.proofs.RowsOf.{EachSlot, state_in, has_row}
+use Rattle.hx_slots.proofs.RowsOf.{EachSlot, state_in, has_row, above_first}
 
 -- what holds of each slot of a session
 abbrev pub IsOwn : ℕ → SessionId → ℕ × Record Slot → Type 0
@@ -179,15 +178,6 @@ rows-placed changes s p v r (e ∷ es) ordered all placed there = one (slot_key 
         ∙ ap (row_placed had (row_of v) (rows_of (e ∷ es))) (sym (first e.1.value.state (sym (key-part changes e s p all.0 placed) ∙ not_before) (past-head changes s p e es ordered all.1 placed not_before)))
 
     -- and behind
-    up : (slot_key s p == e.0) ≡ false → record_at es (slot_key s p) ≡ Some r → nat_lt e.0 (slot_key s p) ≡ true
-    up i found = by (which (slot_key s p) e.0)
-      where
-        by : (slot_key s p < e.0) ⊎ ((slot_key s p ≡ e.0) ⊎ (e.0 < slot_key s p)) → nat_lt e.0 (slot_key s p) ≡ true
-        by (inl less) =
-            let none : None ≡ Some r = sym (below_first (slot_key s p) e es ordered less) ∙ rw i found in cc
-        by (inr (inl h)) = absurd (grind (arith, nat_tests))
-        by (inr (inr more)) = grind (arith, nat_tests)
-
     behind : (o : Option StateId) → part_before e.1.value.part p ≡ true → rows_of (set_to es (slot_key s p) v) ≡ row_placed had (row_of v) (rows_of es) (place_of p (rows_of es))
         → cons_option (row_with e.1.value o) (rows_of (set_to es (slot_key s p) v)) ≡ row_placed had (row_of v) (cons_option (row_with e.1.value o) (rows_of es)) (place_of p (cons_option (row_with e.1.value o) (rows_of es)))
     behind None i rest = rest
@@ -201,7 +191,7 @@ rows-placed changes s p v r (e ∷ es) ordered all placed there = one (slot_key 
     one true i h rest =
         ap (λ (xs : List (ℕ × Record Slot)). cons_option (row_of v) (rows_of xs)) (map-absent (slot_key s p) (λ x. (x.0, changed x.1 v)) es (absent-past_head (slot_key s p) e es (IsDistinct-from_sorted _ _ ordered) i))
         ∙ here i (some_is e.1 r h)
-    one false i h rest = behind e.1.value.state (sym (key-part changes e s p all.0 placed) ∙ up i h) (rest h)
+    one false i h rest = behind e.1.value.state (sym (key-part changes e s p all.0 placed) ∙ above_first (slot_key s p) r e es ordered i h) (rest h)
 
 -- what a write asks of rows, of those that are looked at
 pub looked_at : (p : PartId) (had : Bool) (slots : ℕ) (rows seen : List Row) (now : Ready) → record { slots = slots; rows = rows } ≡ now → seen ≡ rows → CanPut p had now → CanPut p had (record { slots = slots; rows = seen })
