@@ -19,6 +19,8 @@ use Rattle.hx_cluster.specs.declared.happenings.Placed.TheVariants as placings
 use Rattle.hx_cluster.specs.declared.happenings.Outcome.{Outcome}
 use Rattle.hx_cluster.specs.Ends.{is_session, is_live, state_of, message_of, message_at, instance_in, shown_of}
 use Rattle.hx_cluster.specs.Messages.{has_id, pending_of, as_taken, as_written, row_put, state_after, flags_after, written_of, after_take, after_write, message_from, placed_of, placed_idle, after_placed, after_proposal}
+use Rattle.hx_cluster.specs.Marks.{write_fault, write_refusal}
+use Rattle.hx_cluster.specs.declared.happenings.WriteRefusal.TheVariants as writes
 use Rattle.hx_cluster.specs.Steps.{is_dropped}
 use Rattle.hx_cluster.specs.Safe.{is_pending}
 use Rattle.hx_cluster.proofs.Shown.{instance_in_shown}
@@ -95,6 +97,17 @@ dead_other c s id dead m is = one (has_id s id m) refl
 
 pub none_dead : (c : Cluster) (s : SessionId) (id : MsgId) → IsKept c → is_live c.live s ≡ false → pending_of c s id ≡ None
 none_dead c s id k dead = find-none (has_id s id) c.mail (none-from-all (is_pending c) (has_id s id) (dead_other c s id dead) c.mail k.mail.pending)
+
+-- a session of which a message is pending is live
+live_pending : (c : Cluster) (s : SessionId) (id : MsgId) (m : Message) → IsKept c → pending_of c s id ≡ Some m → is_live c.live s ≡ true
+live_pending c s id m k found = one (is_live c.live s) refl
+  where
+    one : (b : Bool) → is_live c.live s ≡ b → b ≡ true
+    one true i = refl
+    one false i = let no : None ≡ Some m = sym (none_dead c s id k i) ∙ found in cc
+
+pub refused_write : (c : Cluster) (s : SessionId) (id : MsgId) (m : Message) → IsKept c → pending_of c s id ≡ Some m → write_refusal c s id ≡ write_fault (Some m)
+refused_write c s id m k found = ap (λ (b : Bool). if b then write_fault (pending_of c s id) else Some writes.SessionEnded) (live_pending c s id m k found) ∙ ap write_fault found
 
 filter-absent : {X : Type 0} (p : X → Bool) (xs : List X) → find p xs ≡ None → filter (λ x. not (p x)) xs ≡ xs
 filter-absent p [] e = refl

@@ -33,17 +33,17 @@ fn leave(rest: &Cluster, counts: &mut Counts, has: Option<StateId>, message: &Me
 }
 
 impl Records {
-    /// The message whose outcome a session may write, or the first cause why it may not.
+    /// The message whose outcome a session may write, or the first cause why it may not. Only live
+    /// sessions have messages.
     fn writable(&self, session: SessionId, id: MsgId) -> Result<Message, WriteRefusal>
+        requires { IsKept self.now }
         ensures refused { RefusedAs (write_refusal self.now session id) result }
         ensures message { IfOk result (λ m. pending_of self.now session id ≡ Some m) }
         ensures free { IfOk result (λ m. m.written ≡ false) }
     {
-        if !self.is_live(session) {
-            return Err(WriteRefusal::SessionEnded);
-        }
         match self.slots.pending(session, id) {
-            None => Err(WriteRefusal::NoMessage),
+            None if self.is_live(session) => Err(WriteRefusal::NoMessage),
+            None => Err(WriteRefusal::SessionEnded),
             Some(message) if !message.taken => Err(WriteRefusal::NotTaken),
             Some(message) if message.written => Err(WriteRefusal::AlreadyWritten),
             Some(message) => Ok(message),

@@ -5,7 +5,6 @@ pub mod Walks
 pub mod Mail
 pub mod Calls
 pub mod Growing
-pub mod Placing
 pub mod Mirrored
 pub mod Mirroring
 pub mod Ready

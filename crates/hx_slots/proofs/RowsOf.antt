@@ -129,6 +129,16 @@ rows-restated changes s p t v (e ∷ es) ordered all placed vs vp vt some =
     one false i (Some u) st h rest =
         rw (i, st, sym (at_key changes e s p all.0 placed) ∙ i) (ap (λ rows. record { session = e.1.value.session; part = e.1.value.part; state = u } ∷ rows) (rest (subst (λ b. IfSome (cond b (Some e.1) (record_at es (slot_key s p))) (λ r. is_some r.value.state ≡ true)) i h)))
 
+-- where the first entry's key is another one, a record that is there has a higher key
+pub above_first : (k : ℕ) (r : Record Slot) (e : ℕ × Record Slot) (es : List (ℕ × Record Slot)) → IsStrictlySortedBy nat_cmp (keys_of (e ∷ es)) → (k == e.0) ≡ false → record_at es k ≡ Some r → nat_lt e.0 k ≡ true
+above_first k r e es ordered i there = by (which k e.0)
+  where
+    by : (k < e.0) ⊎ ((k ≡ e.0) ⊎ (e.0 < k)) → nat_lt e.0 k ≡ true
+    by (inl less) =
+        let none : None ≡ Some r = sym (below_first k e es ordered less) ∙ rw i there in cc
+    by (inr (inl h)) = absurd (grind (arith, nat_tests))
+    by (inr (inr more)) = grind (arith, nat_tests)
+
 -- and where it gets its first
 pub rows-filled : (changes : ℕ) (s : SessionId) (p : PartId) (t : StateId) (v : Slot) (r : Record Slot) (es : List (ℕ × Record Slot)) → IsStrictlySortedBy nat_cmp (keys_of es) → EachSlot changes es → IsPlaced s p
     → v.session ≡ s → v.part ≡ p → v.state ≡ Some t → record_at es (slot_key s p) ≡ Some r → r.value.state ≡ None
@@ -137,15 +147,6 @@ rows-filled changes s p t v r [] ordered all placed vs vp vt found free = cc
 rows-filled changes s p t v r (e ∷ es) ordered all placed vs vp vt found free =
     one (slot_key s p == e.0) refl found e.1.value.state refl (λ h. rows-filled changes s p t v r es (sorted_tail _ _ _ ordered) all.1 placed vs vp vt h free)
   where
-    lower : (slot_key s p == e.0) ≡ false → record_at es (slot_key s p) ≡ Some r → nat_lt e.0 (slot_key s p) ≡ true
-    lower i there = by (which (slot_key s p) e.0)
-      where
-        by : (slot_key s p < e.0) ⊎ ((slot_key s p ≡ e.0) ⊎ (e.0 < slot_key s p)) → nat_lt e.0 (slot_key s p) ≡ true
-        by (inl less) =
-            let none : None ≡ Some r = sym (below_first (slot_key s p) e es ordered less) ∙ rw i there in cc
-        by (inr (inl h)) = absurd (grind (arith, nat_tests))
-        by (inr (inr more)) = grind (arith, nat_tests)
-
     one : (b : Bool) → (slot_key s p == e.0) ≡ b → cond b (Some e.1) (record_at es (slot_key s p)) ≡ Some r → (o : Option StateId) → e.1.value.state ≡ o
         → (record_at es (slot_key s p) ≡ Some r → rows_of (set_to es (slot_key s p) v) ≡ insert_by row_before (record { session = s; part = p; state = t }) (rows_of es))
         → rows_of ((if slot_key s p == e.0 then (e.0, changed e.1 v) else e) ∷ set_to es (slot_key s p) v) ≡ insert_by row_before (record { session = s; part = p; state = t }) (rows_of (e ∷ es))
@@ -155,7 +156,7 @@ rows-filled changes s p t v r (e ∷ es) ordered all placed vs vp vt found free 
         (sym (in_front changes s p t es all.1 placed (subst (λ k. AllByRecursion (λ y. nat_cmp k y ≡ Less) (keys_of es)) (sym key) (sorted_head _ _ _ ordered))))
     one true i there (Some u) st rest = let same : e.1 ≡ r = cc in let no : None ≡ Some u = sym free ∙ ap (λ (x : Record Slot). x.value.state) (sym same) ∙ st in cc
     one false i there None st rest = rw (i, st) (rest there)
-    one false i there (Some u) st rest = rw (i, st, sym (before_key changes e s p t u all.0 placed) ∙ lower i there) (ap (λ rows. record { session = e.1.value.session; part = e.1.value.part; state = u } ∷ rows) (rest there))
+    one false i there (Some u) st rest = rw (i, st, sym (before_key changes e s p t u all.0 placed) ∙ above_first (slot_key s p) r e es ordered i there) (ap (λ rows. record { session = e.1.value.session; part = e.1.value.part; state = u } ∷ rows) (rest there))
 
 -- a slot that is there, put at a state
 pub rows-set : (changes : ℕ) (s : SessionId) (p : PartId) (t : StateId) (v : Slot) (r : Record Slot) (es : List (ℕ × Record Slot)) → IsStrictlySortedBy nat_cmp (keys_of es) → EachSlot changes es → IsPlaced s p

@@ -1,4 +1,4 @@
 pub mod Kept
 pub mod Slots
-pub mod Cells
+pub mod Index
 pub mod Mirror

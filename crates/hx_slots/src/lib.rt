@@ -8,18 +8,17 @@ ghost use Rattle.std.specs.List.{list_any, list_all};
 ghost use Rattle.hx_cluster.specs.Ends.{state_of, message_of, is_row};
 ghost use Rattle.hx_cluster.specs.Messages.{has_id, as_taken, as_written, row_put};
 
-mod cell_rows;
-mod cells;
 mod owned;
+mod row_index;
+mod session_rows;
 mod slot;
 
-use cell_rows::push_cells;
-use cells::Cells;
 use hx_cluster::{Message, Row};
 use hx_ids::{MsgId, PartId, ResourceId, SessionId, StateId};
 use hx_lists::Seq;
 use hx_store::Store;
 use owned::{pop_owned, push_or_cut};
+use row_index::RowIndex;
 use slot::{Slot, add_message, last_message, note_sent, put_at, slot_of};
 use std::alloc::{AllocError, Global};
 use std::marker::Model;
@@ -30,8 +29,8 @@ use std::marker::Model;
 pub struct Slots {
     alloc: Global,
     slots: Store<Slot>,
-    /// What reads of rows need of the slots. Those of a session whose cells aren't kept are walked.
-    cells: Cells,
+    /// The rows, ready to be copied. The slots of a session whose rows aren't kept are walked.
+    index: RowIndex,
     mail: Store<Message>,
     /// How many changes slots have had.
     changes: u64,
@@ -50,7 +49,7 @@ impl Model for Slots {
     ghost use Rattle.hx_slots.specs.Mirror.{AreMirrored};
 
     ghost invariant = { λ a. AreSlots a.slots a.mail a.changes a.paid
-        × AreMirrored a.slots a.cells };
+        × AreMirrored a.slots a.index };
 }
 
 /// The most changes that are paid.
@@ -65,7 +64,7 @@ impl Slots {
         Slots {
             alloc,
             slots: Store::new(alloc),
-            cells: Cells::new(alloc),
+            index: RowIndex::new(alloc),
             mail: Store::new(alloc),
             changes: 0,
             paid: 0,
@@ -119,8 +118,8 @@ impl Slots {
             (rows.new ≡ rows.old ++ filter (λ r. r.session.0 == session.0) self.now.rows) }
         ensures err { OnErr result (rows.new ≡ rows.old) }
     {
-        match self.cells.of(session) {
-            Some(cells) => push_cells(rows, session, cells),
+        match self.index.of(session) {
+            Some(kept) => kept.push_to(rows),
             None => self.push_slots_of(session, rows),
         }
     }
@@ -212,7 +211,7 @@ impl Slots {
         if self.paid > MOST - 2 {
             return Err(AllocError);
         }
-        note_sent(&mut self.slots, &mut self.cells, session, part, id)?;
+        note_sent(&mut self.slots, &mut self.index, session, part, id)?;
         self.changes += 1;
         self.paid += 2;
         add_message(&mut self.mail, message)?;
@@ -247,7 +246,7 @@ impl Slots {
         ensures mail { self.new.mail
             ≡ map (as_written message.now.session message.now.id) self.old.mail }
     {
-        let had = put_at(&mut self.slots, &mut self.cells, message, state);
+        let had = put_at(&mut self.slots, &mut self.index, message, state);
         self.changes += 1;
         let written = Message {
             written: true,
@@ -289,7 +288,7 @@ impl Slots {
         ensures rows { MatchOption result (self.new.rows ≡ self.old.rows) (λ r.
             self.new.rows ≡ filter (λ x. not (is_row session r.part x)) self.old.rows) }
     {
-        self.cells.forget(session);
+        self.index.forget(session);
         while let Some(slot) = pop_owned(&mut self.slots, session) {
             if let Some(row) = slot.row() {
                 return Some(row);

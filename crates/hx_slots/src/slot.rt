@@ -10,7 +10,7 @@ ghost use Rattle.hx_slots.specs.Slots.{IsPlaced, slot_key, row_of as row_of_slot
 ghost use Rattle.hx_slots.specs.Slots.{IsSlotOf, sent_at, sent_last, by_sent, put_at as put_at_of};
 ghost use Rattle.hx_slots.specs.Mirror.{AreMirrored, AreAllSlots, IsNoted};
 
-use crate::cells::Cells;
+use crate::row_index::RowIndex;
 use hx_cluster::{Message, Row};
 use hx_ids::{MsgId, PartId, ResourceId, SessionId, StateId};
 use hx_model::DROPPED;
@@ -73,44 +73,42 @@ pub(crate) fn slot_of(slots: &Store<Slot>, session: SessionId, part: PartId) -> 
     Some(slot)
 }
 
-/// Notes the cell of a slot that is to be made: where the cells of its session are kept it gets
-/// its place, and where it is the session's first they are kept from now on.
-fn note_cell(
-    cells: &mut Cells,
+/// Notes a slot of a session that is to be made: where the rows of the session are kept there is
+/// room for its row, and where it is the session's first they are kept from now on.
+fn note_slot(
+    index: &mut RowIndex,
     slots: &Store<Slot>,
     session: SessionId,
-    part: PartId,
 ) -> Result<(), AllocError>
-    requires slots { AreAllSlots slots.now }
-    requires ordered { IsStrictlySortedBy nat_cmp (keys_of slots.now) }
-    requires mirrored { AreMirrored slots.now cells.old }
-    ensures ok { OnOk result (IsNoted session part slots.now cells.new) }
-    ensures err { OnErr result (AreMirrored slots.now cells.new) }
+    requires mirrored { AreMirrored slots.now index.old }
+    ensures ok { OnOk result (IsNoted session slots.now index.new) }
+    ensures err { OnErr result (AreMirrored slots.now index.new) }
 {
-    if cells.add(session, part)? || slots.next_owned(session, 0).is_some() {
+    if index.add(session)? || slots.next_owned(session, 0).is_some() {
         return Ok(());
     }
-    cells.open(session, part)
+    index.open(session)
 }
 
-/// Makes the slot of a key that has none, and its cell. Where there is memory for the cell and
-/// none for the slot, the cells of the session are kept no more.
-fn make(slots: &mut Store<Slot>, cells: &mut Cells, key: u64, slot: Slot) -> Result<(), AllocError>
-    requires slots { AreAllSlots slots.old }
-    requires ordered { IsStrictlySortedBy nat_cmp (keys_of slots.old) }
-    requires mirrored { AreMirrored slots.old cells.old }
-    requires placed { IsPlaced slot.session slot.part }
-    requires key { key ≡ slot_key slot.session slot.part }
+/// Makes the slot of a key that has none, with room for its row. Where there is memory for the row
+/// and none for the slot, the rows of the session are kept no more.
+fn make(
+    slots: &mut Store<Slot>,
+    index: &mut RowIndex,
+    key: u64,
+    slot: Slot,
+) -> Result<(), AllocError>
+    requires mirrored { AreMirrored slots.old index.old }
     requires bare { slot.state ≡ None }
     ensures ok { OnOk result (slots.new ≡ created slots.old key (Some slot.session) slot) }
     ensures err { OnErr result (slots.new ≡ slots.old) }
-    ensures mirrored { AreMirrored slots.new cells.new }
+    ensures mirrored { AreMirrored slots.new index.new }
 {
-    note_cell(cells, slots, slot.session, slot.part)?;
+    note_slot(index, slots, slot.session)?;
     match slots.create(key, Some(slot.session), slot) {
         Ok(()) => Ok(()),
         Err(_) => {
-            cells.forget(slot.session);
+            index.forget(slot.session);
             Err(AllocError)
         }
     }
@@ -120,20 +118,20 @@ fn make(slots: &mut Store<Slot>, cells: &mut Cells, key: u64, slot: Slot) -> Res
 /// made.
 pub(crate) fn note_sent(
     slots: &mut Store<Slot>,
-    cells: &mut Cells,
+    index: &mut RowIndex,
     session: SessionId,
     part: PartId,
     id: MsgId,
 ) -> Result<(), AllocError>
     requires room { CanChange (record_at slots.old (slot_key session part)) }
     requires slots { AreAllSlots slots.old }
-    requires mirrored { AreMirrored slots.old cells.old }
+    requires mirrored { AreMirrored slots.old index.old }
     ensures ordered { OnOk result (IsStrictlySortedBy nat_cmp (keys_of slots.old)) }
     ensures placed { OnOk result (IsPlaced session part) }
     ensures ok { OnOk result
         (slots.new ≡ sent_at slots.old (slot_key session part) session part id) }
     ensures err { OnErr result (slots.new ≡ slots.old) }
-    ensures mirrored { AreMirrored slots.new cells.new }
+    ensures mirrored { AreMirrored slots.new index.new }
 {
     let Some(key) = key_of(session, part) else {
         return Err(AllocError);
@@ -145,7 +143,7 @@ pub(crate) fn note_sent(
         sent: Some(id),
     };
     let Some((_, slot)) = slots.get(key) else {
-        return make(slots, cells, key, noted);
+        return make(slots, index, key, noted);
     };
     noted.state = slot.state;
     slots.replace(key, noted);
@@ -156,12 +154,12 @@ pub(crate) fn note_sent(
 /// and gives the state that it had, if any. It takes no memory.
 pub(crate) fn put_at(
     slots: &mut Store<Slot>,
-    cells: &mut Cells,
+    index: &mut RowIndex,
     message: &Message,
     state: StateId,
 ) -> Option<StateId>
     requires slots { AreAllSlots slots.old }
-    requires mirrored { AreMirrored slots.old cells.old }
+    requires mirrored { AreMirrored slots.old index.old }
     requires placed { IsPlaced message.now.session message.now.part }
     requires sent { sent_last (record_at slots.old (slot_key message.now.session message.now.part))
         ≡ Some message.now.id }
@@ -173,7 +171,7 @@ pub(crate) fn put_at(
     ensures slots { slots.new
         ≡ put_at_of slots.old (slot_key message.now.session message.now.part)
         message.now.session message.now.part state }
-    ensures mirrored { AreMirrored slots.new cells.new }
+    ensures mirrored { AreMirrored slots.new index.new }
 {
     let Message {
         id,
@@ -193,7 +191,7 @@ pub(crate) fn put_at(
     let Some(before) = slots.replace(key, put) else {
         unreachable!()
     };
-    cells.put(session, part, put.state);
+    index.put(session, part, before.state.is_some(), put.row());
     before.state
 }
 

@@ -12,3 +12,6 @@ bring-requires-clause-pending c = pending_own c.args.self.now c.args.session c.a
 
 pub returns-clause-ok : goal.returns-clause-ok
 returns-clause-ok c = c.bring.ensures ∙ own_named (λ s id. after_write c.args.self.now s id c.args.outcome) c.args.self.now c.args.session c.args.id c.in_ok-message.message c.in_ok-message.ensures.message
+
+pub writable-requires : goal.writable-requires
+writable-requires c = (whole_reached c.args.self.now c.requires.reached).kept

@@ -10,7 +10,7 @@ use Rattle.hx_slots.proofs.Slots.pop_row.Goals as goal
 
 pub loop-slot-init : goal.loop-slot-init
 loop-slot-init c =
-    let kept = mirrored_forgotten c.args.session c.self.inside.slots c.self.inside.cells c.forget.new.self c.self.invariant.1 c.forget.ensures in
+    let kept = mirrored_forgotten c.args.session c.self.inside.slots c.self.inside.index c.forget.new.self c.self.invariant.1 c.forget.ensures in
     (c.self.invariant.0, ap (λ (x : Kept). x.rows) c.self.view_is, ap (λ (x : Kept). x.mail) c.self.view_is, kept.0, kept.1)
 
 pub invariant_of-self : goal.invariant_of-self
@@ -18,7 +18,7 @@ invariant_of-self c =
     let i = c.loop-slot.self-inside in
     let none = ap (λ (ms : List Message). find (λ m. m.session.0 == c.args.session.0) ms) c.loop-slot.invariant.2 ∙ c.requires in (
       popped_kept i.slots c.pop_owned.new.store i.mail i.changes i.paid c.args.session c.in-Some.slot c.loop-slot.invariant.0 none c.in-Some.ensures.popped,
-      mirrored_popped c.args.session c.in-Some.slot i.slots c.pop_owned.new.store i.cells c.pop_owned.ensures.ordered c.in-Some.ensures.popped c.loop-slot.invariant.3 c.loop-slot.invariant.4,
+      mirrored_popped c.args.session c.in-Some.slot i.slots c.pop_owned.new.store i.index c.pop_owned.ensures.ordered c.in-Some.ensures.popped c.loop-slot.invariant.3 c.loop-slot.invariant.4,
     )
 
 pub returns-in-Some-row-clause-first : goal.returns-in-Some-row-clause-first
@@ -47,7 +47,7 @@ loop-slot-preserved c =
       popped_bare i.changes i.slots c.pop_owned.new.store c.args.session c.in-Some.slot c.pop_owned.ensures.ordered c.loop-slot.invariant.0.each_slot c.in-Some.ensures.popped (sym c.in_default-row.ensures)
           ∙ c.loop-slot.invariant.1,
       c.loop-slot.invariant.2,
-      mirrored_popped c.args.session c.in-Some.slot i.slots c.pop_owned.new.store i.cells c.pop_owned.ensures.ordered c.in-Some.ensures.popped c.loop-slot.invariant.3 c.loop-slot.invariant.4,
+      mirrored_popped c.args.session c.in-Some.slot i.slots c.pop_owned.new.store i.index c.pop_owned.ensures.ordered c.in-Some.ensures.popped c.loop-slot.invariant.3 c.loop-slot.invariant.4,
       c.loop-slot.invariant.4,
     )
 

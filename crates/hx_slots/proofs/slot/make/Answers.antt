@@ -2,5 +2,4 @@ use Rattle.hx_slots.proofs.Mirroring.{mirrored_made}
 use Rattle.hx_slots.proofs.slot.make.Goals as goal
 
 pub returns-in-Ok-clause-mirrored : goal.returns-in-Ok-clause-mirrored
-returns-in-Ok-clause-mirrored c =
-    mirrored_made c.args.key c.args.slot c.args.slots.now c.create.new.self c.note_cell.new.cells c.requires.slots c.requires.ordered c.requires.placed c.requires.key c.requires.bare c.in_ok-note_cell.ensures.ok c.in-Ok.ensures.ok
+returns-in-Ok-clause-mirrored c = mirrored_made c.args.key c.args.slot c.args.slots.now c.create.new.self c.note_slot.new.index c.requires.bare c.in_ok-note_slot.ensures.ok c.in-Ok.ensures.ok
