@@ -139,16 +139,15 @@ impl Controller {
         ensures { IfOk result (λ report. proposals.now ≡ [] → self.now.turn.view.mail ≡ []
             → report ≡ reported self.now.turn.view draft.now) }
     {
-        let view = &self.view;
-        let alloc = view.live.allocator();
-        if !proposals.is_empty() || !view.mail.is_empty() {
+        let alloc = self.view.live.allocator();
+        if !proposals.is_empty() || !self.view.mail.is_empty() {
             let entries = Entries::new(alloc);
             return Ok(Report { entries });
         }
         if self.planner.is_still(spec) {
-            return draft.report_without(alloc, spec, view);
+            return draft.report_without(alloc, spec, &self.view);
         }
-        draft.report(alloc, spec, hops, view)
+        draft.report(alloc, spec, hops, &self.view)
     }
 
     /// The plan of a draft, but for the report where its dispatch can't tell it.

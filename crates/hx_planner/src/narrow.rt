@@ -13,7 +13,7 @@ ghost use Rattle.hx_pass.specs.Turns.{posted_of, seen_of};
 ghost use Rattle.hx_pass.specs.Waiting.{HasWaiting};
 
 use hx_best::{Index, moving_targets_of};
-use hx_cluster::{Candidate, Row, Seen, View};
+use hx_cluster::{Row, Seen, View};
 use hx_gen::candidates;
 use hx_hops::Hops;
 use hx_ids::{InstanceId, PartId};
@@ -23,22 +23,26 @@ use hx_pass::{Choice, choose_on, posted};
 use hx_throttle::Shown;
 use std::alloc::{AllocError, Global};
 
-/// The candidates among the targets of the marked parts.
-fn candidates_among(
+/// What is chosen of the candidates among the targets of the marked parts.
+fn choice_among(
     alloc: Global,
     models: &[Model],
     hops: &[Hops],
     index: &Index<'_>,
     marks: &Marks,
-) -> Result<Vec<Candidate>, AllocError>
+) -> Result<Choice, AllocError>
     requires hops { hops.now ≡ models.now }
     requires models { has_models models.now index.now ≡ true }
-    ensures found { IfOk result (λ found.
-        found.items ≡ candidates_within models.now (is_marked marks.now) index.now) }
-    ensures by_part { IfOk result (λ found. IsByPart (λ c. c.part) found.items) }
+    ensures accepted { IfOk result (λ choice.
+        choice.accepted ≡ accepted_within models.now (is_marked marks.now) index.now) }
+    ensures waiting { IfOk result (λ choice.
+        HasWaiting (candidates_within models.now (is_marked marks.now) index.now)
+        choice.accepted choice.waiting.items) }
 {
+    let view = index.view();
     let targets = moving_targets_of(alloc, models, index, marks)?;
-    candidates(alloc, models, hops, index.view(), targets.as_slice())
+    let candidates = candidates(alloc, models, hops, view, targets.as_slice())?;
+    choose_on(alloc, models, index.shown(), candidates)
 }
 
 /// Adds rows with the instances of their sessions.
@@ -127,8 +131,7 @@ pub(crate) fn found_among(
 {
     let index = Index::of(alloc, view)?;
     let parts = marks.parts(alloc)?;
-    let candidates = candidates_among(alloc, models, hops, &index, marks)?;
-    let choice = choose_on(alloc, models, index.shown(), candidates)?;
+    let choice = choice_among(alloc, models, hops, &index, marks)?;
     let posted = posted_among(alloc, &index, parts.as_slice())?;
     Ok(Found {
         parts,
