@@ -1,11 +1,11 @@
 -- What is found of a part by what a view shows of it, so that a view that differs from another one in a few parts needs only these to be gone over.
-use Rattle.std.specs.Prelude.{◌≡◌, Bool, false, List, filter, if◌then◌else◌}
+use Rattle.std.specs.Prelude.{◌≡◌, Bool, false, List, filter}
 use Rattle.hx_ids.specs.declared.PartId.{PartId}
 use Rattle.hx_model.specs.declared.ModelParts.{ModelParts}
 use Rattle.hx_cluster.specs.declared.planning.View.{View}
 use Rattle.hx_cluster.specs.declared.planning.Target.{Target}
 use Rattle.hx_cluster.specs.declared.planning.Candidate.{Candidate}
-use Rattle.hx_parts.specs.Parts.{items_at, IsByPart}
+use Rattle.hx_parts.specs.Parts.{items_at}
 use Rattle.hx_best.specs.Targets.{all_targets}
 use Rattle.hx_gen.specs.Candidates.{candidates}
 use Rattle.hx_select.specs.Selection.{accepted_of}
