@@ -4,7 +4,6 @@ use Rattle.std.specs.List.{list_all}
 use Rattle.hx_cluster.specs.declared.planning.View.{View}
 use Rattle.hx_cluster.specs.declared.planning.Target.{Target}
 use Rattle.hx_cluster.specs.declared.planning.Candidate.{Candidate}
-use Rattle.hx_parts.specs.Parts.{IsByPart}
 use Rattle.hx_best.specs.Targets.{all_targets}
 use Rattle.hx_best.specs.Still.{HasMoving}
 use Rattle.hx_gen.specs.Stage.{has_model}

@@ -59,24 +59,24 @@ splice_few-requires-clause-old c =
 pub splice_few-requires-clause-new : goal.splice_few-requires-clause-new
 splice_few-requires-clause-new c =
     let models = c.as_slice-2.result.now in
-    subst (λ (cs : List Candidate). IsByPart (λ c. c.part) cs) (sym (c.as_slice-4.ensures ∙ c.in_ok-new.ensures.accepted))
+    subst (λ (cs : List Candidate). IsByPart (λ c. c.part) cs) (sym (c.as_slice-found.ensures ∙ c.in_ok-new.ensures.accepted))
     (accepted_by_part models c.in_ok-narrow.narrow.view (marked_targets models (is_marked c.args.marks.now) c.in_ok-narrow.narrow.view))
 
 pub splice_few-requires-2-clause-old : goal.splice_few-requires-2-clause-old
 splice_few-requires-2-clause-old c =
-    subst (λ (cs : List Candidate). IsByPart (λ c. c.part) cs) (sym c.as_slice-5.ensures.value) c.self.invariant.waiting_are.by_part
+    subst (λ (cs : List Candidate). IsByPart (λ c. c.part) cs) (sym c.as_slice-4.ensures.value) c.self.invariant.waiting_are.by_part
 
 pub splice_few-requires-2-clause-new : goal.splice_few-requires-2-clause-new
 splice_few-requires-2-clause-new c =
-    subst (λ (cs : List Candidate). IsByPart (λ c. c.part) cs) (sym c.as_slice-6.ensures.value) c.in_ok-new.ensures.waiting.by_part
+    subst (λ (cs : List Candidate). IsByPart (λ c. c.part) cs) (sym c.as_slice-left.ensures.value) c.in_ok-new.ensures.waiting.by_part
 
 pub splice-requires-clause-old : goal.splice-requires-clause-old
 splice-requires-clause-old c =
-    subst (λ (rows : List Seen). IsByPart (λ s. s.part) rows) (sym (c.as_slice-7.ensures.value ∙ c.self.invariant.posted_are)) (posted_by_part c.self.inside.view)
+    subst (λ (rows : List Seen). IsByPart (λ s. s.part) rows) (sym (c.as_slice-5.ensures.value ∙ c.self.invariant.posted_are)) (posted_by_part c.self.inside.view)
 
 pub splice-requires-clause-new : goal.splice-requires-clause-new
 splice-requires-clause-new c =
-    subst (λ (rows : List Seen). IsByPart (λ s. s.part) rows) (sym c.as_slice-8.ensures.value) c.in_ok-new.ensures.by_part
+    subst (λ (rows : List Seen). IsByPart (λ s. s.part) rows) (sym c.as_slice-6.ensures.value) c.in_ok-new.ensures.by_part
 
 pub invariant_of-result : goal.invariant_of-result
 unfolding last
@@ -89,21 +89,21 @@ invariant_of-result c =
     let old : c.as_slice-3.result.now ≡ c.self.inside.accepted = search rules in
     let good : is_well_formed ms c.self.inside.instances narrow ≡ true = grind (arith, c.in_ok-is_well_formed_beside.ensures, c.if-not-branch.false) in
     let listed : (p : PartId) → list_any (part_eq p) c.as_slice-parts.result.now ≡ marked p = λ p. ap (list_any (part_eq p)) c.as_slice-parts.ensures.value ∙ c.in_ok-new.ensures.marked p in
-    let new : c.as_slice-4.result.now ≡ accepted_within ms marked narrow =
-    c.as_slice-4.ensures ∙ c.in_ok-new.ensures.accepted ∙ ap (λ (m : List ModelParts). accepted_within m marked narrow) also in
+    let new : c.as_slice-found.result.now ≡ accepted_within ms marked narrow =
+    c.as_slice-found.ensures ∙ c.in_ok-new.ensures.accepted ∙ ap (λ (m : List ModelParts). accepted_within m marked narrow) also in
     let accepts : IsSpliced (λ c. c.part) marked c.self.inside.accepted (accepted_within ms marked narrow) c.in_ok-accepted.accepted.items =
     spliced_as (λ c. c.part) c.as_slice-parts.result.now marked listed c.as_slice-3.result.now c.self.inside.accepted
-    c.as_slice-4.result.now (accepted_within ms marked narrow) c.in_ok-accepted.accepted.items old new c.in_ok-accepted.ensures in
+    c.as_slice-found.result.now (accepted_within ms marked narrow) c.in_ok-accepted.accepted.items old new c.in_ok-accepted.ensures in
     let wait : HasWaiting (candidates_within ms marked narrow) (accepted_within ms marked narrow) c.in_ok-new.new.choice.waiting.items =
     subst (λ (m : List ModelParts). HasWaiting (candidates_within m marked narrow) (accepted_within m marked narrow) c.in_ok-new.new.choice.waiting.items) also
     (subst (λ (cs : List Candidate). HasWaiting (candidates_within c.as_slice-2.result.now marked narrow) cs c.in_ok-new.new.choice.waiting.items) c.in_ok-new.ensures.accepted c.in_ok-new.ensures.waiting) in
     let waits : IsSpliced (λ c. c.part) marked c.self.inside.waiting.items c.in_ok-new.new.choice.waiting.items c.in_ok-waiting.waiting.items =
-    spliced_as (λ c. c.part) c.as_slice-parts.result.now marked listed c.as_slice-5.result.now c.self.inside.waiting.items
-    c.as_slice-6.result.now c.in_ok-new.new.choice.waiting.items c.in_ok-waiting.waiting.items c.as_slice-5.ensures.value c.as_slice-6.ensures.value c.in_ok-waiting.ensures in
+    spliced_as (λ c. c.part) c.as_slice-parts.result.now marked listed c.as_slice-4.result.now c.self.inside.waiting.items
+    c.as_slice-left.result.now c.in_ok-new.new.choice.waiting.items c.in_ok-waiting.waiting.items c.as_slice-4.ensures.value c.as_slice-left.ensures.value c.in_ok-waiting.ensures in
     let posts : IsSpliced (λ s. s.part) marked c.self.inside.posted.items (posted_of narrow) c.in_ok-posted.posted.items =
-    spliced_with (λ s. s.part) c.as_slice-parts.result.now marked listed c.as_slice-7.result.now c.self.inside.posted.items
-    c.as_slice-8.result.now (posted_of narrow) c.in_ok-posted.posted.items c.as_slice-7.ensures.value
-    (λ p any. ap (items_at (λ s. s.part) p) c.as_slice-8.ensures.value ∙ c.in_ok-new.ensures.posted p (ap (list_any (part_eq p)) (sym c.as_slice-parts.ensures.value) ∙ any))
+    spliced_with (λ s. s.part) c.as_slice-parts.result.now marked listed c.as_slice-5.result.now c.self.inside.posted.items
+    c.as_slice-6.result.now (posted_of narrow) c.in_ok-posted.posted.items c.as_slice-5.ensures.value
+    (λ p any. ap (items_at (λ s. s.part) p) c.as_slice-6.ensures.value ∙ c.in_ok-new.ensures.posted p (ap (list_any (part_eq p)) (sym c.as_slice-parts.ensures.value) ∙ any))
     c.in_ok-posted.ensures in
     let known = known_by (last at) c.self.inside.accepted c.self.inside.waiting.items c.self.inside.posted.items c.self.invariant marked c.args.view.now (differ at)
     ms c.self.inside.instances narrow (same_models at) refl c.in_ok-narrow.ensures good c.in_ok-accepted.accepted.items c.in_ok-new.new.choice.waiting.items c.in_ok-waiting.waiting.items c.in_ok-posted.posted.items c.widened.result c.widened.ensures
