@@ -53,14 +53,6 @@ planned_as a x d seen is =
     subst (λ (v : Controller). with_plan v (finished v.turn.view d) ≡ v) seen
     (λ i. record { id = a.id; turn = (controller a).turn; plan = option_map (finished a.view) (sym is i) })
 
--- and the planner has what was shown
-pub kept_of : (a : Inside) (x : Controller) (p : Plan) → controller a ≡ x → x.plan ≡ Some p → IfSome a.draft (λ d. a.planner ≡ Some a.view) → a.planner ≡ Some a.view
-kept_of a x p seen kept drafted = one a.draft (ap (λ (v : Controller). v.plan) seen ∙ kept) drafted
-  where
-    one : (o : Option Draft) → option_map (finished a.view) o ≡ Some p → IfSome o (λ d. a.planner ≡ Some a.view) → a.planner ≡ Some a.view
-    one (Some d) is last = last
-    one None is last = cc
-
 pub planned_of : (spec : Spec) (x : Controller) (p : Plan) → with_plan x p ≡ x → IsPlanOf spec x.turn x.plan → p ≡ plan spec.models spec.rules x.turn.view
 planned_of spec x p is planned = (subst (λ (o : Option Plan). IsPlanOf spec x.turn o) (sym (ap (λ (v : Controller). v.plan) is)) planned).1
 
