@@ -216,7 +216,10 @@ impl Known {
         }
         let new = found_among(alloc, models.as_slice(), hops, &narrow.view, marks)?;
         let parts = new.parts.as_slice();
-        let (found, left) = (new.choice.accepted.as_slice(), new.choice.waiting.as_slice());
+        let (found, left) = (
+            new.choice.accepted.as_slice(),
+            new.choice.waiting.as_slice(),
+        );
         let accepted = splice_few(alloc, accepted.as_slice(), parts, found)?;
         let waiting = splice_few(alloc, waiting.as_slice(), parts, left)?;
         let posted = splice(alloc, posted.as_slice(), parts, new.posted.as_slice())?;

@@ -14,9 +14,9 @@ returns-clause-waiting c =
     let accepted = c.in_ok-accepted.accepted in
     let taken : accepted ≡ accepted_of models view all = c.in_ok-accepted.ensures ∙ ap (accepted_of models view) c.as_slice.ensures.value in
     elim c.if-len.branch [
-      then-len w ↦
+      | then-len w ↦
           let as_many : length (accepted_of models view all) ≡ length all = ap length (sym taken) ∙ sym c.len.ensures ∙ w.if-len.true ∙ c.len-2.ensures ∙ sym c.as_slice.ensures.len ∙ ap length c.as_slice.ensures.value in
           subst (λ (cs : List Candidate). HasWaiting all accepted cs) (sym (ap (λ (v : Vec Candidate Global). v.items) w.waiting-is ∙ w.new-waiting.ensures.items))
           (none_waits all accepted (taken ∙ all_chosen (has_room models view) all as_many))
-    | else-len w ↦ subst (λ (cs : List Candidate). HasWaiting all accepted cs) (sym (ap (λ (v : Vec Candidate Global). v.items) w.waiting-is)) (all_wait all accepted c.requires.by_part)
+      | else-len w ↦ subst (λ (cs : List Candidate). HasWaiting all accepted cs) (sym (ap (λ (v : Vec Candidate Global). v.items) w.waiting-is)) (all_wait all accepted c.requires.by_part)
     ]
