@@ -135,6 +135,7 @@ impl Controller {
         requires models { has_models spec.now.models self.now.turn.view ≡ true }
         requires planned { finished self.now.turn.view draft.now
             ≡ plan_of spec.now.models spec.now.rules self.now.turn.view }
+        requires kept { self.now.plan ≡ Some (finished self.now.turn.view draft.now) }
         ensures { IfOk result (λ report. proposals.now ≡ [] → self.now.turn.view.mail ≡ []
             → report ≡ reported self.now.turn.view draft.now) }
     {
@@ -142,6 +143,9 @@ impl Controller {
         if !proposals.is_empty() || !self.view.mail.is_empty() {
             let entries = Entries::new(alloc);
             return Ok(Report { entries });
+        }
+        if self.planner.is_still(spec) {
+            return draft.report_without(alloc, spec, &self.view);
         }
         draft.report(alloc, spec, hops, &self.view)
     }
@@ -152,6 +156,7 @@ impl Controller {
         requires models { has_models spec.now.models self.now.turn.view ≡ true }
         requires planned { finished self.now.turn.view draft.now
             ≡ plan_of spec.now.models spec.now.rules self.now.turn.view }
+        requires kept { self.now.plan ≡ Some (finished self.now.turn.view draft.now) }
         ensures { IfOk result (IsToSend self.now.turn.view draft.now) }
     {
         let proposals = draft.proposals(self.view.live.allocator())?;
@@ -211,6 +216,7 @@ impl Controller {
         requires board { board.old.spec ≡ spec.now }
         requires planned { finished self.now.turn.view draft.now
             ≡ plan_of spec.now.models spec.now.rules self.now.turn.view }
+        requires kept { self.now.plan ≡ Some (finished self.now.turn.view draft.now) }
         requires hops { hops.now ≡ spec.now.models }
         requires next { self.now.turn.left ≡ left_of Next.Send self.now.turn.view.live }
         ensures refused { RefusedBy ControlFault.OutOfMemory

@@ -23,6 +23,7 @@ use Rattle.hx_gen.specs.declared.Ranked.{Ranked}
 use Rattle.hx_gen.proofs.Ranks.{before_ranks}
 use Rattle.hx_gen.specs.Candidates.{is_at_goal, hop_of, candidate_of, comes_before, rank_in, candidates}
 use Rattle.hx_select.specs.Selection.{shown_sessions, goes_to, filling, limit_for, has_room, accepted_of}
+use Rattle.hx_pass.specs.Plans.{all_candidates}
 use Rattle.hx_local.specs.Local.{accepted_in}
 use Rattle.hx_parts.proofs.Rising.{rises, rises-sort}
 use Rattle.hx_local.proofs.Sorted.{rises-chosen, rises-wider, sorted_rises, sort-filter}
@@ -105,14 +106,22 @@ module _ (models : List ModelParts) (v : View) (p : PartId) where
   room_same : (chosen : List Candidate) (c : Candidate) → candidate_at p c ≡ true → has_room models v chosen c ≡ has_room models (alone p v) (filter (candidate_at p) chosen) c
   room_same chosen c e = ap (λ (n : ℕ). option_map_or (nat_lt n) (limit_for models v c) true) (filling_same chosen c e)
 
+  -- those of some targets
+  pub candidates_of_part : (ts : List Target) → items_at (λ c. c.part) p (candidates models v ts) ≡ candidates models (alone p v) (items_at (λ t. t.part) p ts)
+  candidates_of_part ts =
+      sort-filter (comes_before models v) (order_of models v) (candidate_at p) (filter_map (candidate_of models v) ts)
+      ∙ ap (sort_by (comes_before models v)) (filter-filter_map (candidate_of models v) (candidate_of models (alone p v)) (target_at p) (candidate_at p) candidate_kept candidate_same ts)
+
+  -- and of all
+  pub candidates_alone : items_at (λ c. c.part) p (all_candidates models v) ≡ candidates models (alone p v) (items_at (λ t. t.part) p (all_targets models (alone p v)))
+  candidates_alone = candidates_of_part (all_targets models v) ∙ ap (candidates models (alone p v)) all_targets_at
+
   -- the accepted among those of some targets
   pub accepted_of_part : (ts : List Target) → items_at (λ c. c.part) p (accepted_of models v (candidates models v ts))
       ≡ accepted_of models (alone p v) (candidates models (alone p v) (items_at (λ t. t.part) p ts))
   accepted_of_part ts =
       filter-chosen (has_room models v) (has_room models (alone p v)) (candidate_at p) room_same (candidates models v ts)
-      ∙ ap (chosen_of (has_room models (alone p v)))
-      (sort-filter (comes_before models v) (order_of models v) (candidate_at p) (filter_map (candidate_of models v) ts)
-      ∙ ap (sort_by (comes_before models v)) (filter-filter_map (candidate_of models v) (candidate_of models (alone p v)) (target_at p) (candidate_at p) candidate_kept candidate_same ts))
+      ∙ ap (chosen_of (has_room models (alone p v))) (candidates_of_part ts)
 
   -- and among those of all
   pub accepted_alone : items_at (λ c. c.part) p (accepted_in models v)

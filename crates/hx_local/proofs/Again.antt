@@ -11,11 +11,13 @@ use Rattle.hx_best.specs.Targets.{all_targets}
 use Rattle.hx_gen.specs.Candidates.{candidates}
 use Rattle.hx_select.specs.Selection.{accepted_of}
 use Rattle.hx_marks.specs.Marks.{IsSpliced}
-use Rattle.hx_local.specs.Local.{IsAlike, ShowSame, DifferWithin, narrowed, marked_targets, accepted_in, accepted_within}
+use Rattle.hx_pass.specs.Plans.{all_candidates}
+use Rattle.hx_pass.specs.Waiting.{HasWaiting}
+use Rattle.hx_local.specs.Local.{IsAlike, ShowSame, DifferWithin, narrowed, marked_targets, accepted_in, candidates_within, accepted_within}
 use Rattle.hx_local.proofs.Marked.{marked_kept, others_out}
 use Rattle.hx_local.proofs.OneByPart.{one_by_part}
 use Rattle.hx_local.proofs.Alone.{alone, alone_same}
-use Rattle.hx_local.proofs.Accepted.{accepted_of_part, accepted_alone, accepted_by_part}
+use Rattle.hx_local.proofs.Accepted.{candidates_of_part, candidates_alone, accepted_of_part, accepted_alone, accepted_by_part}
 
 -- a narrowed view shows the same of the marked parts
 pub narrowed_alike : (marked : PartId → Bool) (v : View) → IsAlike (narrowed marked v) v
@@ -32,6 +34,13 @@ module _ (models : List ModelParts) where
       ∙ ap (λ (u : View). accepted_of models u (candidates models u (items_at (λ t. t.part) p (all_targets models u)))) (alone_same p v w alike same)
       ∙ sym (accepted_alone models w p)
 
+  -- and the same candidates
+  pub same_candidates : (v w : View) (p : PartId) → IsAlike v w → ShowSame v w p → items_at (λ c. c.part) p (all_candidates models v) ≡ items_at (λ c. c.part) p (all_candidates models w)
+  same_candidates v w p alike same =
+      candidates_alone models v p
+      ∙ ap (λ (u : View). candidates models u (items_at (λ t. t.part) p (all_targets models u))) (alone_same p v w alike same)
+      ∙ sym (candidates_alone models w p)
+
   -- those among the targets of the marked parts are all those of a marked part, and none of another
   pub within_marked : (marked : PartId → Bool) (v : View) (p : PartId) → marked p ≡ true
       → items_at (λ c. c.part) p (accepted_within models marked v) ≡ items_at (λ c. c.part) p (accepted_in models v)
@@ -39,6 +48,13 @@ module _ (models : List ModelParts) where
       accepted_of_part models v p (marked_targets models marked v)
       ∙ ap (λ (ts : List Target). accepted_of models (alone p v) (candidates models (alone p v) ts)) (marked_kept (λ t. t.part) marked p m (all_targets models v))
       ∙ sym (accepted_of_part models v p (all_targets models v))
+
+  pub candidates_marked : (marked : PartId → Bool) (v : View) (p : PartId) → marked p ≡ true
+      → items_at (λ c. c.part) p (candidates_within models marked v) ≡ items_at (λ c. c.part) p (all_candidates models v)
+  candidates_marked marked v p m =
+      candidates_of_part models v p (marked_targets models marked v)
+      ∙ ap (candidates models (alone p v)) (marked_kept (λ t. t.part) marked p m (all_targets models v))
+      ∙ sym (candidates_of_part models v p (all_targets models v))
 
   pub within_others : (marked : PartId → Bool) (v : View) (p : PartId) → marked p ≡ false → items_at (λ c. c.part) p (accepted_within models marked v) ≡ []
   within_others marked v p m =
@@ -57,3 +73,21 @@ module _ (models : List ModelParts) where
           → (if b then items_at (λ c. c.part) p new else items_at (λ c. c.part) p (accepted_in models v)) ≡ items_at (λ c. c.part) p (accepted_in models w)
       one p true m = within_marked marked (narrowed marked w) p m ∙ same_accepted (narrowed marked w) w p (narrowed_alike marked w) (narrowed_shows marked w p m)
       one p false m = same_accepted v w p differ.alike (differ.same p m)
+
+  -- and a list with the old ones of the parts that stayed that may be left, and the new ones of the others, tells where one may be
+  pub waiting_again : (marked : PartId → Bool) (v w : View) → DifferWithin marked v w → (old new out : List Candidate) → HasWaiting (all_candidates models v) (accepted_in models v) old
+      → HasWaiting (candidates_within models marked (narrowed marked w)) (accepted_within models marked (narrowed marked w)) new → IsSpliced (λ c. c.part) marked old new out
+      → HasWaiting (all_candidates models w) (accepted_in models w) out
+  waiting_again marked v w differ old new out before among spliced = record { by_part = spliced.by_part; none = λ p taken none. one p (marked p) refl taken (sym (spliced.at p) ∙ none) }
+    where
+      narrow : View
+      narrow = narrowed marked w
+
+      one : (p : PartId) (b : Bool) → marked p ≡ b → items_at (λ c. c.part) p (accepted_in models w) ≡ [] → (if b then items_at (λ c. c.part) p new else items_at (λ c. c.part) p old) ≡ []
+          → items_at (λ c. c.part) p (all_candidates models w) ≡ []
+      one p true m taken none =
+          let alike : IsAlike narrow w = narrowed_alike marked w in
+          let shows : ShowSame narrow w p = narrowed_shows marked w p m in
+          sym (candidates_marked marked narrow p m ∙ same_candidates narrow w p alike shows) ∙ among.none p (within_marked marked narrow p m ∙ same_accepted narrow w p alike shows ∙ taken) none
+      one p false m taken none =
+          sym (same_candidates v w p differ.alike (differ.same p m)) ∙ before.none p (same_accepted v w p differ.alike (differ.same p m) ∙ taken) none

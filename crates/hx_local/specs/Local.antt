@@ -1,11 +1,11 @@
 -- What is found of a part by what a view shows of it, so that a view that differs from another one in a few parts needs only these to be gone over.
-use Rattle.std.specs.Prelude.{◌≡◌, Bool, false, List, filter, if◌then◌else◌}
+use Rattle.std.specs.Prelude.{◌≡◌, Bool, false, List, filter}
 use Rattle.hx_ids.specs.declared.PartId.{PartId}
 use Rattle.hx_model.specs.declared.ModelParts.{ModelParts}
 use Rattle.hx_cluster.specs.declared.planning.View.{View}
 use Rattle.hx_cluster.specs.declared.planning.Target.{Target}
 use Rattle.hx_cluster.specs.declared.planning.Candidate.{Candidate}
-use Rattle.hx_parts.specs.Parts.{items_at, IsByPart}
+use Rattle.hx_parts.specs.Parts.{items_at}
 use Rattle.hx_best.specs.Targets.{all_targets}
 use Rattle.hx_gen.specs.Candidates.{candidates}
 use Rattle.hx_select.specs.Selection.{accepted_of}
@@ -30,12 +30,15 @@ pub record DifferWithin (marked : PartId → Bool) (v w : View) : Type 0 where
 abbrev pub narrowed : (PartId → Bool) → View → View
 narrowed marked v = record v { rows = filter (λ r. marked r.part) v.rows; mail = filter (λ m. marked m.part) v.mail }
 
--- the accepted candidates of a view, and those among the targets of the marked parts
+-- the accepted candidates of a view, and the candidates and accepted ones among the targets of the marked parts
 abbrev pub accepted_in : List ModelParts → View → List Candidate
 accepted_in models v = (selection_of models v).accepted
 
 abbrev pub marked_targets : List ModelParts → (PartId → Bool) → View → List Target
 marked_targets models marked v = filter (λ t. marked t.part) (all_targets models v)
 
+abbrev pub candidates_within : List ModelParts → (PartId → Bool) → View → List Candidate
+candidates_within models marked v = candidates models v (marked_targets models marked v)
+
 abbrev pub accepted_within : List ModelParts → (PartId → Bool) → View → List Candidate
-accepted_within models marked v = accepted_of models v (candidates models v (marked_targets models marked v))
+accepted_within models marked v = accepted_of models v (candidates_within models marked v)

@@ -10,9 +10,12 @@ ghost use Rattle.hx_cluster.specs.declared.planning.Candidate.{Candidate};
 ghost use Rattle.hx_cluster.specs.declared.happenings.Seen.{Seen};
 ghost use Rattle.hx_cluster.specs.Views.{is_well_formed};
 ghost use Rattle.hx_parts.specs.Parts.{IsByPart};
+ghost use Rattle.hx_pass.specs.Plans.{all_candidates};
 ghost use Rattle.hx_pass.specs.Turns.{posted_of};
+ghost use Rattle.hx_pass.specs.Waiting.{HasWaiting};
 ghost use Rattle.hx_marks.specs.Marks.{IsSpliced};
-ghost use Rattle.hx_local.specs.Local.{DifferWithin, narrowed, accepted_in, accepted_within};
+ghost use Rattle.hx_local.specs.Local.{DifferWithin, narrowed, accepted_in};
+ghost use Rattle.hx_local.specs.Local.{accepted_within, candidates_within};
 
 /// The accepted candidates of a view, where an earlier one shows the same but for marked parts: the
 /// earlier view's of the parts that aren't marked, and of those that are what their rows and
@@ -22,6 +25,19 @@ pub fn accepted_candidates_are_found_by_part()
         → DifferWithin marked v w → (out : List Candidate)
         → IsSpliced (λ c. c.part) marked (accepted_in models v)
         (accepted_within models marked (narrowed marked w)) out → out ≡ accepted_in models w }
+{}
+
+/// The candidates that wait in a view, where an earlier one shows the same but for marked parts: the
+/// earlier view's of the parts that aren't marked, and of those that are what their rows and
+/// messages alone give.
+pub fn waiting_candidates_are_found_by_part()
+    ensures { (models : List ModelParts) (marked : PartId → Bool) (v w : View)
+        → DifferWithin marked v w → (old new out : List Candidate)
+        → HasWaiting (all_candidates models v) (accepted_in models v) old
+        → HasWaiting (candidates_within models marked (narrowed marked w))
+        (accepted_within models marked (narrowed marked w)) new
+        → IsSpliced (λ c. c.part) marked old new out
+        → HasWaiting (all_candidates models w) (accepted_in models w) out }
 {}
 
 /// The rows that a turn posts stand in order of part.

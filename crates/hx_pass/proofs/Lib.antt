@@ -8,3 +8,4 @@ pub mod Longer
 pub mod Made
 pub mod Posting
 pub mod Calm
+pub mod Waiting

@@ -4,3 +4,4 @@ pub mod Lawful
 pub mod Explained
 pub mod Left
 pub mod Drafts
+pub mod Waiting

@@ -1,11 +1,11 @@
 //! A plan whose report isn't made yet.
-ghost use Rattle.std.specs.Prelude.{◌≡◌, true, IfOk};
+ghost use Rattle.std.specs.Prelude.{◌≡◌, true, [], IfOk};
 ghost use Rattle.hx_gen.specs.Modelled.{has_models};
-ghost use Rattle.hx_pass.specs.Plans.{plan as plan_of};
+ghost use Rattle.hx_pass.specs.Plans.{all_candidates, plan as plan_of};
 ghost use Rattle.hx_pass.specs.Drafts.{finished, proposed, reported};
 
 use crate::plan;
-use crate::plans::proposals_of;
+use crate::plans::{plan_without, proposals_of};
 use hx_cluster::{Candidate, Proposal, Report, Rule, Spec, View};
 use hx_hops::Hops;
 use hx_lists::Seq;
@@ -69,6 +69,24 @@ impl Draft {
         ensures { IfOk result (λ report. report ≡ reported view.now self.now) }
     {
         let plan = plan(alloc, spec, hops, view)?;
+        Ok(plan.report)
+    }
+
+    /// The same of a view that is known to have no candidates. It costs no more than a look at each
+    /// row, and no memory, where each replica is at its best.
+    pub fn report_without(
+        &self,
+        alloc: Global,
+        spec: &Spec,
+        view: &View,
+    ) -> Result<Report, AllocError>
+        requires none { all_candidates spec.now.models view.now ≡ [] }
+        requires planned { finished view.now self.now
+            ≡ plan_of spec.now.models spec.now.rules view.now }
+        ensures { IfOk result (λ report. report ≡ reported view.now self.now) }
+    {
+        let models = spec.models.as_slice();
+        let plan = plan_without(alloc, models, spec.rules.as_slice(), view)?;
         Ok(plan.report)
     }
 }

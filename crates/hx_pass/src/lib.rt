@@ -1,25 +1,25 @@
 //! The plan of a pass: what a controller proposes, given what it was shown.
 #![tactic(auto)]
 
+mod choices;
 mod drafts;
 mod plans;
 mod posts;
 
 ghost use Rattle.std.specs.Prelude.{◌≡◌, true, IfOk};
 ghost use Rattle.hx_gen.specs.Modelled.{has_models};
-ghost use Rattle.hx_pass.specs.Plans.{plan, selection_of};
+ghost use Rattle.hx_pass.specs.Plans.{all_candidates, plan, selection_of};
+ghost use Rattle.hx_pass.specs.Waiting.{HasWaiting};
 ghost use Rattle.hx_pass.specs.Drafts.{draft as draft_of};
 
+pub use choices::{Choice, choose_on};
 pub use drafts::Draft;
-use hx_best::{Index, moving_targets};
+use hx_best::Index;
 use hx_cluster::{Candidate, Plan, Spec, View};
-use hx_gen::candidates;
 use hx_hops::Hops;
-use hx_lists::Seq;
 use hx_model::Model;
-use hx_select::accepted_on;
 use hx_throttle::sent_on;
-use plans::plan_on;
+use plans::{candidates_on, plan_on};
 pub use posts::{instance_or_first, posted};
 use std::alloc::{AllocError, Global};
 use std::snapshot::Snapshot;
@@ -44,23 +44,25 @@ pub fn plan(alloc: Global, spec: &Spec, hops: &[Hops], view: &View) -> Result<Pl
     )
 }
 
-/// The candidates of a view for which the bounds leave room, in order. It costs no walk over the
-/// shown sessions for a part that is found to stand still, and none for a candidate without room.
-pub fn accepted(
+/// The candidates of a view for which the bounds leave room, in order, and some for which maybe they
+/// don't. It costs no walk over the shown sessions for a part that is found to stand still, and none
+/// for a candidate without room.
+pub fn choose(
     alloc: Global,
     models: &[Model],
     hops: &[Hops],
     view: &View,
-) -> Result<Seq<Candidate>, AllocError>
+) -> Result<Choice, AllocError>
     requires hops { hops.now ≡ models.now }
     requires models { has_models models.now view.now ≡ true }
-    ensures { IfOk result (λ accepted.
-        accepted ≡ (selection_of models.now view.now).accepted) }
+    ensures accepted { IfOk result (λ choice.
+        choice.accepted ≡ (selection_of models.now view.now).accepted) }
+    ensures waiting { IfOk result (λ choice.
+        HasWaiting (all_candidates models.now view.now) choice.accepted choice.waiting.items) }
 {
     let index = Index::of(alloc, view)?;
-    let targets = moving_targets(alloc, models, &index)?;
-    let candidates = candidates(alloc, models, hops, view, targets.as_slice())?;
-    accepted_on(alloc, models, index.shown(), candidates.as_slice())
+    let candidates = candidates_on(alloc, models, hops, &index)?;
+    choose_on(alloc, models, index.shown(), candidates)
 }
 
 /// What a plan sends, and no report of it, which can be made later.
@@ -69,8 +71,8 @@ pub fn draft(alloc: Global, spec: &Spec, hops: &[Hops], view: &View) -> Result<D
     requires models { has_models spec.now.models view.now ≡ true }
     ensures { IfOk result (λ draft. draft ≡ draft_of spec.now.models spec.now.rules view.now) }
 {
-    let accepted = accepted(alloc, spec.models.as_slice(), hops, view)?;
-    draft_of_accepted(alloc, spec, view, accepted.as_slice())
+    let choice = choose(alloc, spec.models.as_slice(), hops, view)?;
+    draft_of_accepted(alloc, spec, view, choice.accepted.as_slice())
 }
 
 /// The draft of a view of which it is known which candidates are accepted.

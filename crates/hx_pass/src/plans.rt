@@ -3,21 +3,21 @@ ghost use Rattle.std.specs.Prelude.{◌≡◌, true, false, [], List, IfOk, IsTr
 ghost use Rattle.hx_cluster.specs.declared.description.Rule.{Rule as OfRules};
 ghost use Rattle.hx_best.specs.Lookups.{has_errors};
 ghost use Rattle.hx_gen.specs.Modelled.{has_models};
+ghost use Rattle.hx_parts.specs.Parts.{IsByPart};
 ghost use Rattle.hx_pass.specs.Plans.{all_candidates, plan, proposal};
 
 use hx_best::{Index, all_targets, moving_targets};
-use hx_cluster::{Candidate, Entries, Plan, Proposal, Report, Rule, View};
+use hx_cluster::{Candidate, Entries, Plan, Proposal, Report, Row, Rule, View};
 use hx_gen::candidates;
 use hx_hops::Hops;
 use hx_lists::Seq;
-use hx_model::Model;
+use hx_model::{ERROR, Model};
 use hx_report::{Fates, report_on};
 use hx_select::select_on;
 use hx_throttle::throttle_on;
 use std::alloc::{AllocError, Global};
 
-/// The plan of a view by its index. `hops` are those of the models. It costs no walk over the shown
-/// sessions, and no memory for targets, where each replica is found at its best.
+/// The plan of a view by its index. `hops` are those of the models.
 pub fn plan_on(
     alloc: Global,
     models: &[Model],
@@ -30,14 +30,29 @@ pub fn plan_on(
     ensures { IfOk result (λ made. made ≡ plan models.now rules.now index.now) }
 {
     let candidates = candidates_on(alloc, models, hops, index)?;
-    if candidates.is_empty() && is_calm(index) {
-        return Ok(plan_of_none(alloc, models, index.view()));
-    }
     plan_of(alloc, models, rules, index, candidates.as_slice())
 }
 
-/// All candidates, found of the targets that move.
-fn candidates_on(
+/// The plan of a view that has no candidates. It costs no more than a look at each row, and no
+/// memory, where each replica is at its best.
+pub fn plan_without(
+    alloc: Global,
+    models: &[Model],
+    rules: &[Rule],
+    view: &View,
+) -> Result<Plan, AllocError>
+    requires { all_candidates models.now view.now ≡ [] }
+    ensures { IfOk result (λ made. made ≡ plan models.now rules.now view.now) }
+{
+    if is_calm(view) {
+        return Ok(plan_of_none(alloc, models, view));
+    }
+    let index = Index::of(alloc, view)?;
+    plan_of(alloc, models, rules, &index, &[])
+}
+
+/// All candidates in order, found of the targets that move.
+pub fn candidates_on(
     alloc: Global,
     models: &[Model],
     hops: &[Hops],
@@ -45,18 +60,26 @@ fn candidates_on(
 ) -> Result<Vec<Candidate>, AllocError>
     requires hops { hops.now ≡ models.now }
     requires models { has_models models.now index.now ≡ true }
-    ensures { IfOk result (λ found. found.items ≡ all_candidates models.now index.now) }
+    ensures found { IfOk result (λ found.
+        found.items ≡ all_candidates models.now index.now) }
+    ensures by_part { IfOk result (λ found. IsByPart (λ c. c.part) found.items) }
 {
     let targets = moving_targets(alloc, models, index)?;
     candidates(alloc, models, hops, index.view(), targets.as_slice())
 }
 
-/// Whether no message is shown, and no replica in ERROR.
-fn is_calm(index: &Index<'_>) -> bool
-    ensures mail { IsTrue result → index.now.mail ≡ [] }
-    ensures errors { IsTrue result → has_errors index.now.rows ≡ false }
+fn has_errors(rows: &[Row]) -> bool
+    ensures { result ≡ has_errors rows.now }
 {
-    index.view().mail.is_empty() && !index.has_errors()
+    rows.iter().any(|row| row.state == ERROR)
+}
+
+/// Whether no message is shown, and no replica in ERROR.
+fn is_calm(view: &View) -> bool
+    ensures mail { IsTrue result → view.now.mail ≡ [] }
+    ensures errors { IsTrue result → has_errors view.now.rows ≡ false }
+{
+    view.mail.is_empty() && !has_errors(view.rows.as_slice())
 }
 
 /// The plan where no message is shown, no replica in ERROR, and there is no candidate: it sends

@@ -1,13 +1,17 @@
 //! What is known of a view.
-ghost use Rattle.std.specs.Prelude.{◌≡◌, ℕ, List, true, false, length, IfOk, IsTrue, MatchOption};
+ghost use Rattle.std.specs.Prelude.{◌≡◌, ℕ, List, [], true, false, length};
+ghost use Rattle.std.specs.Prelude.{IfOk, IsTrue, MatchOption};
+ghost use Rattle.std.specs.List.{list_any};
 ghost use Rattle.hx_ids.specs.declared.PartId.{PartId};
 ghost use Rattle.hx_model.specs.declared.ModelParts.{ModelParts};
 ghost use Rattle.hx_cluster.specs.declared.planning.View.{View};
+ghost use Rattle.hx_cluster.specs.Ends.{part_eq};
 ghost use Rattle.hx_cluster.specs.Views.{is_well_formed};
+ghost use Rattle.hx_pass.specs.Plans.{all_candidates};
 ghost use Rattle.hx_pass.specs.Turns.{posted_of};
 ghost use Rattle.hx_gen.specs.Modelled.{has_models};
 ghost use Rattle.hx_parts.specs.Parts.{IsByPart};
-ghost use Rattle.hx_marks.specs.Marks.{is_marked, IsSpliced};
+ghost use Rattle.hx_marks.specs.Marks.{are_rising, is_marked, IsSpliced};
 ghost use Rattle.hx_local.specs.Local.{IsAlike, ShowSame, DifferWithin, accepted_in, accepted_within};
 ghost use Rattle.hx_planner.specs.Known.{IsKnownOf, IsKnownAs};
 
@@ -16,10 +20,11 @@ use crate::narrow::found_among;
 use hx_cluster::{Candidate, Seen, Spec, View};
 use hx_formed::{is_well_formed, is_well_formed_beside};
 use hx_hops::Hops;
+use hx_ids::PartId;
 use hx_lists::Seq;
 use hx_marks::{Marks, splice};
 use hx_model::Model;
-use hx_pass::{accepted, posted as posted_rows};
+use hx_pass::{Choice, choose, posted as posted_rows};
 use hx_same::Same;
 use std::alloc::{AllocError, Global};
 use std::marker;
@@ -33,13 +38,14 @@ pub(crate) struct Described<'a> {
 }
 
 /// A view that is well formed with the models and the number of instances of a description, and
-/// what a pass finds of it: the accepted candidates, and the rows to post. Contracts see the first
-/// three.
+/// what a pass finds of it: the accepted candidates, those that may be left, and the rows to post.
+/// Contracts see the first three.
 pub(crate) struct Known {
     models: Seq<Model>,
     instances: usize,
     view: Kept,
     accepted: Seq<Candidate>,
+    waiting: Vec<Candidate>,
     posted: Vec<Seen>,
 }
 
@@ -51,6 +57,7 @@ impl Drop for Known {
             instances: _,
             view: _,
             accepted: _,
+            waiting: _,
             posted: _,
         } = self;
     }
@@ -63,7 +70,28 @@ impl marker::Model for Known {
 
     ghost view = { λ a. record { models = a.models; instances = a.instances; view = a.view } };
 
-    ghost invariant = { λ a. IsKnown a.models a.instances a.view a.accepted a.posted.items };
+    ghost invariant = { λ a.
+        IsKnown a.models a.instances a.view a.accepted a.waiting.items a.posted.items };
+}
+
+/// Candidates in order of part, where those of some parts give way to new ones. It costs nothing
+/// where there are none.
+fn splice_few(
+    alloc: Global,
+    old: &[Candidate],
+    parts: &[PartId],
+    new: &[Candidate],
+) -> Result<Vec<Candidate>, AllocError>
+    requires old { IsByPart (λ c. c.part) old.now }
+    requires new { IsByPart (λ c. c.part) new.now }
+    requires rising { are_rising parts.now ≡ true }
+    ensures { IfOk result (λ out.
+        IsSpliced (λ c. c.part) (λ p. list_any (part_eq p) parts.now) old.now new.now out.items) }
+{
+    if old.is_empty() && new.is_empty() {
+        return Ok(Vec::new(alloc));
+    }
+    splice(alloc, old, parts, new)
 }
 
 impl Known {
@@ -72,6 +100,13 @@ impl Known {
         ensures { result.now ≡ accepted_in self.now.models self.now.view }
     {
         self.accepted.as_slice()
+    }
+
+    /// Whether it is known to have no candidates, with the models of a description.
+    pub fn is_still(&self, spec: &Spec) -> bool
+        ensures { IsTrue result → all_candidates spec.now.models self.now.view ≡ [] }
+    {
+        self.accepted.is_empty() && self.waiting.is_empty() && self.models.same(&spec.models)
     }
 
     /// The rows to post.
@@ -97,8 +132,10 @@ impl Known {
         if !is_well_formed(alloc, models, instances, view)? {
             return Ok(None);
         }
+        let Choice { accepted, waiting } = choose(alloc, models, hops, view)?;
         Ok(Some(Known {
-            accepted: accepted(alloc, models, hops, view)?,
+            accepted,
+            waiting,
             posted: posted_rows(alloc, view)?,
             models: spec.models.clone()?,
             instances,
@@ -115,6 +152,7 @@ impl Known {
             instances: _,
             view,
             accepted: _,
+            waiting: _,
             posted: _,
         } = self;
         view
@@ -169,6 +207,7 @@ impl Known {
             instances,
             view: last,
             accepted,
+            waiting,
             posted,
         } = self;
         let narrow = last.narrowed(view, marks)?;
@@ -177,13 +216,19 @@ impl Known {
         }
         let new = found_among(alloc, models.as_slice(), hops, &narrow.view, marks)?;
         let parts = new.parts.as_slice();
-        let accepted = splice(alloc, accepted.as_slice(), parts, new.accepted.as_slice())?;
+        let (found, left) = (
+            new.choice.accepted.as_slice(),
+            new.choice.waiting.as_slice(),
+        );
+        let accepted = splice_few(alloc, accepted.as_slice(), parts, found)?;
+        let waiting = splice_few(alloc, waiting.as_slice(), parts, left)?;
         let posted = splice(alloc, posted.as_slice(), parts, new.posted.as_slice())?;
         Ok(Some(Known {
             models,
             instances,
             view: narrow.widened(view),
             accepted: Seq::from_vec(accepted),
+            waiting,
             posted,
         }))
     }

@@ -8,39 +8,41 @@ ghost use Rattle.hx_cluster.specs.Ends.{part_eq};
 ghost use Rattle.hx_gen.specs.Modelled.{has_models};
 ghost use Rattle.hx_parts.specs.Parts.{items_at, IsByPart};
 ghost use Rattle.hx_marks.specs.Marks.{are_rising, is_marked};
-ghost use Rattle.hx_local.specs.Local.{accepted_within};
+ghost use Rattle.hx_local.specs.Local.{accepted_within, candidates_within};
 ghost use Rattle.hx_pass.specs.Turns.{posted_of, seen_of};
+ghost use Rattle.hx_pass.specs.Waiting.{HasWaiting};
 
 use hx_best::{Index, moving_targets_of};
-use hx_cluster::{Candidate, Row, Seen, View};
+use hx_cluster::{Row, Seen, View};
 use hx_gen::candidates;
 use hx_hops::Hops;
 use hx_ids::{InstanceId, PartId};
-use hx_lists::Seq;
 use hx_marks::Marks;
 use hx_model::Model;
-use hx_pass::posted;
-use hx_select::accepted_on;
+use hx_pass::{Choice, choose_on, posted};
 use hx_throttle::Shown;
 use std::alloc::{AllocError, Global};
 
-/// The accepted candidates among the targets of the marked parts.
-fn accepted_among(
+/// What is chosen of the candidates among the targets of the marked parts.
+fn choice_among(
     alloc: Global,
     models: &[Model],
     hops: &[Hops],
     index: &Index<'_>,
     marks: &Marks,
-) -> Result<Seq<Candidate>, AllocError>
+) -> Result<Choice, AllocError>
     requires hops { hops.now ≡ models.now }
     requires models { has_models models.now index.now ≡ true }
-    ensures { IfOk result (λ accepted.
-        accepted ≡ accepted_within models.now (is_marked marks.now) index.now) }
+    ensures accepted { IfOk result (λ choice.
+        choice.accepted ≡ accepted_within models.now (is_marked marks.now) index.now) }
+    ensures waiting { IfOk result (λ choice.
+        HasWaiting (candidates_within models.now (is_marked marks.now) index.now)
+        choice.accepted choice.waiting.items) }
 {
     let view = index.view();
     let targets = moving_targets_of(alloc, models, index, marks)?;
     let candidates = candidates(alloc, models, hops, view, targets.as_slice())?;
-    accepted_on(alloc, models, index.shown(), candidates.as_slice())
+    choose_on(alloc, models, index.shown(), candidates)
 }
 
 /// Adds rows with the instances of their sessions.
@@ -94,12 +96,12 @@ fn posted_among(alloc: Global, index: &Index<'_>, parts: &[PartId]) -> Result<Ve
     }
 }
 
-/// The marked parts in order, and what is found of them: the accepted candidates, and the rows to
-/// post.
+/// The marked parts in order, and what is found of them: what is chosen of the candidates, and the
+/// rows to post.
 #[derive(Drop)]
 pub(crate) struct Found {
     pub parts: Vec<PartId>,
-    pub accepted: Seq<Candidate>,
+    pub choice: Choice,
     pub posted: Vec<Seen>,
 }
 
@@ -117,7 +119,10 @@ pub(crate) fn found_among(
     ensures marked { IfOk result (λ found. (p : PartId)
         → list_any (part_eq p) found.parts.items ≡ is_marked marks.now p) }
     ensures accepted { IfOk result (λ found.
-        found.accepted ≡ accepted_within models.now (is_marked marks.now) view.now) }
+        found.choice.accepted ≡ accepted_within models.now (is_marked marks.now) view.now) }
+    ensures waiting { IfOk result (λ found.
+        HasWaiting (candidates_within models.now (is_marked marks.now) view.now)
+        found.choice.accepted found.choice.waiting.items) }
     ensures by_part { IfOk result (λ found. IsByPart (λ s. s.part) found.posted.items) }
     ensures posted { IfOk result (λ found. (p : PartId)
         → list_any (part_eq p) found.parts.items ≡ true
@@ -126,11 +131,11 @@ pub(crate) fn found_among(
 {
     let index = Index::of(alloc, view)?;
     let parts = marks.parts(alloc)?;
-    let accepted = accepted_among(alloc, models, hops, &index, marks)?;
+    let choice = choice_among(alloc, models, hops, &index, marks)?;
     let posted = posted_among(alloc, &index, parts.as_slice())?;
     Ok(Found {
         parts,
-        accepted,
+        choice,
         posted,
     })
 }

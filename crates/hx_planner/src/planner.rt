@@ -1,6 +1,7 @@
 //! A planner of views one after another.
 ghost use Rattle.std.specs.Prelude.{◌≡◌, true, false, [], None, Some, length};
-ghost use Rattle.std.specs.Prelude.{IfOk, OnErr, IfSome, MatchOption};
+ghost use Rattle.std.specs.Prelude.{IfOk, OnErr, IfSome, IsTrue, MatchOption};
+ghost use Rattle.hx_pass.specs.Plans.{all_candidates};
 ghost use Rattle.hx_pass.specs.Turns.{posted_of};
 ghost use Rattle.hx_local.specs.Local.{IsAlike};
 ghost use Rattle.hx_planner.specs.Drafted.{IsDraftOf, IsPlanned};
@@ -135,6 +136,18 @@ impl Planner {
         if let Some(mut last) = self.known.take() {
             last.hold(view);
             self.known = Some(last);
+        }
+    }
+
+    /// Whether the view that was planned last is known to have no candidates, with the models of a
+    /// description. It takes no memory.
+    pub fn is_still(&self, spec: &Spec) -> bool
+        ensures { IsTrue result → IfSome self.now (λ view.
+            all_candidates spec.now.models view ≡ []) }
+    {
+        match &self.known {
+            Some(known) => known.is_still(spec),
+            None => false,
         }
     }
 

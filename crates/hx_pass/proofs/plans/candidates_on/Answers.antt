@@ -25,11 +25,11 @@ candidates-requires-clause-models c =
     subst (λ (v : View). list_all (λ t. has_model models v.ideals.resources t.part.resource) c.as_slice.result.now ≡ true) (sym c.view.ensures)
     ((moving (goal.at.candidates-requires-clause-models c).After-as_slice).among (λ t. has_model models view.ideals.resources t.part.resource) (all_targets-modelled models view c.requires.models))
 
-pub returns : goal.returns
-returns c =
+pub returns-clause-found : goal.returns-clause-found
+returns-clause-found c =
     let models = c.args.models.now in
     let view = c.args.index.now in
     let all = all_targets models view in
     subst (λ (cs : List Candidate). IfOk c.candidates.result (λ found. found.items ≡ cs))
-    (ap (λ (v : View). candidates models v c.as_slice.result.now) c.view.ensures ∙ candidates_same models view all c.as_slice.result.now (moving (goal.at.returns c).After-as_slice))
+    (ap (λ (v : View). candidates models v c.as_slice.result.now) c.view.ensures ∙ candidates_same models view all c.as_slice.result.now (moving (goal.at.returns-clause-found c).After-as_slice))
     c.candidates.ensures.found

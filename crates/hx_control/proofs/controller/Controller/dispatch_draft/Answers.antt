@@ -48,6 +48,7 @@ plan_to_send-requires c =
       models = subst (λ (x : Controller). has_models c.args.spec.now.models x.turn.view ≡ true) c.self.view_is
           (of_cluster_modelled c.args.spec.now c.args.board.now.cluster c.self.inside.view of);
       planned = c.requires.planned;
+      kept = c.requires.kept;
     }
 
 pub returns-in_err-plan : goal.returns-in_err-plan

@@ -1,4 +1,4 @@
-use Rattle.std.proofs.Common.{◌≡◌, None, Some, refl, subst}
+use Rattle.std.proofs.Common.{◌≡◌, None, Some, refl, sym, ap, subst}
 use Rattle.std.specs.Prelude.{Ok, Err}
 use Rattle.std.proofs.lemmas.Result.{err_from_is_err_and}
 use Rattle.hx_pass.specs.Drafts.{finished}
@@ -18,6 +18,9 @@ same c = planned_as c.self.inside c.args.self.now c.in-Some.draft c.self.view_is
 pub dispatch_draft-requires-clause-planned : goal.dispatch_draft-requires-clause-planned
 dispatch_draft-requires-clause-planned c =
     planned_of c.args.spec.now c.args.self.now (finished c.args.self.now.turn.view c.in-Some.draft) (same (goal.at.dispatch_draft-requires-clause-planned c).In-Some) c.requires.planned
+
+pub dispatch_draft-requires-clause-kept : goal.dispatch_draft-requires-clause-kept
+dispatch_draft-requires-clause-kept c = sym (ap (λ (x : Controller). x.plan) (same (goal.at.dispatch_draft-requires-clause-kept c).In-Some))
 
 pub returns-in_err-outcome : goal.returns-in_err-outcome
 returns-in_err-outcome c =

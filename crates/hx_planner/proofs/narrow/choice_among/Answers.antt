@@ -1,10 +1,9 @@
-use Rattle.std.proofs.Common.{◌≡◌, ◌∙◌, List, Bool, true, sym, ap, subst}
+use Rattle.std.proofs.Common.{◌≡◌, ◌∙◌, List, Bool, true, refl, sym, ap, subst}
 use Rattle.std.specs.Prelude.{IfOk}
 use Rattle.std.specs.List.{list_all}
 use Rattle.hx_cluster.specs.declared.planning.View.{View}
 use Rattle.hx_cluster.specs.declared.planning.Target.{Target}
 use Rattle.hx_cluster.specs.declared.planning.Candidate.{Candidate}
-use Rattle.hx_parts.specs.Parts.{IsByPart}
 use Rattle.hx_best.specs.Targets.{all_targets}
 use Rattle.hx_best.specs.Still.{HasMoving}
 use Rattle.hx_gen.specs.Stage.{has_model}
@@ -14,8 +13,10 @@ use Rattle.hx_marks.specs.Marks.{is_marked}
 use Rattle.hx_local.specs.Local.{marked_targets}
 use Rattle.hx_lists.proofs.Conditions.{all-filter}
 use Rattle.hx_pass.proofs.AcceptedOf.{accepted_same}
-use Rattle.hx_planner.proofs.narrow.accepted_among.Goals as goal
-use Rattle.hx_planner.proofs.narrow.accepted_among.Goals.{After-as_slice}
+use Rattle.hx_pass.specs.Waiting.{HasWaiting}
+use Rattle.hx_gen.proofs.Moving.{candidates_same}
+use Rattle.hx_planner.proofs.narrow.choice_among.Goals as goal
+use Rattle.hx_planner.proofs.narrow.choice_among.Goals.{After-as_slice}
 
 moving : (c : After-as_slice) → HasMoving c.args.models.now c.args.index.now (marked_targets c.args.models.now (is_marked c.args.marks.now) c.args.index.now) c.as_slice.result.now
 moving c =
@@ -32,13 +33,17 @@ candidates-requires-clause-models c =
     ((moving (goal.at.candidates-requires-clause-models c).After-as_slice).among own
     (all-filter own (λ t. is_marked c.args.marks.now t.part) (all_targets models view) (all_targets-modelled models view c.requires.models)))
 
-pub accepted_on-requires : goal.accepted_on-requires
-accepted_on-requires c =
-    record { by_part = subst (λ (cs : List Candidate). IsByPart (λ c. c.part) cs) (sym c.as_slice-2.ensures.value) c.in_ok-candidates.ensures.by_part }
-
-pub returns : goal.returns
-returns c =
+pub returns-clause-accepted : goal.returns-clause-accepted
+returns-clause-accepted c =
     let found = c.in_ok-candidates.ensures.found ∙ ap (λ (v : View). candidates c.args.models.now v c.as_slice.result.now) c.view-view.ensures in
-    subst (λ (cs : List Candidate). IfOk c.accepted_on.result (λ accepted. accepted ≡ cs))
-    (accepted_same c.args.models.now c.args.index.now _ (marked_targets c.args.models.now (is_marked c.args.marks.now) c.args.index.now) c.as_slice.result.now _ _ (moving (goal.at.returns c).After-as_slice)
-    found c.as_slice-2.ensures.value c.shown.ensures) c.accepted_on.ensures
+    subst (λ (cs : List Candidate). IfOk c.choose_on.result (λ choice. choice.accepted ≡ cs))
+    (accepted_same c.args.models.now c.args.index.now _ (marked_targets c.args.models.now (is_marked c.args.marks.now) c.args.index.now) c.as_slice.result.now _ _ (moving (goal.at.returns-clause-accepted c).After-as_slice)
+    found refl c.shown.ensures) c.choose_on.ensures.accepted
+
+pub returns-clause-waiting : goal.returns-clause-waiting
+returns-clause-waiting c =
+    let models = c.args.models.now in
+    let found = c.in_ok-candidates.ensures.found ∙ ap (λ (v : View). candidates models v c.as_slice.result.now) c.view-view.ensures in
+    subst (λ (cs : List Candidate). IfOk c.choose_on.result (λ choice. HasWaiting cs choice.accepted choice.waiting.items))
+    (found ∙ candidates_same models c.args.index.now (marked_targets models (is_marked c.args.marks.now) c.args.index.now) c.as_slice.result.now (moving (goal.at.returns-clause-waiting c).After-as_slice))
+    c.choose_on.ensures.waiting
