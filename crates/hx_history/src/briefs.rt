@@ -1,18 +1,19 @@
 //! The few words that tell most events.
 ghost use Rattle.std.specs.Prelude.{◌≡◌, length, take, IfSome};
 ghost use Rattle.hx_cluster.specs.declared.happenings.Event.TheVariants as events;
+ghost use Rattle.hx_history.specs.Columns as Spec;
 ghost use Rattle.hx_history.specs.Columns.{words_of};
 ghost use Rattle.hx_history.specs.Kept.{Tells};
 
 use crate::kinds::Kind;
 use hx_cluster::{Admin, Did, Event, Outcome};
-use hx_ids::{InstanceId, SessionId};
+use hx_ids::{ControllerId, InstanceId, MsgId, PassNo, SessionId};
 
 /// A kind, and the words that tell an event of it, in front of zeros.
 #[derive(Clone, Copy)]
 pub(crate) struct Brief {
     pub(crate) kind: Kind,
-    pub(crate) words: [u32; 4],
+    pub(crate) words: [u32; 3],
 }
 
 impl Brief {
@@ -40,12 +41,51 @@ fn word(number: u64) -> Option<u32>
 
 /// A kind with numbers, where each of them fits a word.
 #[inline(always)]
-fn in_words(kind: Kind, numbers: [u64; 4]) -> Option<Brief>
+fn in_words(kind: Kind, numbers: [u64; 3]) -> Option<Brief>
     ensures { IfSome result (λ brief. brief ≡ record { kind = kind; words = numbers }) }
 {
-    let [first, second, third, fourth] = numbers;
-    let words = [word(first)?, word(second)?, word(third)?, word(fourth)?];
+    let [first, second, third] = numbers;
+    let words = [word(first)?, word(second)?, word(third)?];
     Some(Brief { kind, words })
+}
+
+/// A controller and a pass of it in one number.
+#[inline(always)]
+fn turn(controller: ControllerId, pass: PassNo) -> Option<u64>
+    ensures { IfSome result (λ word.
+        (Spec.controller word ≡ controller) × (Spec.pass_of word ≡ pass)) }
+{
+    if pass.0 < 1 << 24 {
+        Some(pass.0 * (1 << 8) + u64::from(controller.0))
+    } else {
+        None
+    }
+}
+
+/// An instance and how many messages it fetched in one number.
+#[inline(always)]
+fn fetch(instance: InstanceId, count: u32) -> Option<u64>
+    ensures { IfSome result (λ word.
+        (Spec.instance_of word ≡ instance) × (Spec.count_of word ≡ count)) }
+{
+    if instance.0 < 1 << 16 && count < 1 << 16 {
+        Some(u64::from(count) * (1 << 16) + u64::from(instance.0))
+    } else {
+        None
+    }
+}
+
+/// A session and a message in one number.
+#[inline(always)]
+fn job(session: SessionId, id: MsgId) -> Option<u64>
+    ensures { IfSome result (λ word.
+        (Spec.session_of word ≡ session) × (Spec.message_of word ≡ id)) }
+{
+    if session.0 < 1 << 12 && id.0 < 1 << 20 {
+        Some(session.0 * (1 << 20) + id.0)
+    } else {
+        None
+    }
 }
 
 /// What tells a fetch in words alone, where they are enough.
@@ -53,10 +93,45 @@ fn in_words(kind: Kind, numbers: [u64; 4]) -> Option<Brief>
 fn fetch_in_words(instance: InstanceId, session: Option<SessionId>, count: u32) -> Option<Brief>
     ensures { IfSome result (λ brief. Tells brief (events.Fetch instance session count)) }
 {
-    let [instance, count] = [u64::from(instance.0), u64::from(count)];
+    let word = fetch(instance, count)?;
     match session {
-        Some(session) => in_words(Kind::Fetch, [instance, session.0, count, 0]),
-        None => in_words(Kind::FetchNobody, [instance, count, 0, 0]),
+        Some(session) => in_words(Kind::Fetch, [word, session.0, 0]),
+        None => in_words(Kind::FetchNobody, [word, 0, 0]),
+    }
+}
+
+/// What tells in words alone that a session takes a message, where they are enough.
+#[inline(always)]
+fn take_in_words(session: SessionId, id: MsgId) -> Option<Brief>
+    ensures { IfSome result (λ brief. Tells brief (events.Take session id)) }
+{
+    match job(session, id) {
+        Some(word) => in_words(Kind::Take, [word, 0, 0]),
+        None => in_words(Kind::LongTake, [session.0, id.0, 0]),
+    }
+}
+
+/// What tells a write in words alone, where they are enough.
+#[inline(always)]
+fn write_in_words(session: SessionId, id: MsgId, outcome: Outcome) -> Option<Brief>
+    ensures { IfSome result (λ brief. Tells brief (events.Write session id outcome)) }
+{
+    match (outcome, job(session, id)) {
+        (Outcome::Ok, Some(word)) => in_words(Kind::WriteOk, [word, 0, 0]),
+        (Outcome::Ok, None) => in_words(Kind::LongWriteOk, [session.0, id.0, 0]),
+        (Outcome::Failed, Some(word)) => in_words(Kind::WriteFailed, [word, 0, 0]),
+        (Outcome::Failed, None) => in_words(Kind::LongWriteFailed, [session.0, id.0, 0]),
+    }
+}
+
+/// What tells in words alone that a session acknowledges a message, where they are enough.
+#[inline(always)]
+fn ack_in_words(session: SessionId, id: MsgId) -> Option<Brief>
+    ensures { IfSome result (λ brief. Tells brief (events.Ack session id)) }
+{
+    match job(session, id) {
+        Some(word) => in_words(Kind::Ack, [word, 0, 0]),
+        None => in_words(Kind::LongAck, [session.0, id.0, 0]),
     }
 }
 
@@ -66,36 +141,28 @@ pub(crate) fn brief_of(event: &Event) -> Option<Brief>
     ensures { IfSome result (λ brief. Tells brief event.now) }
 {
     match event {
-        Event::Line(line) => in_words(Kind::Line, [u64::from(*line), 0, 0, 0]),
+        Event::Line(line) => in_words(Kind::Line, [u64::from(*line), 0, 0]),
         Event::Admin(Admin::Tick { n }, Did::Ended(ended)) if ended.is_empty() => {
-            in_words(Kind::Tick, [*n, 0, 0, 0])
+            in_words(Kind::Tick, [*n, 0, 0])
         }
         Event::Begin(c, begun) => {
-            let numbers = [u64::from(c.0), begun.epoch.0, begun.pass.0, begun.change];
-            in_words(Kind::Begin, numbers)
+            let word = turn(*c, begun.pass)?;
+            in_words(Kind::Begin, [word, begun.epoch.0, begun.change])
         }
-        Event::Live(c, pass) => in_words(Kind::Live, [u64::from(c.0), pass.0, 0, 0]),
-        Event::Mail(c, pass, session) => {
-            in_words(Kind::Mail, [u64::from(c.0), pass.0, session.0, 0])
-        }
+        Event::Live(c, pass) => in_words(Kind::Live, [turn(*c, *pass)?, 0, 0]),
+        Event::Mail(c, pass, session) => in_words(Kind::Mail, [turn(*c, *pass)?, session.0, 0]),
         Event::States(c, pass, session) => {
-            in_words(Kind::States, [u64::from(c.0), pass.0, session.0, 0])
+            in_words(Kind::States, [turn(*c, *pass)?, session.0, 0])
         }
-        Event::Ideals(c, pass) => in_words(Kind::Ideals, [u64::from(c.0), pass.0, 0, 0]),
+        Event::Ideals(c, pass) => in_words(Kind::Ideals, [turn(*c, *pass)?, 0, 0]),
         Event::Fetch {
             instance,
             session,
             count,
         } => fetch_in_words(*instance, *session, *count),
-        Event::Take(session, id) => in_words(Kind::Take, [session.0, id.0, 0, 0]),
-        Event::Write(session, id, outcome) => {
-            let kind = match outcome {
-                Outcome::Ok => Kind::WriteOk,
-                Outcome::Failed => Kind::WriteFailed,
-            };
-            in_words(kind, [session.0, id.0, 0, 0])
-        }
-        Event::Ack(session, id) => in_words(Kind::Ack, [session.0, id.0, 0, 0]),
+        Event::Take(session, id) => take_in_words(*session, *id),
+        Event::Write(session, id, outcome) => write_in_words(*session, *id, *outcome),
+        Event::Ack(session, id) => ack_in_words(*session, *id),
         Event::Admin(..) | Event::Dispatch { .. } | Event::Post { .. } => None,
     }
 }

@@ -139,7 +139,7 @@ impl Entries {
         ensures err { OnErr result (self.new ≡ self.old) }
     {
         self.kinds.reserve(additional)?;
-        let words = additional.checked_mul(4).ok_or(AllocError)?;
+        let words = additional.checked_mul(3).ok_or(AllocError)?;
         self.words.reserve(words)?;
         self.whole.reserve(additional)?;
         self.spare = additional;

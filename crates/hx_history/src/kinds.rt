@@ -21,6 +21,11 @@ pub(crate) enum Kind {
     WriteOk,
     WriteFailed,
     Ack,
+    /// The same of a session or a message whose number is long.
+    LongTake,
+    LongWriteOk,
+    LongWriteFailed,
+    LongAck,
     /// An event of another sort, or one of large numbers. It is kept as it is.
     Whole,
 }
@@ -33,10 +38,10 @@ impl Kind {
     {
         match self {
             Kind::Whole => 0,
-            Kind::Line | Kind::Tick => 1,
-            Kind::Mail | Kind::States | Kind::Fetch => 3,
-            Kind::Begin => 4,
-            _ => 2,
+            Kind::Mail | Kind::States | Kind::Fetch => 2,
+            Kind::LongTake | Kind::LongWriteOk | Kind::LongWriteFailed | Kind::LongAck => 2,
+            Kind::Begin => 3,
+            _ => 1,
         }
     }
 
