@@ -9,7 +9,7 @@ use Rattle.hx_cluster.specs.declared.happenings.Outcome.TheVariants as outcomes
 use Rattle.hx_cluster.specs.declared.happenings.Event.{Event}
 use Rattle.hx_history.specs.declared.kinds.Kind.{Kind}
 use Rattle.hx_history.specs.declared.kinds.Kind.TheVariants as kinds
-use Rattle.hx_history.specs.Columns.{words_of, kept_of, controller, pass_of, instance_of, count_of, session_of, message_of, begun, event_of, events_of, Fit}
+use Rattle.hx_history.specs.Columns.{words_of, kept_of, controller, pass_of, read_controller, read_session, read_pass, fetch_instance, fetch_session, fetch_count, instance_of, count_of, session_of, message_of, begun, event_of, events_of, Fit}
 use Rattle.hx_history.specs.Counted.{is_write_of, CountsWrites, IsCountedBy}
 use Rattle.hx_history.proofs.Columns.{fits_on}
 
@@ -41,15 +41,18 @@ first_counts number a b h kinds.Line ws es enough = omega (arith, h.line (slice_
 first_counts number a b h kinds.Tick ws es enough = omega (arith, h.tick (slice_index ws 0))
 first_counts number a b h kinds.Begin ws es enough = omega (arith, h.begin (controller (slice_index ws 0)) (begun ws))
 first_counts number a b h kinds.Live ws es enough = omega (arith, h.live (controller (slice_index ws 0)) (pass_of (slice_index ws 0)))
-first_counts number a b h kinds.Mail ws es enough = omega (arith, h.mail (controller (slice_index ws 0)) (pass_of (slice_index ws 0)) (session (slice_index ws 1)))
-first_counts number a b h kinds.States ws es enough = omega (arith, h.states (controller (slice_index ws 0)) (pass_of (slice_index ws 0)) (session (slice_index ws 1)))
+first_counts number a b h kinds.Mail ws es enough = omega (arith, h.mail (read_controller (slice_index ws 0)) (read_pass (slice_index ws 0)) (read_session (slice_index ws 0)))
+first_counts number a b h kinds.States ws es enough = omega (arith, h.states (read_controller (slice_index ws 0)) (read_pass (slice_index ws 0)) (read_session (slice_index ws 0)))
 first_counts number a b h kinds.Ideals ws es enough = omega (arith, h.ideals (controller (slice_index ws 0)) (pass_of (slice_index ws 0)))
 first_counts number a b h kinds.FetchNobody ws es enough = omega (arith, h.fetch (instance_of (slice_index ws 0)) None (count_of (slice_index ws 0)))
-first_counts number a b h kinds.Fetch ws es enough = omega (arith, h.fetch (instance_of (slice_index ws 0)) (Some (session (slice_index ws 1))) (count_of (slice_index ws 0)))
+first_counts number a b h kinds.Fetch ws es enough = omega (arith, h.fetch (fetch_instance (slice_index ws 0)) (Some (fetch_session (slice_index ws 0))) (fetch_count (slice_index ws 0)))
 first_counts number a b h kinds.Take ws es enough = omega (arith, h.take (session_of (slice_index ws 0)) (message_of (slice_index ws 0)))
 first_counts number a b h kinds.WriteOk ws es enough = omega (arith, h.write_ok (session_of (slice_index ws 0)) (message_of (slice_index ws 0)))
 first_counts number a b h kinds.WriteFailed ws es enough = omega (arith, h.write_failed (session_of (slice_index ws 0)) (message_of (slice_index ws 0)))
 first_counts number a b h kinds.Ack ws es enough = omega (arith, h.ack (session_of (slice_index ws 0)) (message_of (slice_index ws 0)))
+first_counts number a b h kinds.LongMail ws es enough = omega (arith, h.mail (controller (slice_index ws 0)) (pass_of (slice_index ws 0)) (session (slice_index ws 1)))
+first_counts number a b h kinds.LongStates ws es enough = omega (arith, h.states (controller (slice_index ws 0)) (pass_of (slice_index ws 0)) (session (slice_index ws 1)))
+first_counts number a b h kinds.LongFetch ws es enough = omega (arith, h.fetch (instance_of (slice_index ws 0)) (Some (session (slice_index ws 1))) (count_of (slice_index ws 0)))
 first_counts number a b h kinds.LongTake ws es enough = omega (arith, h.take (session (slice_index ws 0)) (message (slice_index ws 1)))
 first_counts number a b h kinds.LongWriteOk ws es enough = omega (arith, h.write_ok (session (slice_index ws 0)) (message (slice_index ws 1)))
 first_counts number a b h kinds.LongWriteFailed ws es enough = omega (arith, h.write_failed (session (slice_index ws 0)) (message (slice_index ws 1)))
@@ -74,6 +77,9 @@ weight-more a b kinds.FetchNobody ks = omega arith
 weight-more a b kinds.Fetch ks = omega arith
 weight-more a b kinds.Take ks = omega arith
 weight-more a b kinds.Ack ks = omega arith
+weight-more a b kinds.LongMail ks = omega arith
+weight-more a b kinds.LongStates ks = omega arith
+weight-more a b kinds.LongFetch ks = omega arith
 weight-more a b kinds.LongTake ks = omega arith
 weight-more a b kinds.LongAck ks = omega arith
 weight-more a b kinds.Whole ks = omega arith

@@ -20,9 +20,9 @@ use Rattle.hx_history.specs.declared.kinds.Kind.TheVariants as kinds
 abbrev pub words_of : Kind → ℕ
 words_of kinds.Whole = 0
 words_of kinds.Begin = 3
-words_of kinds.Mail = 2
-words_of kinds.States = 2
-words_of kinds.Fetch = 2
+words_of kinds.LongMail = 2
+words_of kinds.LongStates = 2
+words_of kinds.LongFetch = 2
 words_of kinds.LongTake = 2
 words_of kinds.LongWriteOk = 2
 words_of kinds.LongWriteFailed = 2
@@ -40,7 +40,27 @@ controller word = record { 0 = word % 2 ^ 8 }
 abbrev pub pass_of : ℕ → PassNo
 pass_of word = pass (word / 2 ^ 8)
 
--- a word of a fetch: an instance, and how many messages it fetched
+-- a word of a read: a controller, the session that it reads of, and a pass
+abbrev pub read_controller : ℕ → ControllerId
+read_controller word = record { 0 = word % 2 ^ 4 }
+
+abbrev pub read_session : ℕ → SessionId
+read_session word = session (word / 2 ^ 4 % 2 ^ 12)
+
+abbrev pub read_pass : ℕ → PassNo
+read_pass word = pass (word / 2 ^ 16)
+
+-- a word of a fetch: an instance, its session, and how many messages it fetched
+abbrev pub fetch_instance : ℕ → InstanceId
+fetch_instance word = instance (word % 2 ^ 10)
+
+abbrev pub fetch_session : ℕ → SessionId
+fetch_session word = session (word / 2 ^ 10 % 2 ^ 12)
+
+abbrev pub fetch_count : ℕ → ℕ
+fetch_count word = word / 2 ^ 22
+
+-- the same without the session
 abbrev pub instance_of : ℕ → InstanceId
 instance_of word = instance (word % 2 ^ 16)
 
@@ -63,15 +83,18 @@ event_of kinds.Line ws es = Some (events.Line (slice_index ws 0))
 event_of kinds.Tick ws es = Some (events.Admin (steps.Tick (slice_index ws 0)) (dids.Ended []))
 event_of kinds.Begin ws es = Some (events.Begin (controller (slice_index ws 0)) (begun ws))
 event_of kinds.Live ws es = Some (events.Live (controller (slice_index ws 0)) (pass_of (slice_index ws 0)))
-event_of kinds.Mail ws es = Some (events.Mail (controller (slice_index ws 0)) (pass_of (slice_index ws 0)) (session (slice_index ws 1)))
-event_of kinds.States ws es = Some (events.States (controller (slice_index ws 0)) (pass_of (slice_index ws 0)) (session (slice_index ws 1)))
+event_of kinds.Mail ws es = Some (events.Mail (read_controller (slice_index ws 0)) (read_pass (slice_index ws 0)) (read_session (slice_index ws 0)))
+event_of kinds.States ws es = Some (events.States (read_controller (slice_index ws 0)) (read_pass (slice_index ws 0)) (read_session (slice_index ws 0)))
 event_of kinds.Ideals ws es = Some (events.Ideals (controller (slice_index ws 0)) (pass_of (slice_index ws 0)))
 event_of kinds.FetchNobody ws es = Some (events.Fetch (instance_of (slice_index ws 0)) None (count_of (slice_index ws 0)))
-event_of kinds.Fetch ws es = Some (events.Fetch (instance_of (slice_index ws 0)) (Some (session (slice_index ws 1))) (count_of (slice_index ws 0)))
+event_of kinds.Fetch ws es = Some (events.Fetch (fetch_instance (slice_index ws 0)) (Some (fetch_session (slice_index ws 0))) (fetch_count (slice_index ws 0)))
 event_of kinds.Take ws es = Some (events.Take (session_of (slice_index ws 0)) (message_of (slice_index ws 0)))
 event_of kinds.WriteOk ws es = Some (events.Write (session_of (slice_index ws 0)) (message_of (slice_index ws 0)) outcomes.Ok)
 event_of kinds.WriteFailed ws es = Some (events.Write (session_of (slice_index ws 0)) (message_of (slice_index ws 0)) outcomes.Failed)
 event_of kinds.Ack ws es = Some (events.Ack (session_of (slice_index ws 0)) (message_of (slice_index ws 0)))
+event_of kinds.LongMail ws es = Some (events.Mail (controller (slice_index ws 0)) (pass_of (slice_index ws 0)) (session (slice_index ws 1)))
+event_of kinds.LongStates ws es = Some (events.States (controller (slice_index ws 0)) (pass_of (slice_index ws 0)) (session (slice_index ws 1)))
+event_of kinds.LongFetch ws es = Some (events.Fetch (instance_of (slice_index ws 0)) (Some (session (slice_index ws 1))) (count_of (slice_index ws 0)))
 event_of kinds.LongTake ws es = Some (events.Take (session (slice_index ws 0)) (message (slice_index ws 1)))
 event_of kinds.LongWriteOk ws es = Some (events.Write (session (slice_index ws 0)) (message (slice_index ws 1)) outcomes.Ok)
 event_of kinds.LongWriteFailed ws es = Some (events.Write (session (slice_index ws 0)) (message (slice_index ws 1)) outcomes.Failed)

@@ -75,6 +75,34 @@ fn fetch(instance: InstanceId, count: u32) -> Option<u64>
     }
 }
 
+/// A controller, a pass of it and the session that it reads of in one number.
+#[inline(always)]
+fn read(controller: ControllerId, pass: PassNo, session: SessionId) -> Option<u64>
+    ensures { IfSome result (λ word.
+        (Spec.read_controller word ≡ controller) × (Spec.read_pass word ≡ pass)
+        × (Spec.read_session word ≡ session)) }
+{
+    if controller.0 < 1 << 4 && session.0 < 1 << 12 && pass.0 < 1 << 16 {
+        Some((pass.0 * (1 << 12) + session.0) * (1 << 4) + u64::from(controller.0))
+    } else {
+        None
+    }
+}
+
+/// An instance, its session and how many messages it fetched in one number.
+#[inline(always)]
+fn fetch_of(instance: InstanceId, session: SessionId, count: u32) -> Option<u64>
+    ensures { IfSome result (λ word.
+        (Spec.fetch_instance word ≡ instance) × (Spec.fetch_session word ≡ session)
+        × (Spec.fetch_count word ≡ count)) }
+{
+    if instance.0 < 1 << 10 && session.0 < 1 << 12 && count < 1 << 10 {
+        Some((u64::from(count) * (1 << 12) + session.0) * (1 << 10) + u64::from(instance.0))
+    } else {
+        None
+    }
+}
+
 /// A session and a message in one number.
 #[inline(always)]
 fn job(session: SessionId, id: MsgId) -> Option<u64>
@@ -93,10 +121,34 @@ fn job(session: SessionId, id: MsgId) -> Option<u64>
 fn fetch_in_words(instance: InstanceId, session: Option<SessionId>, count: u32) -> Option<Brief>
     ensures { IfSome result (λ brief. Tells brief (events.Fetch instance session count)) }
 {
-    let word = fetch(instance, count)?;
-    match session {
-        Some(session) => in_words(Kind::Fetch, [word, session.0, 0]),
-        None => in_words(Kind::FetchNobody, [word, 0, 0]),
+    let Some(session) = session else {
+        return in_words(Kind::FetchNobody, [fetch(instance, count)?, 0, 0]);
+    };
+    match fetch_of(instance, session, count) {
+        Some(word) => in_words(Kind::Fetch, [word, 0, 0]),
+        None => in_words(Kind::LongFetch, [fetch(instance, count)?, session.0, 0]),
+    }
+}
+
+/// What tells a read of a session's messages in words alone, where they are enough.
+#[inline(always)]
+fn mail_in_words(controller: ControllerId, pass: PassNo, session: SessionId) -> Option<Brief>
+    ensures { IfSome result (λ brief. Tells brief (events.Mail controller pass session)) }
+{
+    match read(controller, pass, session) {
+        Some(word) => in_words(Kind::Mail, [word, 0, 0]),
+        None => in_words(Kind::LongMail, [turn(controller, pass)?, session.0, 0]),
+    }
+}
+
+/// What tells a read of a session's states in words alone, where they are enough.
+#[inline(always)]
+fn states_in_words(controller: ControllerId, pass: PassNo, session: SessionId) -> Option<Brief>
+    ensures { IfSome result (λ brief. Tells brief (events.States controller pass session)) }
+{
+    match read(controller, pass, session) {
+        Some(word) => in_words(Kind::States, [word, 0, 0]),
+        None => in_words(Kind::LongStates, [turn(controller, pass)?, session.0, 0]),
     }
 }
 
@@ -150,10 +202,8 @@ pub(crate) fn brief_of(event: &Event) -> Option<Brief>
             in_words(Kind::Begin, [word, begun.epoch.0, begun.change])
         }
         Event::Live(c, pass) => in_words(Kind::Live, [turn(*c, *pass)?, 0, 0]),
-        Event::Mail(c, pass, session) => in_words(Kind::Mail, [turn(*c, *pass)?, session.0, 0]),
-        Event::States(c, pass, session) => {
-            in_words(Kind::States, [turn(*c, *pass)?, session.0, 0])
-        }
+        Event::Mail(c, pass, session) => mail_in_words(*c, *pass, *session),
+        Event::States(c, pass, session) => states_in_words(*c, *pass, *session),
         Event::Ideals(c, pass) => in_words(Kind::Ideals, [turn(*c, *pass)?, 0, 0]),
         Event::Fetch {
             instance,

@@ -21,7 +21,10 @@ pub(crate) enum Kind {
     WriteOk,
     WriteFailed,
     Ack,
-    /// The same of a session or a message whose number is long.
+    /// The same of numbers that are too long for one word.
+    LongMail,
+    LongStates,
+    LongFetch,
     LongTake,
     LongWriteOk,
     LongWriteFailed,
@@ -38,7 +41,7 @@ impl Kind {
     {
         match self {
             Kind::Whole => 0,
-            Kind::Mail | Kind::States | Kind::Fetch => 2,
+            Kind::LongMail | Kind::LongStates | Kind::LongFetch => 2,
             Kind::LongTake | Kind::LongWriteOk | Kind::LongWriteFailed | Kind::LongAck => 2,
             Kind::Begin => 3,
             _ => 1,
