@@ -49,68 +49,68 @@ fn in_words(kind: Kind, numbers: [u64; 3]) -> Option<Brief>
     Some(Brief { kind, words })
 }
 
-/// A controller and a pass of it in one number.
+/// A controller and a pass of it in one word.
 #[inline(always)]
-fn turn(controller: ControllerId, pass: PassNo) -> Option<u64>
+fn turn(controller: ControllerId, pass: PassNo) -> Option<u32>
     ensures { IfSome result (λ word.
         (Spec.controller word ≡ controller) × (Spec.pass_of word ≡ pass)) }
 {
     if pass.0 < 1 << 24 {
-        Some(pass.0 * (1 << 8) + u64::from(controller.0))
+        Some(pass.0 as u32 * (1 << 8) + u32::from(controller.0))
     } else {
         None
     }
 }
 
-/// An instance and how many messages it fetched in one number.
+/// An instance and how many messages it fetched in one word.
 #[inline(always)]
-fn fetch(instance: InstanceId, count: u32) -> Option<u64>
+fn fetch(instance: InstanceId, count: u32) -> Option<u32>
     ensures { IfSome result (λ word.
         (Spec.instance_of word ≡ instance) × (Spec.count_of word ≡ count)) }
 {
     if instance.0 < 1 << 16 && count < 1 << 16 {
-        Some(u64::from(count) * (1 << 16) + u64::from(instance.0))
+        Some(count * (1 << 16) + instance.0)
     } else {
         None
     }
 }
 
-/// A controller, a pass of it and the session that it reads of in one number.
+/// A controller, a pass of it and the session that it reads of in one word.
 #[inline(always)]
-fn read(controller: ControllerId, pass: PassNo, session: SessionId) -> Option<u64>
+fn read(controller: ControllerId, pass: PassNo, session: SessionId) -> Option<u32>
     ensures { IfSome result (λ word.
         (Spec.read_controller word ≡ controller) × (Spec.read_pass word ≡ pass)
         × (Spec.read_session word ≡ session)) }
 {
     if controller.0 < 1 << 4 && session.0 < 1 << 12 && pass.0 < 1 << 16 {
-        Some((pass.0 * (1 << 12) + session.0) * (1 << 4) + u64::from(controller.0))
+        Some((pass.0 as u32 * (1 << 12) + session.0 as u32) * (1 << 4) + u32::from(controller.0))
     } else {
         None
     }
 }
 
-/// An instance, its session and how many messages it fetched in one number.
+/// An instance, its session and how many messages it fetched in one word.
 #[inline(always)]
-fn fetch_of(instance: InstanceId, session: SessionId, count: u32) -> Option<u64>
+fn fetch_of(instance: InstanceId, session: SessionId, count: u32) -> Option<u32>
     ensures { IfSome result (λ word.
         (Spec.fetch_instance word ≡ instance) × (Spec.fetch_session word ≡ session)
         × (Spec.fetch_count word ≡ count)) }
 {
     if instance.0 < 1 << 10 && session.0 < 1 << 12 && count < 1 << 10 {
-        Some((u64::from(count) * (1 << 12) + session.0) * (1 << 10) + u64::from(instance.0))
+        Some((count * (1 << 12) + session.0 as u32) * (1 << 10) + instance.0)
     } else {
         None
     }
 }
 
-/// A session and a message in one number.
+/// A session and a message in one word.
 #[inline(always)]
-fn job(session: SessionId, id: MsgId) -> Option<u64>
+fn job(session: SessionId, id: MsgId) -> Option<u32>
     ensures { IfSome result (λ word.
         (Spec.session_of word ≡ session) × (Spec.message_of word ≡ id)) }
 {
     if session.0 < 1 << 12 && id.0 < 1 << 20 {
-        Some(session.0 * (1 << 20) + id.0)
+        Some(session.0 as u32 * (1 << 20) + id.0 as u32)
     } else {
         None
     }
@@ -122,11 +122,17 @@ fn fetch_in_words(instance: InstanceId, session: Option<SessionId>, count: u32) 
     ensures { IfSome result (λ brief. Tells brief (events.Fetch instance session count)) }
 {
     let Some(session) = session else {
-        return in_words(Kind::FetchNobody, [fetch(instance, count)?, 0, 0]);
+        return in_words(
+            Kind::FetchNobody,
+            [u64::from(fetch(instance, count)?), 0, 0],
+        );
     };
     match fetch_of(instance, session, count) {
-        Some(word) => in_words(Kind::Fetch, [word, 0, 0]),
-        None => in_words(Kind::LongFetch, [fetch(instance, count)?, session.0, 0]),
+        Some(word) => in_words(Kind::Fetch, [u64::from(word), 0, 0]),
+        None => in_words(
+            Kind::LongFetch,
+            [u64::from(fetch(instance, count)?), session.0, 0],
+        ),
     }
 }
 
@@ -136,8 +142,11 @@ fn mail_in_words(controller: ControllerId, pass: PassNo, session: SessionId) -> 
     ensures { IfSome result (λ brief. Tells brief (events.Mail controller pass session)) }
 {
     match read(controller, pass, session) {
-        Some(word) => in_words(Kind::Mail, [word, 0, 0]),
-        None => in_words(Kind::LongMail, [turn(controller, pass)?, session.0, 0]),
+        Some(word) => in_words(Kind::Mail, [u64::from(word), 0, 0]),
+        None => in_words(
+            Kind::LongMail,
+            [u64::from(turn(controller, pass)?), session.0, 0],
+        ),
     }
 }
 
@@ -147,8 +156,11 @@ fn states_in_words(controller: ControllerId, pass: PassNo, session: SessionId) -
     ensures { IfSome result (λ brief. Tells brief (events.States controller pass session)) }
 {
     match read(controller, pass, session) {
-        Some(word) => in_words(Kind::States, [word, 0, 0]),
-        None => in_words(Kind::LongStates, [turn(controller, pass)?, session.0, 0]),
+        Some(word) => in_words(Kind::States, [u64::from(word), 0, 0]),
+        None => in_words(
+            Kind::LongStates,
+            [u64::from(turn(controller, pass)?), session.0, 0],
+        ),
     }
 }
 
@@ -158,7 +170,7 @@ fn take_in_words(session: SessionId, id: MsgId) -> Option<Brief>
     ensures { IfSome result (λ brief. Tells brief (events.Take session id)) }
 {
     match job(session, id) {
-        Some(word) => in_words(Kind::Take, [word, 0, 0]),
+        Some(word) => in_words(Kind::Take, [u64::from(word), 0, 0]),
         None => in_words(Kind::LongTake, [session.0, id.0, 0]),
     }
 }
@@ -169,9 +181,9 @@ fn write_in_words(session: SessionId, id: MsgId, outcome: Outcome) -> Option<Bri
     ensures { IfSome result (λ brief. Tells brief (events.Write session id outcome)) }
 {
     match (outcome, job(session, id)) {
-        (Outcome::Ok, Some(word)) => in_words(Kind::WriteOk, [word, 0, 0]),
+        (Outcome::Ok, Some(word)) => in_words(Kind::WriteOk, [u64::from(word), 0, 0]),
         (Outcome::Ok, None) => in_words(Kind::LongWriteOk, [session.0, id.0, 0]),
-        (Outcome::Failed, Some(word)) => in_words(Kind::WriteFailed, [word, 0, 0]),
+        (Outcome::Failed, Some(word)) => in_words(Kind::WriteFailed, [u64::from(word), 0, 0]),
         (Outcome::Failed, None) => in_words(Kind::LongWriteFailed, [session.0, id.0, 0]),
     }
 }
@@ -182,7 +194,7 @@ fn ack_in_words(session: SessionId, id: MsgId) -> Option<Brief>
     ensures { IfSome result (λ brief. Tells brief (events.Ack session id)) }
 {
     match job(session, id) {
-        Some(word) => in_words(Kind::Ack, [word, 0, 0]),
+        Some(word) => in_words(Kind::Ack, [u64::from(word), 0, 0]),
         None => in_words(Kind::LongAck, [session.0, id.0, 0]),
     }
 }
@@ -199,12 +211,12 @@ pub(crate) fn brief_of(event: &Event) -> Option<Brief>
         }
         Event::Begin(c, begun) => {
             let word = turn(*c, begun.pass)?;
-            in_words(Kind::Begin, [word, begun.epoch.0, begun.change])
+            in_words(Kind::Begin, [u64::from(word), begun.epoch.0, begun.change])
         }
-        Event::Live(c, pass) => in_words(Kind::Live, [turn(*c, *pass)?, 0, 0]),
+        Event::Live(c, pass) => in_words(Kind::Live, [u64::from(turn(*c, *pass)?), 0, 0]),
         Event::Mail(c, pass, session) => mail_in_words(*c, *pass, *session),
         Event::States(c, pass, session) => states_in_words(*c, *pass, *session),
-        Event::Ideals(c, pass) => in_words(Kind::Ideals, [turn(*c, *pass)?, 0, 0]),
+        Event::Ideals(c, pass) => in_words(Kind::Ideals, [u64::from(turn(*c, *pass)?), 0, 0]),
         Event::Fetch {
             instance,
             session,

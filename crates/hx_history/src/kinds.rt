@@ -10,24 +10,25 @@ pub(crate) enum Kind {
     Tick,
     Begin,
     Live,
-    Mail,
-    States,
     Ideals,
     /// A fetch of an instance without a session.
     FetchNobody,
+    // Of numbers that fit one word together, and of longer ones. A pair stands at an even place, so
+    // that one test is for both.
+    Mail,
+    LongMail,
+    States,
+    LongStates,
     Fetch,
+    LongFetch,
     Take,
+    LongTake,
     /// A write of a handler's success.
     WriteOk,
-    WriteFailed,
-    Ack,
-    /// The same of numbers that are too long for one word.
-    LongMail,
-    LongStates,
-    LongFetch,
-    LongTake,
     LongWriteOk,
+    WriteFailed,
     LongWriteFailed,
+    Ack,
     LongAck,
     /// An event of another sort, or one of large numbers. It is kept as it is.
     Whole,
