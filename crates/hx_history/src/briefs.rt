@@ -1,5 +1,5 @@
 //! The few words that tell most events.
-ghost use Rattle.std.specs.Prelude.{◌≡◌, length, take, IfSome};
+ghost use Rattle.std.specs.Prelude.{◌≡◌, ◌∷◌, [], length, take, IfSome};
 ghost use Rattle.hx_cluster.specs.declared.happenings.Event.TheVariants as events;
 ghost use Rattle.hx_history.specs.Columns as Spec;
 ghost use Rattle.hx_history.specs.Columns.{words_of};
@@ -47,6 +47,18 @@ fn in_words(kind: Kind, numbers: [u64; 3]) -> Option<Brief>
     let [first, second, third] = numbers;
     let words = [word(first)?, word(second)?, word(third)?];
     Some(Brief { kind, words })
+}
+
+/// A kind with one word.
+#[inline(always)]
+fn in_word(kind: Kind, word: u32) -> Option<Brief>
+    ensures { IfSome result (λ brief. brief
+        ≡ record { kind = kind; words = word ∷ 0 ∷ 0 ∷ [] }) }
+{
+    Some(Brief {
+        kind,
+        words: [word, 0, 0],
+    })
 }
 
 /// A controller and a pass of it in one word.
@@ -116,96 +128,47 @@ fn job(session: SessionId, id: MsgId) -> Option<u32>
     }
 }
 
-/// What tells a fetch in words alone, where they are enough.
+/// What tells a fetch in a word alone, where one is enough.
 #[inline(always)]
-fn fetch_in_words(instance: InstanceId, session: Option<SessionId>, count: u32) -> Option<Brief>
+fn fetch_in_word(instance: InstanceId, session: Option<SessionId>, count: u32) -> Option<Brief>
     ensures { IfSome result (λ brief. Tells brief (events.Fetch instance session count)) }
 {
-    let Some(session) = session else {
-        return in_words(
-            Kind::FetchNobody,
-            [u64::from(fetch(instance, count)?), 0, 0],
-        );
-    };
-    match fetch_of(instance, session, count) {
-        Some(word) => in_words(Kind::Fetch, [u64::from(word), 0, 0]),
-        None => in_words(
-            Kind::LongFetch,
-            [u64::from(fetch(instance, count)?), session.0, 0],
-        ),
+    match session {
+        Some(session) => in_word(Kind::Fetch, fetch_of(instance, session, count)?),
+        None => in_word(Kind::FetchNobody, fetch(instance, count)?),
     }
 }
 
-/// What tells a read of a session's messages in words alone, where they are enough.
+/// What tells a write in a word alone, where one is enough.
 #[inline(always)]
-fn mail_in_words(controller: ControllerId, pass: PassNo, session: SessionId) -> Option<Brief>
-    ensures { IfSome result (λ brief. Tells brief (events.Mail controller pass session)) }
-{
-    match read(controller, pass, session) {
-        Some(word) => in_words(Kind::Mail, [u64::from(word), 0, 0]),
-        None => in_words(
-            Kind::LongMail,
-            [u64::from(turn(controller, pass)?), session.0, 0],
-        ),
-    }
-}
-
-/// What tells a read of a session's states in words alone, where they are enough.
-#[inline(always)]
-fn states_in_words(controller: ControllerId, pass: PassNo, session: SessionId) -> Option<Brief>
-    ensures { IfSome result (λ brief. Tells brief (events.States controller pass session)) }
-{
-    match read(controller, pass, session) {
-        Some(word) => in_words(Kind::States, [u64::from(word), 0, 0]),
-        None => in_words(
-            Kind::LongStates,
-            [u64::from(turn(controller, pass)?), session.0, 0],
-        ),
-    }
-}
-
-/// What tells in words alone that a session takes a message, where they are enough.
-#[inline(always)]
-fn take_in_words(session: SessionId, id: MsgId) -> Option<Brief>
-    ensures { IfSome result (λ brief. Tells brief (events.Take session id)) }
-{
-    match job(session, id) {
-        Some(word) => in_words(Kind::Take, [u64::from(word), 0, 0]),
-        None => in_words(Kind::LongTake, [session.0, id.0, 0]),
-    }
-}
-
-/// What tells a write in words alone, where they are enough.
-#[inline(always)]
-fn write_in_words(session: SessionId, id: MsgId, outcome: Outcome) -> Option<Brief>
+fn write_in_word(session: SessionId, id: MsgId, outcome: Outcome) -> Option<Brief>
     ensures { IfSome result (λ brief. Tells brief (events.Write session id outcome)) }
 {
-    match (outcome, job(session, id)) {
-        (Outcome::Ok, Some(word)) => in_words(Kind::WriteOk, [u64::from(word), 0, 0]),
-        (Outcome::Ok, None) => in_words(Kind::LongWriteOk, [session.0, id.0, 0]),
-        (Outcome::Failed, Some(word)) => in_words(Kind::WriteFailed, [u64::from(word), 0, 0]),
-        (Outcome::Failed, None) => in_words(Kind::LongWriteFailed, [session.0, id.0, 0]),
+    let word = job(session, id)?;
+    match outcome {
+        Outcome::Ok => in_word(Kind::WriteOk, word),
+        Outcome::Failed => in_word(Kind::WriteFailed, word),
     }
 }
 
-/// What tells in words alone that a session acknowledges a message, where they are enough.
-#[inline(always)]
-fn ack_in_words(session: SessionId, id: MsgId) -> Option<Brief>
-    ensures { IfSome result (λ brief. Tells brief (events.Ack session id)) }
+/// What tells a write of long numbers in words alone, where they are enough.
+fn long_write_in_words(session: SessionId, id: MsgId, outcome: Outcome) -> Option<Brief>
+    ensures { IfSome result (λ brief. Tells brief (events.Write session id outcome)) }
 {
-    match job(session, id) {
-        Some(word) => in_words(Kind::Ack, [u64::from(word), 0, 0]),
-        None => in_words(Kind::LongAck, [session.0, id.0, 0]),
-    }
+    let kind = match outcome {
+        Outcome::Ok => Kind::LongWriteOk,
+        Outcome::Failed => Kind::LongWriteFailed,
+    };
+    in_words(kind, [session.0, id.0, 0])
 }
 
-/// What tells an event in words alone, where they are enough.
+/// What tells an event in words alone, mostly in one, where they are enough.
 #[inline(always)]
 pub(crate) fn brief_of(event: &Event) -> Option<Brief>
     ensures { IfSome result (λ brief. Tells brief event.now) }
 {
     match event {
-        Event::Line(line) => in_words(Kind::Line, [u64::from(*line), 0, 0]),
+        Event::Line(line) => in_word(Kind::Line, *line),
         Event::Admin(Admin::Tick { n }, Did::Ended(ended)) if ended.is_empty() => {
             in_words(Kind::Tick, [*n, 0, 0])
         }
@@ -213,18 +176,47 @@ pub(crate) fn brief_of(event: &Event) -> Option<Brief>
             let word = turn(*c, begun.pass)?;
             in_words(Kind::Begin, [u64::from(word), begun.epoch.0, begun.change])
         }
-        Event::Live(c, pass) => in_words(Kind::Live, [u64::from(turn(*c, *pass)?), 0, 0]),
-        Event::Mail(c, pass, session) => mail_in_words(*c, *pass, *session),
-        Event::States(c, pass, session) => states_in_words(*c, *pass, *session),
-        Event::Ideals(c, pass) => in_words(Kind::Ideals, [u64::from(turn(*c, *pass)?), 0, 0]),
+        Event::Live(c, pass) => in_word(Kind::Live, turn(*c, *pass)?),
+        Event::Mail(c, pass, session) => in_word(Kind::Mail, read(*c, *pass, *session)?),
+        Event::States(c, pass, session) => in_word(Kind::States, read(*c, *pass, *session)?),
+        Event::Ideals(c, pass) => in_word(Kind::Ideals, turn(*c, *pass)?),
         Event::Fetch {
             instance,
             session,
             count,
-        } => fetch_in_words(*instance, *session, *count),
-        Event::Take(session, id) => take_in_words(*session, *id),
-        Event::Write(session, id, outcome) => write_in_words(*session, *id, *outcome),
-        Event::Ack(session, id) => ack_in_words(*session, *id),
+        } => fetch_in_word(*instance, *session, *count),
+        Event::Take(session, id) => in_word(Kind::Take, job(*session, *id)?),
+        Event::Write(session, id, outcome) => write_in_word(*session, *id, *outcome),
+        Event::Ack(session, id) => in_word(Kind::Ack, job(*session, *id)?),
         Event::Admin(..) | Event::Dispatch { .. } | Event::Post { .. } => None,
+    }
+}
+
+/// What tells an event of longer numbers in words alone, where they are enough.
+pub(crate) fn long_brief_of(event: &Event) -> Option<Brief>
+    ensures { IfSome result (λ brief. Tells brief event.now) }
+{
+    match event {
+        Event::Mail(c, pass, session) => {
+            in_words(Kind::LongMail, [u64::from(turn(*c, *pass)?), session.0, 0])
+        }
+        Event::States(c, pass, session) => {
+            in_words(
+                Kind::LongStates,
+                [u64::from(turn(*c, *pass)?), session.0, 0],
+            )
+        }
+        Event::Fetch {
+            instance,
+            session: Some(session),
+            count,
+        } => in_words(
+            Kind::LongFetch,
+            [u64::from(fetch(*instance, *count)?), session.0, 0],
+        ),
+        Event::Take(session, id) => in_words(Kind::LongTake, [session.0, id.0, 0]),
+        Event::Write(session, id, outcome) => long_write_in_words(*session, *id, *outcome),
+        Event::Ack(session, id) => in_words(Kind::LongAck, [session.0, id.0, 0]),
+        _ => None,
     }
 }
