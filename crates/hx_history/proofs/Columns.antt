@@ -28,6 +28,13 @@ told_one kinds.Take ws es h = (_, refl)
 told_one kinds.WriteOk ws es h = (_, refl)
 told_one kinds.WriteFailed ws es h = (_, refl)
 told_one kinds.Ack ws es h = (_, refl)
+told_one kinds.LongMail ws es h = (_, refl)
+told_one kinds.LongStates ws es h = (_, refl)
+told_one kinds.LongFetch ws es h = (_, refl)
+told_one kinds.LongTake ws es h = (_, refl)
+told_one kinds.LongWriteOk ws es h = (_, refl)
+told_one kinds.LongWriteFailed ws es h = (_, refl)
+told_one kinds.LongAck ws es h = (_, refl)
 
 -- the columns behind the first kind
 pub record FitsOn (k : Kind) (ks : List Kind) (ws : List ℕ) (es : List Event) : Type 0 where

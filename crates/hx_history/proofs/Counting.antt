@@ -4,12 +4,12 @@ use Rattle.std.specs.Prelude.{option_to_list, slice_index, None, Some}
 use Rattle.std.specs.List.{sum_by}
 use Rattle.std.proofs.lemmas.List.Sums.{sum_by-cons, sum_by-append}
 use Rattle.hx_lists.specs.Lists.{count}
-use Rattle.hx_ids.specs.Words.{instance, message, pass, session}
+use Rattle.hx_ids.specs.Words.{message, session}
 use Rattle.hx_cluster.specs.declared.happenings.Outcome.TheVariants as outcomes
 use Rattle.hx_cluster.specs.declared.happenings.Event.{Event}
 use Rattle.hx_history.specs.declared.kinds.Kind.{Kind}
 use Rattle.hx_history.specs.declared.kinds.Kind.TheVariants as kinds
-use Rattle.hx_history.specs.Columns.{words_of, kept_of, controller, begun, event_of, events_of, Fit}
+use Rattle.hx_history.specs.Columns.{words_of, kept_of, controller, pass_of, read_controller, read_session, read_pass, fetch_instance, fetch_session, fetch_count, instance_of, count_of, session_of, message_of, begun, event_of, events_of, Fit}
 use Rattle.hx_history.specs.Counted.{is_write_of, CountsWrites, IsCountedBy}
 use Rattle.hx_history.proofs.Columns.{fits_on}
 
@@ -27,7 +27,9 @@ count-le test (k ∷ ks) = grind (arith, count-le test ks)
 -- what an event of a kind counts for, where words tell it
 abbrev weight : ℕ → ℕ → Kind → ℕ
 weight a b kinds.WriteOk = a
+weight a b kinds.LongWriteOk = a
 weight a b kinds.WriteFailed = b
+weight a b kinds.LongWriteFailed = b
 weight a b _ = 0
 
 -- the first event, with those that are kept behind it
@@ -38,16 +40,23 @@ first_counts number a b h kinds.Whole ws (e ∷ es) enough = omega (arith, sum_b
 first_counts number a b h kinds.Line ws es enough = omega (arith, h.line (slice_index ws 0))
 first_counts number a b h kinds.Tick ws es enough = omega (arith, h.tick (slice_index ws 0))
 first_counts number a b h kinds.Begin ws es enough = omega (arith, h.begin (controller (slice_index ws 0)) (begun ws))
-first_counts number a b h kinds.Live ws es enough = omega (arith, h.live (controller (slice_index ws 0)) (pass (slice_index ws 1)))
-first_counts number a b h kinds.Mail ws es enough = omega (arith, h.mail (controller (slice_index ws 0)) (pass (slice_index ws 1)) (session (slice_index ws 2)))
-first_counts number a b h kinds.States ws es enough = omega (arith, h.states (controller (slice_index ws 0)) (pass (slice_index ws 1)) (session (slice_index ws 2)))
-first_counts number a b h kinds.Ideals ws es enough = omega (arith, h.ideals (controller (slice_index ws 0)) (pass (slice_index ws 1)))
-first_counts number a b h kinds.FetchNobody ws es enough = omega (arith, h.fetch (instance (slice_index ws 0)) None (slice_index ws 1))
-first_counts number a b h kinds.Fetch ws es enough = omega (arith, h.fetch (instance (slice_index ws 0)) (Some (session (slice_index ws 1))) (slice_index ws 2))
-first_counts number a b h kinds.Take ws es enough = omega (arith, h.take (session (slice_index ws 0)) (message (slice_index ws 1)))
-first_counts number a b h kinds.WriteOk ws es enough = omega (arith, h.write_ok (session (slice_index ws 0)) (message (slice_index ws 1)))
-first_counts number a b h kinds.WriteFailed ws es enough = omega (arith, h.write_failed (session (slice_index ws 0)) (message (slice_index ws 1)))
-first_counts number a b h kinds.Ack ws es enough = omega (arith, h.ack (session (slice_index ws 0)) (message (slice_index ws 1)))
+first_counts number a b h kinds.Live ws es enough = omega (arith, h.live (controller (slice_index ws 0)) (pass_of (slice_index ws 0)))
+first_counts number a b h kinds.Mail ws es enough = omega (arith, h.mail (read_controller (slice_index ws 0)) (read_pass (slice_index ws 0)) (read_session (slice_index ws 0)))
+first_counts number a b h kinds.States ws es enough = omega (arith, h.states (read_controller (slice_index ws 0)) (read_pass (slice_index ws 0)) (read_session (slice_index ws 0)))
+first_counts number a b h kinds.Ideals ws es enough = omega (arith, h.ideals (controller (slice_index ws 0)) (pass_of (slice_index ws 0)))
+first_counts number a b h kinds.FetchNobody ws es enough = omega (arith, h.fetch (instance_of (slice_index ws 0)) None (count_of (slice_index ws 0)))
+first_counts number a b h kinds.Fetch ws es enough = omega (arith, h.fetch (fetch_instance (slice_index ws 0)) (Some (fetch_session (slice_index ws 0))) (fetch_count (slice_index ws 0)))
+first_counts number a b h kinds.Take ws es enough = omega (arith, h.take (session_of (slice_index ws 0)) (message_of (slice_index ws 0)))
+first_counts number a b h kinds.WriteOk ws es enough = omega (arith, h.write_ok (session_of (slice_index ws 0)) (message_of (slice_index ws 0)))
+first_counts number a b h kinds.WriteFailed ws es enough = omega (arith, h.write_failed (session_of (slice_index ws 0)) (message_of (slice_index ws 0)))
+first_counts number a b h kinds.Ack ws es enough = omega (arith, h.ack (session_of (slice_index ws 0)) (message_of (slice_index ws 0)))
+first_counts number a b h kinds.LongMail ws es enough = omega (arith, h.mail (controller (slice_index ws 0)) (pass_of (slice_index ws 0)) (session (slice_index ws 1)))
+first_counts number a b h kinds.LongStates ws es enough = omega (arith, h.states (controller (slice_index ws 0)) (pass_of (slice_index ws 0)) (session (slice_index ws 1)))
+first_counts number a b h kinds.LongFetch ws es enough = omega (arith, h.fetch (instance_of (slice_index ws 0)) (Some (session (slice_index ws 1))) (count_of (slice_index ws 0)))
+first_counts number a b h kinds.LongTake ws es enough = omega (arith, h.take (session (slice_index ws 0)) (message (slice_index ws 1)))
+first_counts number a b h kinds.LongWriteOk ws es enough = omega (arith, h.write_ok (session (slice_index ws 0)) (message (slice_index ws 1)))
+first_counts number a b h kinds.LongWriteFailed ws es enough = omega (arith, h.write_failed (session (slice_index ws 0)) (message (slice_index ws 1)))
+first_counts number a b h kinds.LongAck ws es enough = omega (arith, h.ack (session (slice_index ws 0)) (message (slice_index ws 1)))
 
 -- the writes among kinds, one kind more
 weight-more : (a b : ℕ) (k : Kind) (ks : List Kind)
@@ -55,6 +64,8 @@ weight-more : (a b : ℕ) (k : Kind) (ks : List Kind)
     ≡ weight a b k + (count (is_write_of outcomes.Ok) ks * a + count (is_write_of outcomes.Failed) ks * b)
 weight-more a b kinds.WriteOk ks = omega (arith, add-mul 1 (count (is_write_of outcomes.Ok) ks) a)
 weight-more a b kinds.WriteFailed ks = omega (arith, add-mul 1 (count (is_write_of outcomes.Failed) ks) b)
+weight-more a b kinds.LongWriteOk ks = omega (arith, add-mul 1 (count (is_write_of outcomes.Ok) ks) a)
+weight-more a b kinds.LongWriteFailed ks = omega (arith, add-mul 1 (count (is_write_of outcomes.Failed) ks) b)
 weight-more a b kinds.Line ks = omega arith
 weight-more a b kinds.Tick ks = omega arith
 weight-more a b kinds.Begin ks = omega arith
@@ -66,6 +77,11 @@ weight-more a b kinds.FetchNobody ks = omega arith
 weight-more a b kinds.Fetch ks = omega arith
 weight-more a b kinds.Take ks = omega arith
 weight-more a b kinds.Ack ks = omega arith
+weight-more a b kinds.LongMail ks = omega arith
+weight-more a b kinds.LongStates ks = omega arith
+weight-more a b kinds.LongFetch ks = omega arith
+weight-more a b kinds.LongTake ks = omega arith
+weight-more a b kinds.LongAck ks = omega arith
 weight-more a b kinds.Whole ks = omega arith
 
 counts : (number : Event → ℕ) (a b : ℕ) → CountsWrites number a b → (ks : List Kind) (ws : List ℕ) (es : List Event) → Fit ks ws es

@@ -19,7 +19,9 @@ use Rattle.hx_history.specs.declared.kinds.Kind.TheVariants as kinds
 -- whether a kind is that of a write of an outcome
 abbrev pub is_write_of : Outcome → Kind → Bool
 is_write_of outcomes.Ok kinds.WriteOk = true
+is_write_of outcomes.Ok kinds.LongWriteOk = true
 is_write_of outcomes.Failed kinds.WriteFailed = true
+is_write_of outcomes.Failed kinds.LongWriteFailed = true
 is_write_of outcome kind = false
 
 -- a number of events, where an event that words tell counts for nothing, but a write for a number of its outcome

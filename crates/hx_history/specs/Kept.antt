@@ -14,5 +14,5 @@ pub record Tells (brief : Brief) (event : Event) : Type 0 where
 pub record AreColumns (a : Inside) : Type 0 where
   pub fit : Fit a.kinds.items a.words.items a.whole.items
   pub kinds : a.spare ≤ a.kinds.spare
-  pub words : 4 * a.spare ≤ a.words.spare
+  pub words : 3 * a.spare ≤ a.words.spare
   pub whole : a.spare ≤ a.whole.spare

@@ -19,8 +19,8 @@ fn is_write_of(outcome: Outcome, kind: Kind) -> bool
     ensures { result ≡ is_write_of outcome kind }
 {
     match outcome {
-        Outcome::Ok => matches!(kind, Kind::WriteOk),
-        Outcome::Failed => matches!(kind, Kind::WriteFailed),
+        Outcome::Ok => matches!(kind, Kind::WriteOk | Kind::LongWriteOk),
+        Outcome::Failed => matches!(kind, Kind::WriteFailed | Kind::LongWriteFailed),
     }
 }
 

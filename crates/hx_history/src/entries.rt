@@ -5,7 +5,7 @@ ghost use Rattle.std.specs.Option.{option_map};
 ghost use Rattle.hx_history.specs.Counted.{IsCountedBy};
 ghost use Rattle.hx_history.specs.Told.{event_in};
 
-use crate::briefs::brief_of;
+use crate::briefs::{brief_of, long_brief_of};
 use crate::counted::{Counted, writes_of};
 use crate::kinds::Kind;
 use crate::told::{Told, tell};
@@ -139,7 +139,7 @@ impl Entries {
         ensures err { OnErr result (self.new ≡ self.old) }
     {
         self.kinds.reserve(additional)?;
-        let words = additional.checked_mul(4).ok_or(AllocError)?;
+        let words = additional.checked_mul(3).ok_or(AllocError)?;
         self.words.reserve(words)?;
         self.whole.reserve(additional)?;
         self.spare = additional;
@@ -153,8 +153,24 @@ impl Entries {
         ensures items { self.new.items ≡ self.old.items ++ value ∷ [] }
         ensures spare { self.new.spare + 1 ≡ self.old.spare }
     {
-        self.spare -= 1;
         let Some(brief) = brief_of(&value) else {
+            self.push_long(value);
+            return;
+        };
+        self.spare -= 1;
+        self.kinds.push_reserved(brief.kind);
+        push_words(&mut self.words, brief.words());
+    }
+
+    /// Adds an item of longer numbers, or one that no words tell. It takes no memory.
+    #[inline(never)]
+    fn push_long(&mut self, value: Event)
+        requires { 0 < self.old.spare }
+        ensures items { self.new.items ≡ self.old.items ++ value ∷ [] }
+        ensures spare { self.new.spare + 1 ≡ self.old.spare }
+    {
+        self.spare -= 1;
+        let Some(brief) = long_brief_of(&value) else {
             self.kinds.push_reserved(Kind::Whole);
             self.whole.push_reserved(value);
             return;

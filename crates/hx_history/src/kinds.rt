@@ -10,17 +10,26 @@ pub(crate) enum Kind {
     Tick,
     Begin,
     Live,
-    Mail,
-    States,
     Ideals,
     /// A fetch of an instance without a session.
     FetchNobody,
+    // Of numbers that fit one word together, and of longer ones. A pair stands at an even place, so
+    // that one test is for both.
+    Mail,
+    LongMail,
+    States,
+    LongStates,
     Fetch,
+    LongFetch,
     Take,
+    LongTake,
     /// A write of a handler's success.
     WriteOk,
+    LongWriteOk,
     WriteFailed,
+    LongWriteFailed,
     Ack,
+    LongAck,
     /// An event of another sort, or one of large numbers. It is kept as it is.
     Whole,
 }
@@ -33,10 +42,10 @@ impl Kind {
     {
         match self {
             Kind::Whole => 0,
-            Kind::Line | Kind::Tick => 1,
-            Kind::Mail | Kind::States | Kind::Fetch => 3,
-            Kind::Begin => 4,
-            _ => 2,
+            Kind::LongMail | Kind::LongStates | Kind::LongFetch => 2,
+            Kind::LongTake | Kind::LongWriteOk | Kind::LongWriteFailed | Kind::LongAck => 2,
+            Kind::Begin => 3,
+            _ => 1,
         }
     }
 

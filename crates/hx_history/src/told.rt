@@ -71,30 +71,107 @@ fn message(word: u32) -> MsgId
 }
 
 #[inline]
+fn pass_of(word: u32) -> PassNo
+    ensures { result ≡ Spec.pass_of word }
+{
+    pass(word / (1 << 8))
+}
+
+#[inline]
+fn session_of(word: u32) -> SessionId
+    ensures { result ≡ Spec.session_of word }
+{
+    session(word / (1 << 20))
+}
+
+#[inline]
+fn message_of(word: u32) -> MsgId
+    ensures { result ≡ Spec.message_of word }
+{
+    message(word % (1 << 20))
+}
+
+#[inline]
 fn begun(words: &[u32]) -> Begun
-    requires { 4 ≤ length words.now }
+    requires { 3 ≤ length words.now }
     ensures { result ≡ Spec.begun words.now }
 {
     Begun {
         epoch: Epoch(u64::from(words[1])),
-        pass: pass(words[2]),
-        change: u64::from(words[3]),
+        pass: pass_of(words[0]),
+        change: u64::from(words[2]),
     }
 }
 
 #[inline]
-fn fetched(instance: u32, session: Option<SessionId>, count: u32) -> Event
-    ensures { result ≡ events.Fetch (Ids.instance instance) session count }
+fn read_controller(word: u32) -> ControllerId
+    ensures { result ≡ Spec.read_controller word }
+{
+    ControllerId((word % (1 << 4)) as u8)
+}
+
+#[inline]
+fn read_pass(word: u32) -> PassNo
+    ensures { result ≡ Spec.read_pass word }
+{
+    pass(word / (1 << 16))
+}
+
+#[inline]
+fn read_session(word: u32) -> SessionId
+    ensures { result ≡ Spec.read_session word }
+{
+    session(word / (1 << 4) % (1 << 12))
+}
+
+#[inline]
+fn mail(word: u32) -> Event
+    ensures { result ≡ events.Mail (Spec.read_controller word) (Spec.read_pass word)
+        (Spec.read_session word) }
+{
+    Event::Mail(read_controller(word), read_pass(word), read_session(word))
+}
+
+#[inline]
+fn states(word: u32) -> Event
+    ensures { result ≡ events.States (Spec.read_controller word) (Spec.read_pass word)
+        (Spec.read_session word) }
+{
+    Event::States(read_controller(word), read_pass(word), read_session(word))
+}
+
+#[inline]
+fn fetched(word: u32) -> Event
+    ensures { result ≡ events.Fetch (Spec.fetch_instance word) (Some (Spec.fetch_session word))
+        (Spec.fetch_count word) }
 {
     Event::Fetch {
-        instance: InstanceId(instance),
-        session,
-        count,
+        instance: InstanceId(word % (1 << 10)),
+        session: Some(session(word / (1 << 10) % (1 << 12))),
+        count: word / (1 << 22),
     }
 }
 
 #[inline]
-fn written(of: u32, id: u32, outcome: Outcome) -> Event
+fn long_fetched(word: u32, session: Option<SessionId>) -> Event
+    ensures { result ≡ events.Fetch (Spec.instance_of word) session (Spec.count_of word) }
+{
+    Event::Fetch {
+        instance: InstanceId(word % (1 << 16)),
+        session,
+        count: word / (1 << 16),
+    }
+}
+
+#[inline]
+fn written(word: u32, outcome: Outcome) -> Event
+    ensures { result ≡ events.Write (Spec.session_of word) (Spec.message_of word) outcome }
+{
+    Event::Write(session_of(word), message_of(word), outcome)
+}
+
+#[inline]
+fn long_written(of: u32, id: u32, outcome: Outcome) -> Event
     ensures { result ≡ events.Write (Ids.session of) (Ids.message id) outcome }
 {
     Event::Write(session(of), message(id), outcome)
@@ -118,16 +195,25 @@ pub(crate) fn tell<'a>(alloc: Global, kind: Kind, words: &[u32], whole: &'a [Eve
         Kind::Line => Event::Line(words[0]),
         Kind::Tick => ticked(alloc, words[0]),
         Kind::Begin => Event::Begin(controller(words[0]), begun(words)),
-        Kind::Live => Event::Live(controller(words[0]), pass(words[1])),
-        Kind::Mail => Event::Mail(controller(words[0]), pass(words[1]), session(words[2])),
-        Kind::States => Event::States(controller(words[0]), pass(words[1]), session(words[2])),
-        Kind::Ideals => Event::Ideals(controller(words[0]), pass(words[1])),
-        Kind::FetchNobody => fetched(words[0], None, words[1]),
-        Kind::Fetch => fetched(words[0], Some(session(words[1])), words[2]),
-        Kind::Take => Event::Take(session(words[0]), message(words[1])),
-        Kind::WriteOk => written(words[0], words[1], Outcome::Ok),
-        Kind::WriteFailed => written(words[0], words[1], Outcome::Failed),
-        Kind::Ack => Event::Ack(session(words[0]), message(words[1])),
+        Kind::Live => Event::Live(controller(words[0]), pass_of(words[0])),
+        Kind::Mail => mail(words[0]),
+        Kind::States => states(words[0]),
+        Kind::Ideals => Event::Ideals(controller(words[0]), pass_of(words[0])),
+        Kind::FetchNobody => long_fetched(words[0], None),
+        Kind::Fetch => fetched(words[0]),
+        Kind::Take => Event::Take(session_of(words[0]), message_of(words[0])),
+        Kind::WriteOk => written(words[0], Outcome::Ok),
+        Kind::WriteFailed => written(words[0], Outcome::Failed),
+        Kind::Ack => Event::Ack(session_of(words[0]), message_of(words[0])),
+        Kind::LongMail => Event::Mail(controller(words[0]), pass_of(words[0]), session(words[1])),
+        Kind::LongStates => {
+            Event::States(controller(words[0]), pass_of(words[0]), session(words[1]))
+        }
+        Kind::LongFetch => long_fetched(words[0], Some(session(words[1]))),
+        Kind::LongTake => Event::Take(session(words[0]), message(words[1])),
+        Kind::LongWriteOk => long_written(words[0], words[1], Outcome::Ok),
+        Kind::LongWriteFailed => long_written(words[0], words[1], Outcome::Failed),
+        Kind::LongAck => Event::Ack(session(words[0]), message(words[1])),
         Kind::Whole => return Told::Kept(&whole[0]),
     })
 }

@@ -155,12 +155,12 @@ impl<H> Indexed<H> {
         };
         self.items.push_reserved(Slot {
             part: message.part,
-            state: message.from,
             last: message.id,
-            initial: Some(message.initial),
             work: Work::Accepted(*message),
-            node,
             handler: None,
+            node,
+            state: message.from,
+            initial: Some(message.initial),
         });
     }
 

@@ -38,13 +38,13 @@ pub enum Work {
 /// A part of a participant, with its handler, if it has one.
 pub struct Slot<H> {
     pub part: PartId,
-    pub state: StateId,
     pub last: MsgId,
-    pub initial: Option<StateId>,
     pub work: Work,
+    pub handler: Option<H>,
     /// Where its accepted message is linked.
     pub node: Node,
-    pub handler: Option<H>,
+    pub state: StateId,
+    pub initial: Option<StateId>,
 }
 
 /// Whether a slot has nothing to do.
@@ -272,12 +272,12 @@ pub fn free<H>(mut slots: Vec<Slot<H>>)
     while let Some(slot) = slots.pop() {
         let Slot {
             part: _,
-            state: _,
             last: _,
-            initial: _,
             work: _,
-            node: _,
             handler,
+            node: _,
+            state: _,
+            initial: _,
         } = slot;
         match handler {
             None => {}
