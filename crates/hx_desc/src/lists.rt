@@ -27,7 +27,7 @@ pub(crate) fn instance(
 fn is_listed(list: &[InstanceId], instance: InstanceId) -> bool
     ensures { result ≡ Spec.is_listed list.now instance }
 {
-    list.iter().any(|i| *i == instance)
+    list.contains(&instance)
 }
 
 /// An instance of a preference list.

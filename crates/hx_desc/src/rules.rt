@@ -71,15 +71,10 @@ fn transition(
 ) -> Result<Option<(StateId, StateId)>, DescRefusal>
     ensures { Reads result (Spec.transition_of from to) }
 {
-    let Some(from) = from else {
-        if to.is_some() {
-            return Err(fault(alloc, DescKind::HalfTransition));
-        }
-        return Ok(None);
-    };
-    match to {
-        Some(to) => Ok(Some((from, to))),
-        None => Err(fault(alloc, DescKind::HalfTransition)),
+    match (from, to) {
+        (Some(from), Some(to)) => Ok(Some((from, to))),
+        (None, None) => Ok(None),
+        (None, Some(_)) | (Some(_), None) => Err(fault(alloc, DescKind::HalfTransition)),
     }
 }
 

@@ -175,7 +175,7 @@ fn print_pairs(
 fn is_holder(holders: &[SessionId], shown: (SessionId, InstanceId)) -> bool
     ensures { result ≡ Texts.is_holder holders.now shown }
 {
-    holders.iter().any(|s| *s == shown.0)
+    holders.contains(&shown.0)
 }
 
 /// Prints the instances of those of the shown sessions that are among the holders.

@@ -1,1 +1,4 @@
+pub mod Worked
+pub mod EachFault
+pub mod Inputs
 pub mod Session

@@ -6,6 +6,7 @@ use hx_text::{Lines, split_lines};
 use std::alloc::Global;
 use std::test::Fail;
 
+mod descriptions;
 mod histories;
 mod lines;
 mod logs;

@@ -1,3 +1,0 @@
-pub mod Worked
-pub mod EachFault
-pub mod Inputs
