@@ -31,8 +31,9 @@ impl Records {
     pub fn roster(&self, alloc: Global) -> Result<Vec<(SessionId, InstanceId)>, AllocError>
         ensures { IfOk result (λ shown. shown.items ≡ shown_of self.now.live) }
     {
-        let mut shown = Vec::with_capacity(alloc, self.seats.len())?;
         let mut next = self.sessions.first();
+        let room = if next.is_some() { self.seats.len() } else { 0 };
+        let mut shown = Vec::with_capacity(alloc, room)?;
         while let Some(live) = next {
             shown.push((live.session, live.instance))?;
             next = self.sessions.after(live.session);
