@@ -24,7 +24,7 @@ use Rattle.hx_worlds.specs.Jobs.{is_job}
 use Rattle.hx_worlds.specs.Agree
 use Rattle.hx_safe.proofs.Counting.{and-first, and-second, and-both, find-passes, find-any, find-single, none-find}
 use Rattle.hx_safe.proofs.Ends.{same-self, session_same}
-use Rattle.hx_runs.proofs.Waiting.{any-le}
+use Rattle.hx_safe.proofs.Waiting.{any-le}
 use Rattle.hx_agreed.specs.InStep.{Each, of_instance, IsPending, is_lent_as, HasWork, HasSlot, IsAlong, IsUntouched, IsStale, IsHeldJob, IsOldIn, IsInBag, AreInStep}
 use Rattle.hx_agreed.proofs.Lists.{each-le, each-all, or-first, or-second, all_stationed, all_stationed_pass, any_stationed, in_range}
 use Rattle.hx_safe.proofs.Counting.{all_found}

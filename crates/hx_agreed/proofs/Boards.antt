@@ -34,8 +34,8 @@ use Rattle.hx_safe.proofs.Leaving.{kept_without}
 use Rattle.hx_safe.proofs.Sending.{room_from, sent_next, along_dispatch}
 use Rattle.hx_safe.proofs.Beside.{IsBeside, beside_step, beside_pass}
 use Rattle.hx_safe.proofs.Whole.{IsWhole, whole_next}
-use Rattle.hx_runs.specs.Onward.{IsOn}
-use Rattle.hx_runs.proofs.On.{on_self, on_next}
+use Rattle.hx_safe.specs.Onward.{IsOn}
+use Rattle.hx_safe.proofs.On.{on_self, on_next}
 use Rattle.hx_agreed.specs.InStep.{of_instance, IsPending, IsUntouched, HasSlot, IsStale, IsHeldJob, IsOldIn, IsInBag, IsSent, AreInStep}
 use Rattle.hx_agreed.proofs.Lists.{each-le}
 use Rattle.hx_agreed.proofs.Placed.{placed_live}

@@ -25,7 +25,7 @@ use Rattle.hx_worlds.specs.Agree.{is_below, is_known_at, StandsAsRow}
 use Rattle.hx_safe.proofs.Counting.{and-first, and-second}
 use Rattle.hx_safe.proofs.Ends.{session_same, part_same}
 use Rattle.hx_safe.proofs.Kept.{IsKept}
-use Rattle.hx_runs.proofs.Calming.{same_self}
+use Rattle.hx_safe.proofs.Calming.{same_self}
 use Rattle.hx_agreed.specs.InStep.{Each, of_instance, IsPending, is_lent_as, HasWork, HasSlot, IsAlong, IsUntouched, IsPlaced, IsHeldJob, IsOldIn, IsInBag, IsSent, AreInStep}
 use Rattle.hx_agreed.proofs.Lists.{each-le}
 use Rattle.hx_agreed.proofs.Slots.{part_sym}

@@ -44,8 +44,8 @@ use Rattle.hx_safe.proofs.Counting.{all-find, find-any}
 use Rattle.hx_safe.proofs.Ends.{same-self}
 use Rattle.hx_safe.proofs.Ideals.{length-put}
 use Rattle.hx_safe.proofs.Kept.{IsKept}
-use Rattle.hx_runs.proofs.Calming.{same_self}
-use Rattle.hx_runs.proofs.On.{other-live}
+use Rattle.hx_safe.proofs.Calming.{same_self}
+use Rattle.hx_safe.proofs.On.{other-live}
 use Rattle.hx_scripted.specs.OfHistory.{is_fetched, IsOfItsHistory}
 use Rattle.hx_scripted.proofs.Standing.{Last, at_line, since, fixed_there, scripted_since}
 use Rattle.hx_scripted.proofs.Keeping.{Keeps, keeps_more, keeps_after, happens, happens_then, done_then}

@@ -24,9 +24,9 @@ use Rattle.hx_safe.proofs.Counting.{and-first, and-second, and-both, any-filter_
 use Rattle.hx_safe.proofs.Ends.{same-self, part_eq-self}
 use Rattle.hx_safe.proofs.Ideals.{length-put}
 use Rattle.hx_safe.proofs.Kept.{IsKept, number-below}
-use Rattle.hx_covers.proofs.Sorting.{all-sort}
-use Rattle.hx_runs.proofs.Calming.{same_self}
-use Rattle.hx_runs.proofs.Waiting.{any-le}
+use Rattle.hx_lawful.proofs.Sorting.{all-sort}
+use Rattle.hx_safe.proofs.Calming.{same_self}
+use Rattle.hx_safe.proofs.Waiting.{any-le}
 use Rattle.hx_agreed.specs.InStep.{Each, of_instance, IsPending, is_lent_as, HasSlot, IsUntouched, IsStale, IsPlaced, IsHeldJob, IsOldIn, IsInBag, has_number, AreInStep, IsInStep}
 use Rattle.hx_agreed.proofs.Lists.{each-le, each-filter}
 use Rattle.hx_agreed.proofs.Slots.{distinct-put, distinct-emptied, slot-emptied, mine_is}

@@ -22,7 +22,7 @@ use Rattle.hx_cluster.specs.Ranged.{is_ranged_resource, IsRanged}
 use Rattle.hx_cluster.specs.Valid.{has_no_fault, has_good_ideal}
 use Rattle.hx_replicas.specs.Participants.{IsSound, IsLike}
 use Rattle.hx_safe.proofs.Counting.{and-first, and-second}
-use Rattle.hx_runs.proofs.Waiting.{any-le}
+use Rattle.hx_safe.proofs.Waiting.{any-le}
 use Rattle.hx_model.proofs.Places.{no_place, none_passes}
 
 -- the first of two faults

@@ -10,7 +10,7 @@ use Rattle.hx_worlds.specs.World.{Job}
 use Rattle.hx_worlds.specs.Agree.{same_mark, is_exactly, is_lent_to}
 use Rattle.hx_safe.proofs.Counting.{and-first, and-second, and-both}
 use Rattle.hx_safe.proofs.Ends.{session_same, part_same}
-use Rattle.hx_runs.proofs.Calming.{same_self}
+use Rattle.hx_safe.proofs.Calming.{same_self}
 
 -- marks
 mark_self : (b : Bool) → same_mark b b ≡ true

@@ -31,7 +31,7 @@ use Rattle.hx_worlds.specs.Agree.{is_known_at, is_exactly, is_lent_to, is_at_end
 use Rattle.hx_safe.proofs.Counting.{and-first, and-second, and-both, any-append, count-append, count-none, find-passes, find-any, find-single, none-find}
 use Rattle.hx_safe.proofs.Ends.{same-self, session_same, part_eq-self}
 use Rattle.hx_safe.proofs.Kept.{IsKept}
-use Rattle.hx_runs.proofs.Calming.{same_self}
+use Rattle.hx_safe.proofs.Calming.{same_self}
 use Rattle.hx_agreed.specs.InStep.{Each, of_instance, IsUntaken, is_lent_as, IsAcceptedHere, HasWork, HasSlot, IsPlaced, IsTakenBy, IsHeldJob, AreInStep}
 use Rattle.hx_agreed.proofs.Lists.{each-le, each-append, or-first, or-second}
 use Rattle.hx_agreed.proofs.Lent.{exactly_self}

@@ -38,8 +38,8 @@ use Rattle.hx_safe.proofs.Counting.{and-first, and-second, and-both, any-filter_
 use Rattle.hx_safe.proofs.Ends.{same-self}
 use Rattle.hx_safe.proofs.Ideals.{length-put}
 use Rattle.hx_safe.proofs.Whole.{length-replicate}
-use Rattle.hx_runs.proofs.Calming.{same_self}
-use Rattle.hx_runs.proofs.Waiting.{any-le}
+use Rattle.hx_safe.proofs.Calming.{same_self}
+use Rattle.hx_safe.proofs.Waiting.{any-le}
 use Rattle.hx_scripted.specs.OfHistory.{IsOfItsHistory}
 use Rattle.hx_scripted.proofs.Standing.{Last, at_line, since, ranged_there, fixed_there, scripted_since}
 use Rattle.hx_scripted.proofs.Keeping.{Keeps, happens}

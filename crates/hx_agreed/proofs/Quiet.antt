@@ -21,9 +21,9 @@ use Rattle.hx_worlds.specs.World.{Job}
 use Rattle.hx_safe.proofs.Ends.{find-filter_kept, find-filter}
 use Rattle.hx_safe.proofs.Kept.{IsKept}
 use Rattle.hx_safe.proofs.Leaving.{state-without}
-use Rattle.hx_runs.specs.Onward.{is_same_kind, IsOn}
-use Rattle.hx_runs.proofs.Fronts.{front-get}
-use Rattle.hx_runs.proofs.On.{other-live}
+use Rattle.hx_safe.specs.Onward.{is_same_kind, IsOn}
+use Rattle.hx_safe.proofs.Fronts.{front-get}
+use Rattle.hx_safe.proofs.On.{other-live}
 use Rattle.hx_agreed.specs.InStep.{of_instance, IsPending, IsUntouched, IsHeldJob, IsOldIn, IsInBag, IsSent, AreInStep}
 use Rattle.hx_agreed.proofs.Lists.{each-le}
 use Rattle.hx_safe.proofs.Sessions.{session_live}

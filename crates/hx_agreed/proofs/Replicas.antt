@@ -25,7 +25,7 @@ use Rattle.hx_worlds.specs.Agree.{is_known_at, is_accepted_as, is_out_as, is_len
 use Rattle.hx_safe.proofs.Counting.{and-both}
 use Rattle.hx_safe.proofs.Ends.{same-self, part_same}
 use Rattle.hx_safe.proofs.Kept.{IsKept}
-use Rattle.hx_runs.proofs.Waiting.{any-one, any-single}
+use Rattle.hx_safe.proofs.Waiting.{any-one, any-single}
 use Rattle.hx_agreed.specs.InStep.{of_instance, IsUntaken, IsPending, HasSlot, IsHeldJob, IsOldIn, IsInBag, has_number, AreInStep}
 use Rattle.hx_agreed.proofs.Lists.{each-le, or-first, in_range, put_here, put_other}
 use Rattle.hx_agreed.proofs.Slots.{slot_in-other, distinct-put, is_mine, mine_is}

@@ -26,9 +26,9 @@ use Rattle.hx_safe.proofs.Ends.{same-self}
 use Rattle.hx_safe.proofs.Kept.{IsKept}
 use Rattle.hx_safe.proofs.Sending.{room_from, sent_next, along_dispatch}
 use Rattle.hx_safe.proofs.Whole.{whole_opening, sound_from, along, at_end}
-use Rattle.hx_runs.specs.Calm.{is_dispatch}
-use Rattle.hx_runs.proofs.Mail.{next_msg_next, all_quiet}
-use Rattle.hx_runs.proofs.On.{on_next}
+use Rattle.hx_safe.specs.Calm.{is_dispatch}
+use Rattle.hx_safe.proofs.Mail.{next_msg_next, all_quiet}
+use Rattle.hx_safe.proofs.On.{on_next}
 use Rattle.hx_agreed.specs.InStep.{IsSent}
 use Rattle.hx_agreed.proofs.Frames.{initial_like}
 use Rattle.hx_agreed.proofs.Quiet.{on_parts}

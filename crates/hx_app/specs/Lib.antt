@@ -1,2 +1,15 @@
 pub mod Runs
 pub mod Writes
+pub mod Constants
+pub mod KindNames
+pub mod Replies
+pub mod Verdicts
+pub mod Sound
+pub mod Values
+pub mod Asked
+pub mod Described
+pub mod Input
+pub mod History
+pub mod Simulation
+pub mod Answers
+pub mod Refusals

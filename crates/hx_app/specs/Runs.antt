@@ -13,12 +13,12 @@ use Rattle.hx_words.specs.declared.Words.TheVariants as asks
 use Rattle.hx_words.specs.declared.WordsFault.{WordsFault}
 use Rattle.hx_words.specs.declared.WordsFault.TheVariants as faults
 use Rattle.hx_words.specs.Tasks.{HoldsOfAsked}
-use Rattle.hx_answers.specs.Constants.{most_bytes, no_memory}
-use Rattle.hx_answers.specs.Answers.{Answer, usage, version, words_refused, read_fault, too_long}
-use Rattle.hx_replies.specs.History.{IsSoundRun}
-use Rattle.hx_replies.specs.Answers.{answer_to, generated_answer}
-use Rattle.hx_verdicts.specs.Sound.{IsSoundLog}
-use Rattle.hx_verdicts.specs.Verdicts.{judged_answer}
+use Rattle.hx_app.specs.Constants.{most_bytes, no_memory}
+use Rattle.hx_app.specs.Replies.{Answer, usage, version, words_refused, read_fault, too_long}
+use Rattle.hx_app.specs.History.{IsSoundRun}
+use Rattle.hx_app.specs.Answers.{answer_to, generated_answer}
+use Rattle.hx_app.specs.Sound.{IsSoundLog}
+use Rattle.hx_app.specs.Verdicts.{judged_answer}
 use Rattle.hx_app.specs.declared.program.Behind.{Behind}
 use Rattle.hx_app.specs.declared.program.Behind.TheVariants as behinds
 use Rattle.hx_app.specs.Writes.{SinkAt, Writes}

@@ -2,8 +2,8 @@
 use Rattle.std.specs.Prelude.{◌≡◌, ◌⊎◌, ℕ, ◌<◌, ◌≤◌, List, length, take, Option}
 use Rattle.std.specs.Io.KnownBytes.{Appends}
 use Rattle.hx_lists.specs.Counts.{Rose}
-use Rattle.hx_answers.specs.Constants.{write_fault}
-use Rattle.hx_answers.specs.Answers.{Answer}
+use Rattle.hx_app.specs.Constants.{write_fault}
+use Rattle.hx_app.specs.Replies.{Answer}
 
 -- a sink at one moment: the bytes that it took, where it tells them, and how many calls have failed
 pub record SinkAt : Type 0 where

@@ -3,16 +3,17 @@ ghost use Rattle.std.specs.Prelude.{◌<◌, ◌≤◌, length, map, Err, IfOk, 
 ghost use Rattle.std.specs.String.{string_bytes};
 ghost use Rattle.std.specs.IoError.{error_kind};
 ghost use Rattle.hx_words.specs.Tasks.{HasRanges, HoldsOfAsked};
-ghost use Rattle.hx_answers.specs.Answers.{AnswersAs, words_refused};
-ghost use Rattle.hx_answers.specs.Constants.{most_bytes};
-ghost use Rattle.hx_replies.specs.Answers.{generated_answer};
+ghost use Rattle.hx_app.specs.Replies.{AnswersAs, words_refused};
+ghost use Rattle.hx_app.specs.Constants.{most_bytes};
+ghost use Rattle.hx_app.specs.Answers.{generated_answer};
 ghost use Rattle.hx_app.specs.Writes.{Writes};
 ghost use Rattle.hx_app.specs.Runs.{EndsTold, Runs, RunsInput, RunsWords, HoldsOfTold, answer_in, untold_by};
 
-use hx_answers::{MOST_BYTES, Reply, Status};
+use crate::answers::{answer, generated};
+use crate::replies::Reply;
+use crate::statuses::{MOST_BYTES, Status};
+use crate::verdicts::judged;
 use hx_io::{ReadFault, Sink, Source, read_all, write_all};
-use hx_replies::{answer, generated};
-use hx_verdicts::judged;
 use hx_words::{RunMode, Task, Words, WordsFault, read_words, usage, version};
 use std::alloc::{AllocError, Global};
 use std::io;

@@ -13,7 +13,7 @@ use Rattle.hx_cluster.specs.declared.planning.View.{View}
 use Rattle.hx_cluster.specs.declared.planning.Target.{Target}
 use Rattle.hx_cluster.specs.Ends.{state_of, session_in, model_of}
 use Rattle.hx_cluster.specs.Steps.{is_drained}
-use Rattle.hx_marks.specs.Marks.{is_marked}
+use Rattle.hx_parts.specs.Marks.{is_marked}
 use Rattle.hx_best.specs.Goals.{is_in_error, is_asked, is_eligible, best_below}
 use Rattle.hx_best.specs.Places.{Placing, model_in, rows_at}
 

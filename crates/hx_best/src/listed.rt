@@ -67,6 +67,7 @@ fn put(found: &mut Vec<Target>, first: usize, target: Target) -> Result<bool, Al
         return Ok(false);
     }
     if place == found.len() {
+        // A push written out, so that it is inlined: nearly every target goes last.
         if place == found.capacity() {
             found.reserve(1)?;
         }

@@ -4,7 +4,7 @@ ghost use Rattle.std.specs.Prelude.{option_copied, IfOk, OnOk};
 ghost use Rattle.hx_cluster.specs.declared.planning.Target.{Target};
 ghost use Rattle.hx_cluster.specs.Ends.{resource_at};
 ghost use Rattle.hx_best.specs.Targets.{targets_at, targets_in, all_targets};
-ghost use Rattle.hx_marks.specs.Marks.{is_marked};
+ghost use Rattle.hx_parts.specs.Marks.{is_marked};
 ghost use Rattle.hx_best.specs.Still.{HasMoving, is_among, those_among};
 
 use crate::aims::Room;
@@ -13,8 +13,8 @@ use crate::marks::{Shown, number};
 use crate::places::Places;
 use hx_cluster::Target;
 use hx_ids::{PartId, ResourceId};
-use hx_marks::Marks;
 use hx_model::Model;
+use hx_parts::Marks;
 use std::alloc::{AllocError, Global};
 
 /// For so many targets room is made at once. Of many parts few may move.

@@ -5,7 +5,7 @@ use Rattle.std.specs.List.{list_any, IsDistinct, AllByRecursion}
 use Rattle.std.specs.Str.{bytes_eq}
 use Rattle.std.proofs.lemmas.Bool.Decides.{nat_tests}
 use Rattle.hx_ids.specs.Names.{interned}
-use Rattle.hx_same.proofs.Front.{take-get}
+use Rattle.hx_calls.proofs.Front.{take-get}
 
 names-same : (xs ys : List ℕ) → bytes_eq xs ys ≡ bytes_eq ys xs
 names-same [] [] = refl

@@ -34,7 +34,7 @@ use Rattle.hx_cluster.specs.Room.{half, HasRoom}
 use Rattle.hx_safe.specs.Weighed.{IsWeighed}
 use Rattle.hx_cluster.specs.Ranged.{IsRanged}
 use Rattle.hx_cluster.specs.Valid.{is_within}
-use Rattle.hx_same.proofs.Front.{take-get}
+use Rattle.hx_calls.proofs.Front.{take-get}
 use Rattle.hx_safe.specs.Ordered.{rises}
 use Rattle.hx_safe.proofs.Counting.{all-le}
 use Rattle.hx_safe.proofs.Whole.{reached_ranged}
@@ -45,7 +45,7 @@ use Rattle.hx_board.specs.Board.{Held, held, weight_at, lines_in, opens, IsBoard
 use Rattle.hx_board.specs.Refusals.{read_refusal}
 use Rattle.hx_board.proofs.Free.{read_free}
 use Rattle.hx_safe.proofs.Weighing.{length-filter, length-removed}
-use Rattle.hx_same.proofs.Alike.{tail-same}
+use Rattle.hx_calls.proofs.Alike.{tail-same}
 
 -- histories with one event more
 pub replay-more : (c : Cluster) (h : List Event) (e : Event) → replay c (h ++ e ∷ []) ≡ next (replay c h) e

@@ -19,8 +19,8 @@ use Rattle.hx_cluster.specs.Safe.{SafeAlong}
 use Rattle.hx_cluster.specs.Runs.{IsOneRunEach}
 use Rattle.hx_safe.proofs.Fixed.{IsFixed, fixed_self, fixed_both, fixed_next}
 use Rattle.hx_safe.proofs.Whole.{valid_safe, length-replicate}
-use Rattle.hx_runs.proofs.OneRun.{one_run_each}
-use Rattle.hx_same.proofs.Front.{take-get}
+use Rattle.hx_safe.proofs.OneRun.{one_run_each}
+use Rattle.hx_calls.proofs.Front.{take-get}
 use Rattle.hx_board.specs.Board.{Held, new_board, weight_at, happened, lines_in, next_line_of, IsInOrder, HasHistory}
 use Rattle.hx_board.proofs.Growing.{replay-more, legal-more, weight-more, lines-more, append-none, push-length, owed_raised, owed_step, owed_end, owed_dispatch, owed_take, owed_write, owed_ack}
 

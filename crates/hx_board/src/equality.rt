@@ -2,8 +2,8 @@
 ghost use Rattle.std.specs.Prelude.{◌≡◌, ◌↔◌, IsTrue};
 
 use crate::board::Board;
+use hx_calls::{Same, all_same};
 use hx_cluster::Spec;
-use hx_same::{Same, all_same};
 
 impl Board {
     /// Whether this is the board's description. It takes no memory.

@@ -33,9 +33,9 @@ use Rattle.hx_pass.specs.Turns.{Call, Live, Mail, States, Ideals, Send, Post, Tu
 use Rattle.hx_pass.specs.Plans.{plan}
 use Rattle.hx_pass.specs.Left.{left_of}
 use Rattle.hx_pass.specs.Explained.{view_at}
-use Rattle.hx_covers.specs.Reading.{is_read}
-use Rattle.hx_covers.proofs.Leads.{pass_own}
-use Rattle.hx_covers.proofs.Whole.{read_law}
+use Rattle.hx_lawful.specs.Reading.{is_read}
+use Rattle.hx_lawful.proofs.Leads.{pass_own}
+use Rattle.hx_lawful.proofs.Whole.{read_law}
 use Rattle.hx_control.specs.declared.PassOutcome.{PassOutcome}
 use Rattle.hx_control.specs.declared.PassOutcome.TheVariants as ends
 use Rattle.hx_control.specs.declared.ControlFault.TheVariants as faults

@@ -33,7 +33,7 @@ use Rattle.hx_worlds.specs.Settles.{enough_rounds, work_all}
 use Rattle.hx_safe.proofs.Counting.{and-first, and-second, all-map, all-le, find-single, find-passes, find-any}
 use Rattle.hx_safe.proofs.Ends.{same-self, part_eq-self, session_same}
 use Rattle.hx_safe.proofs.Kept.{IsKept}
-use Rattle.hx_covers.proofs.Sorting.{all-sort, each_there}
+use Rattle.hx_lawful.proofs.Sorting.{all-sort, each_there}
 use Rattle.hx_scripted.proofs.Standing.{Last}
 use Rattle.hx_agreed.specs.InStep.{Each}
 use Rattle.hx_agreed.proofs.Lists.{each-le}

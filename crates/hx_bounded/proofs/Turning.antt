@@ -17,8 +17,8 @@ use Rattle.hx_cluster.specs.Valid.{IsValid}
 use Rattle.hx_pass.specs.Turns.{Call, Live, Mail, States, Ideals, Send, Post, Turn, idle_turn, begun_turn, is_first, is_due, is_of_epoch, calls_after_live, with_live, gone_on, if_due, turn_of, turn_after, posted_of}
 use Rattle.hx_pass.specs.Plans.{plan}
 use Rattle.hx_pass.specs.Explained.{IsExplained}
-use Rattle.hx_covers.specs.Reading.{is_in_order}
-use Rattle.hx_covers.proofs.Whole.{turn_law}
+use Rattle.hx_lawful.specs.Reading.{is_in_order}
+use Rattle.hx_lawful.proofs.Whole.{turn_law}
 use Rattle.hx_control.specs.declared.PassOutcome.{PassOutcome}
 use Rattle.hx_control.specs.declared.PassOutcome.TheVariants as ends
 use Rattle.hx_control.specs.declared.ControlFault.{ControlFault}

@@ -3,11 +3,11 @@ ghost use Rattle.std.specs.Prelude.{◌≡◌, ◌+◌, ◌<◌, ◌≤◌, [], 
 ghost use Rattle.std.specs.Prelude.{◌↔◌, IfOk, IsTrue, OnOk};
 ghost use Rattle.hx_cluster.specs.Reads.{ideals_shown};
 
+use crate::same::{Same, all_same};
 use crate::shown::no_ideals;
 use hx_cluster::{Cluster, Ideals, Resource};
 use hx_ids::{PartId, SessionId};
 use hx_lists::Seq;
-use hx_same::{Same, all_same};
 use std::alloc::AllocError;
 use std::mem;
 

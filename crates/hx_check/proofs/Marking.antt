@@ -24,7 +24,7 @@ use Rattle.hx_cluster.specs.Safe.{is_pending, IsSafe, SafeAlong}
 use Rattle.hx_pass.specs.Lawful.{shown_by, fetched_from}
 use Rattle.hx_safe.proofs.Counting.{any-append, any-filter_kept, all-append, all-le, and-both}
 use Rattle.hx_safe.proofs.Whole.{valid_safe}
-use Rattle.hx_runs.proofs.Mail.{IsSteady, all_next, next_msg_next}
+use Rattle.hx_safe.proofs.Mail.{IsSteady, all_next, next_msg_next}
 use Rattle.hx_check.specs.Standing.{Standing, with_mark, marks_after, stood_after, stood_from, standing_of, opening_standing, MarksTell}
 use Rattle.hx_safe.proofs.Ends.{session_same}
 use Rattle.hx_check.proofs.Same.{by_number}

@@ -4,8 +4,7 @@ ghost use Rattle.hx_cluster.specs.declared.planning.Target.{Target as Listed};
 ghost use Rattle.hx_cluster.specs.Bests.{at_best};
 
 use crate::planning::{Entry, Finding, Target};
-use hx_lists::Seq;
-use hx_unread::Unread;
+use hx_lists::{Seq, Unread};
 use std::alloc::{AllocError, Global};
 use std::marker::Model;
 

@@ -8,7 +8,7 @@ use hx_ids::{
 use hx_lists::Seq;
 
 /// A step that an operator, a session or a controller asks for.
-#[derive(Clone, Debug)]
+#[derive(Clone)]
 pub enum Admin {
     Join {
         instance: InstanceId,

@@ -29,8 +29,8 @@ use Rattle.hx_pass.specs.Turns.{seen_of, seen_before, posted_of}
 use Rattle.hx_control.specs.Steps.{has_parts_of, is_of_cluster}
 use Rattle.hx_safe.proofs.Counting.{and-first, and-second, and-both, and-six, all-le, all-map, all-find}
 use Rattle.hx_safe.proofs.Models.{good_model}
-use Rattle.hx_covers.proofs.Sorting.{all-sort}
-use Rattle.hx_covers.specs.Gate.{IsFit}
+use Rattle.hx_lawful.proofs.Sorting.{all-sort}
+use Rattle.hx_lawful.specs.Gate.{IsFit}
 use Rattle.hx_lawful.proofs.Fitting.{fits, fits_all, fit_from}
 
 -- what a cluster has of its description

@@ -13,8 +13,7 @@ use hx_calls::{forget_shown, no_ideals, nothing_shown};
 use hx_cluster::{Begun, Ideals, View};
 use hx_formed::Formed;
 use hx_ids::{ControllerId, Epoch, PassNo};
-use hx_pass::Draft;
-use hx_planner::Planner;
+use hx_pass::{Draft, Planner};
 use std::alloc::Global;
 use std::marker::Model;
 

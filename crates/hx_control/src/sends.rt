@@ -24,8 +24,7 @@ use hx_board::Board;
 use hx_cluster::{Dispatched, Entries, Placed, Plan, Proposal, Report, Spec, View};
 use hx_hops::Hops;
 use hx_lists::Seq;
-use hx_pass::Draft;
-use hx_planner::Planner;
+use hx_pass::{Draft, Planner};
 use std::alloc::AllocError;
 
 fn is_sent(placed: &Placed) -> bool

@@ -18,10 +18,10 @@ use Rattle.hx_model.proofs.Named.{bytes_same, place_after-interned, interned-has
 use Rattle.hx_forms.specs.declared.faults.DescKind.TheVariants as kinds
 use Rattle.hx_forms.specs.Found.{Found, fault, text_in, new_name_in, array_up_to, object_in, required, optional}
 use Rattle.hx_forms.proofs.Chains.{then_ok, ok_same, passed, required_ok, optional_ok, array_few, keeps, grows, counts}
-use Rattle.hx_model_forms.specs.declared.tables.StateTable.{StateTable}
-use Rattle.hx_model_forms.specs.declared.tables.ModelTable.{ModelTable}
-use Rattle.hx_model_forms.specs.ModelForm.{built_in, unless, is_error, is_dropped, state_of, state_name_in, bound_in, with_state, state_in, states_in, steps_in, checked, with_model, model_in, models_in}
-use Rattle.hx_model_forms.proofs.Sizes.{few_states}
+use Rattle.hx_forms.specs.declared.tables.StateTable.{StateTable}
+use Rattle.hx_forms.specs.declared.tables.ModelTable.{ModelTable}
+use Rattle.hx_forms.specs.ModelForm.{built_in, unless, is_error, is_dropped, state_of, state_name_in, bound_in, with_state, state_in, states_in, steps_in, checked, with_model, model_in, models_in}
+use Rattle.hx_forms.proofs.Sizes.{few_states}
 use Rattle.hx_cluster.specs.Valid.{is_valid_model, is_named_state}
 use Rattle.hx_desc.proofs.Each.{each-append, each_so, each_test, each_passes, distinct_passes, both_true}
 use Rattle.hx_desc.proofs.Names.{AreNames, IsNew, yes, new_name, names-append, names-interned}

@@ -15,7 +15,7 @@ use Rattle.hx_cluster.specs.Ends.{model_at}
 use Rattle.hx_forms.specs.declared.faults.DescKind.TheVariants as kinds
 use Rattle.hx_forms.specs.Found.{place_in, number_in, new_name_in, array_up_to, object_in, required, optional}
 use Rattle.hx_forms.proofs.Chains.{then_ok, ok_same, required_ok, optional_ok, number_range, place_range, array_few, keeps, counts}
-use Rattle.hx_model_forms.specs.declared.tables.ModelTable.{ModelTable}
+use Rattle.hx_forms.specs.declared.tables.ModelTable.{ModelTable}
 use Rattle.hx_desc.specs.declared.tables.ResourceTable.{ResourceTable}
 use Rattle.hx_desc.specs.ResourceForm.{kind_in, lists_in, maps_in, mode_of, ideal_in, with_resource, model_id_in, resource_keys, resource_in, resources_in}
 use Rattle.hx_cluster.specs.Valid.{has_good_ideal, same_name}

@@ -11,7 +11,7 @@ use Rattle.hx_forms.specs.declared.faults.DescRefusal.{DescRefusal}
 use Rattle.hx_forms.specs.Reading.{Reads}
 use Rattle.hx_forms.specs.Found.{within, number_in, object_in, required, optional}
 use Rattle.hx_forms.proofs.Chains.{then_ok, ok_same, within_ok, optional_ok, number_range}
-use Rattle.hx_model_forms.specs.ModelForm.{built_in, models_in}
+use Rattle.hx_forms.specs.ModelForm.{built_in, models_in}
 use Rattle.hx_desc.specs.Demo.{demo}
 use Rattle.hx_desc.specs.RuleForm.{rules_in}
 use Rattle.hx_desc.specs.ResourceForm.{resources_in}

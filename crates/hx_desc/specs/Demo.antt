@@ -4,7 +4,7 @@ use Rattle.hx_ids.specs.declared.InstanceId.{InstanceId}
 use Rattle.hx_ids.specs.Words.{instance, model}
 use Rattle.hx_ideal.specs.declared.Mode.TheVariants.{Semi}
 use Rattle.hx_cluster.specs.declared.description.Spec.{Spec}
-use Rattle.hx_model_forms.specs.ModelForm.{built_in}
+use Rattle.hx_forms.specs.ModelForm.{built_in}
 
 abbrev pub instances_of : List ℕ → List InstanceId
 instances_of numbers = map instance numbers

@@ -11,7 +11,7 @@ use Rattle.hx_cluster.specs.declared.description.Spec.{Spec}
 use Rattle.hx_forms.specs.declared.faults.DescKind.TheVariants as kinds
 use Rattle.hx_desc.specs.Demo.{demo}
 use Rattle.hx_forms.specs.Found.{Found, fault, ◌>>=◌, within, tested, number_in, new_name_in, array_up_to, read_all, object_in, required, optional}
-use Rattle.hx_model_forms.specs.ModelForm.{built_in, models_in}
+use Rattle.hx_forms.specs.ModelForm.{built_in, models_in}
 use Rattle.hx_desc.specs.RuleForm.{rules_in}
 use Rattle.hx_desc.specs.ResourceForm.{resources_in}
 use Rattle.hx_desc.specs.FailureForm.{failures_in}

@@ -16,7 +16,7 @@ use Rattle.hx_ideal.specs.IdealState.{IdealState}
 use Rattle.hx_ideal.specs.ModeKinds.{kind_named}
 use Rattle.hx_cluster.specs.Ends.{model_at}
 use Rattle.hx_forms.specs.declared.faults.DescKind.TheVariants as kinds
-use Rattle.hx_model_forms.specs.declared.tables.ModelTable.{ModelTable}
+use Rattle.hx_forms.specs.declared.tables.ModelTable.{ModelTable}
 use Rattle.hx_desc.specs.declared.tables.ResourceTable.{ResourceTable}
 use Rattle.hx_forms.specs.Found.{Found, fault, ◌>>=◌, tested, there_or, text_in, number_in, new_name_in, place_in, array_in, array_up_to, read_all, object_in, required, optional}
 

@@ -9,7 +9,7 @@ use Rattle.hx_cluster.specs.declared.description.Failure.{Failure}
 use Rattle.hx_cluster.specs.declared.description.Rule.{Rule}
 use Rattle.hx_cluster.specs.Ends.{model_at}
 use Rattle.hx_forms.specs.Found.{Found, ◌>>=◌, required, optional}
-use Rattle.hx_model_forms.specs.declared.tables.ModelTable.{ModelTable}
+use Rattle.hx_forms.specs.declared.tables.ModelTable.{ModelTable}
 use Rattle.hx_desc.specs.declared.tables.ResourceTable.{ResourceTable}
 use Rattle.hx_desc.specs.RuleForm.{end_in, transition_of, rules_in}
 use Rattle.hx_desc.specs.ResourceForm.{model_id_in, ideal_in, resources_in}

@@ -4,10 +4,10 @@ ghost use Rattle.hx_ideal.specs.declared.Mode.TheVariants.{Semi};
 ghost use Rattle.hx_desc.specs.Demo.{demo, instances_of};
 
 use hx_cluster::{Resource, Spec};
+use hx_forms::built_in;
 use hx_ideal::{Ideal, Mode};
 use hx_ids::{InstanceId, ModelId, Names};
 use hx_lists::Seq;
-use hx_model_forms::built_in;
 use std::alloc::{AllocError, Global};
 
 /// A list of three instances.

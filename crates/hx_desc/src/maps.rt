@@ -6,11 +6,10 @@ ghost use Rattle.hx_desc.specs.ResourceForm as Spec;
 
 use crate::each_part::in_order;
 use crate::lists::instance;
-use hx_forms::{DescKind, DescRefusal, Form, ItemForm, Object, array, fault, text};
+use hx_forms::{DescKind, DescRefusal, Form, ItemForm, Object, array, fault, place_after, text};
 use hx_ids::{InstanceId, Names, StateId};
 use hx_lists::Seq;
 use hx_model::Model;
-use hx_model_forms::place_after;
 use serde_json::Value;
 use std::alloc::Global;
 

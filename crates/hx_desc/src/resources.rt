@@ -9,7 +9,7 @@ ghost use Rattle.hx_cluster.specs.Ends;
 ghost use Rattle.hx_forms.specs.Found.{optional};
 ghost use Rattle.hx_forms.specs.Members.{members_of};
 ghost use Rattle.hx_forms.specs.Reading.{Reads, at_ok};
-ghost use Rattle.hx_model_forms.specs.Tables.{AreFew};
+ghost use Rattle.hx_forms.specs.Tables.{AreFew};
 ghost use Rattle.hx_desc.specs.declared.tables.ResourceTable.{ResourceTable};
 ghost use Rattle.hx_desc.specs.ResourceForm as Spec;
 ghost use Rattle.hx_desc.specs.Steps.{placement_in};
@@ -21,12 +21,12 @@ use crate::maps::MapForm;
 use crate::tables::ResourceTable;
 use hx_cluster::Resource;
 use hx_forms::{
-    DescKind, DescRefusal, Form, ItemForm, Name, NewName, Object, array_up_to, place, read_all,
+    DescKind, DescRefusal, Form, ItemForm, ModelTable, Name, NewName, Object, array_up_to, place,
+    read_all,
 };
 use hx_ideal::Ideal;
 use hx_ids::{InstanceId, ModelId, Names, ResourceId};
 use hx_lists::Seq;
-use hx_model_forms::ModelTable;
 use serde_json::Value;
 use std::alloc::{AllocError, Global};
 

@@ -29,15 +29,15 @@ use Rattle.hx_throttle.specs.Throttle.{key_for, counts_too, loading, holds_back,
 use Rattle.hx_pass.specs.Plans.{all_candidates, throttled_of, proposal}
 use Rattle.hx_safe.proofs.Counting.{and-first, and-second, and-both, count-length}
 use Rattle.hx_safe.proofs.Ends.{session_same, row_at-state, stands_at}
-use Rattle.hx_runs.specs.Onward.{is_front, has_same_replicas}
-use Rattle.hx_runs.proofs.Fronts.{front-get}
-use Rattle.hx_covers.specs.Gate.{Shows, IsWithin, IsFit, is_for}
-use Rattle.hx_covers.proofs.Counts.{chosen-split}
-use Rattle.hx_covers.proofs.Gating.{idle_there, same_state_there, same_model_there, first_tests}
+use Rattle.hx_safe.specs.Onward.{is_front, has_same_replicas}
+use Rattle.hx_safe.proofs.Fronts.{front-get}
+use Rattle.hx_lawful.specs.Gate.{Shows, IsWithin, IsFit, is_for}
+use Rattle.hx_lawful.proofs.Counts.{chosen-split}
+use Rattle.hx_lawful.proofs.Gating.{idle_there, same_state_there, same_model_there, first_tests}
 use Rattle.hx_lawful.specs.Fitting.{leads_elsewhere}
 use Rattle.hx_lawful.proofs.Choosing.{count-chosen}
 use Rattle.hx_lawful.proofs.Placing.{limit_alike, key_there}
-use Rattle.hx_covers.proofs.Fits.{resource_of_part}
+use Rattle.hx_lawful.proofs.Fits.{resource_of_part}
 
 -- a candidate of a plan had room beside those that were sent before it, under its bound and under each rule
 pub record HadRoom (models : List ModelParts) (rules : List Rule) (view : View) (before : List Candidate) (x : Candidate) : Type 0 where

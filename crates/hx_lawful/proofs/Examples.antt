@@ -22,7 +22,7 @@ use Rattle.hx_cluster.specs.Messages.{placed_all}
 use Rattle.hx_cluster.specs.Events.{replay}
 use Rattle.hx_cluster.specs.Views.{is_well_formed}
 use Rattle.hx_pass.specs.Plans.{plan}
-use Rattle.hx_covers.specs.Gate.{Shows}
+use Rattle.hx_lawful.specs.Gate.{Shows}
 use Rattle.hx_lawful.specs.Unrefused.{is_unrefused}
 use Rattle.hx_pass.proofs.Examples.{master, slave, offline, placed}
 

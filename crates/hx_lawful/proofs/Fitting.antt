@@ -28,10 +28,10 @@ use Rattle.hx_throttle.specs.Throttle.{is_sent}
 use Rattle.hx_pass.specs.Plans.{all_candidates, throttled_of}
 use Rattle.hx_safe.proofs.Counting.{and-first, and-second, and-three, and-six, all-le}
 use Rattle.hx_safe.proofs.Models.{state_same}
-use Rattle.hx_runs.specs.Calm.{is_same_state}
-use Rattle.hx_covers.specs.Gate.{IsFit, is_for, stands_in}
-use Rattle.hx_covers.proofs.Covering.{state_alike}
-use Rattle.hx_covers.proofs.Sorting.{count-sort, all-sort}
+use Rattle.hx_safe.specs.Calm.{is_same_state}
+use Rattle.hx_lawful.specs.Gate.{IsFit, is_for, stands_in}
+use Rattle.hx_lawful.proofs.Covering.{state_alike}
+use Rattle.hx_lawful.proofs.Sorting.{count-sort, all-sort}
 use Rattle.hx_lawful.specs.Fitting.{leads_elsewhere, AreFit}
 use Rattle.hx_lawful.proofs.Choosing.{all-made, count-made, all-chosen, count-chosen}
 use Rattle.hx_lawful.proofs.Targeted.{is_own, is_of_replica, own_targets, once_targets}

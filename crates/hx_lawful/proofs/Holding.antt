@@ -7,8 +7,8 @@ use Rattle.hx_cluster.specs.Events.{IsLegal}
 use Rattle.hx_cluster.specs.Valid.{IsValid}
 use Rattle.hx_pass.specs.Lawful.{IsLawful}
 use Rattle.hx_safe.proofs.Whole.{reached_safe}
-use Rattle.hx_runs.proofs.OneRun.{one_run_each}
-use Rattle.hx_covers.proofs.Covered.{covers_at, legal_front, proper_front}
+use Rattle.hx_safe.proofs.OneRun.{one_run_each}
+use Rattle.hx_lawful.proofs.Covered.{covers_at, legal_front, proper_front}
 use Rattle.hx_lawful.specs.Holding.{HoldsOfLegal, HoldsOfLawful}
 use Rattle.hx_lawful.proofs.Unrefused.{lawful_unrefused}
 

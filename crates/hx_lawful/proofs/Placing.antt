@@ -29,8 +29,8 @@ use Rattle.hx_safe.proofs.Ends.{part_same}
 use Rattle.hx_safe.proofs.Kept.{IsKept}
 use Rattle.hx_safe.proofs.Sending.{IsRoom, room_from, count_with, end_more, end_elsewhere, end_from}
 use Rattle.hx_safe.proofs.Throttles.{load_more}
-use Rattle.hx_covers.specs.Gate.{Shows, IsWithin, is_for}
-use Rattle.hx_covers.proofs.Loading.{key_alike}
+use Rattle.hx_lawful.specs.Gate.{Shows, IsWithin, is_for}
+use Rattle.hx_lawful.proofs.Loading.{key_alike}
 
 -- before anything is sent
 pub within_none : (view : View) (b : Cluster) → IsWithin view b b []

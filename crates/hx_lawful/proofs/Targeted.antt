@@ -21,10 +21,10 @@ use Rattle.hx_best.specs.Wants.{by_instance}
 use Rattle.hx_best.specs.Targets.{is_target, target, targets_at, targets_in, targets, all_targets}
 use Rattle.hx_safe.proofs.Counting.{and-first, and-both, and-three, count-filter, count-le, count-map, count-none, all-le, all-filter, all-map, none-from-all}
 use Rattle.hx_safe.proofs.Ends.{session_same, same-self}
-use Rattle.hx_runs.specs.Calm.{is_same_state}
-use Rattle.hx_runs.proofs.Waiting.{any-one}
-use Rattle.hx_covers.proofs.Sorting.{count-sort, all-sort, each_there}
-use Rattle.hx_covers.proofs.Viewing.{good_view}
+use Rattle.hx_safe.specs.Calm.{is_same_state}
+use Rattle.hx_safe.proofs.Waiting.{any-one}
+use Rattle.hx_lawful.proofs.Sorting.{count-sort, all-sort, each_there}
+use Rattle.hx_lawful.proofs.Viewing.{good_view}
 use Rattle.hx_lawful.proofs.Choosing.{all-pieces, pieces-once, numbers-below, numbers-once}
 
 -- a target is of a shown session and of a part that is there, in the state of its row

@@ -41,14 +41,14 @@ use Rattle.hx_safe.proofs.Kept.{IsKept, kept_raised}
 use Rattle.hx_safe.proofs.Fixed.{fixed_pass}
 use Rattle.hx_safe.proofs.Sending.{kept_proposal}
 use Rattle.hx_safe.proofs.Whole.{reached_safe, reached_ranged, whole_from}
-use Rattle.hx_covers.specs.Reading.{is_read}
-use Rattle.hx_covers.specs.Gate.{Shows, IsWithin, is_for}
-use Rattle.hx_covers.proofs.Fits.{front-part}
-use Rattle.hx_covers.proofs.Filling.{counts_shown}
-use Rattle.hx_covers.proofs.Loading.{loads_shown}
-use Rattle.hx_covers.proofs.Showing.{lawful_shows}
-use Rattle.hx_covers.proofs.Covered.{legal_front, proper_front}
-use Rattle.hx_covers.proofs.Whole.{fixed_along, read_law}
+use Rattle.hx_lawful.specs.Reading.{is_read}
+use Rattle.hx_lawful.specs.Gate.{Shows, IsWithin, is_for}
+use Rattle.hx_lawful.proofs.Fits.{front-part}
+use Rattle.hx_lawful.proofs.Filling.{counts_shown}
+use Rattle.hx_lawful.proofs.Loading.{loads_shown}
+use Rattle.hx_lawful.proofs.Showing.{lawful_shows}
+use Rattle.hx_lawful.proofs.Covered.{legal_front, proper_front}
+use Rattle.hx_lawful.proofs.Whole.{fixed_along, read_law}
 use Rattle.hx_lawful.specs.Unrefused.{is_sent_or_gone, is_unrefused, IsUnrefused}
 use Rattle.hx_lawful.proofs.Fitting.{fits, fit_from, elsewhere_from, fits_all, once_all}
 use Rattle.hx_lawful.proofs.Placing.{within_none, within_more}

@@ -7,7 +7,7 @@ use Rattle.hx_ids.specs.declared.PartId.{PartId}
 use Rattle.hx_model.specs.declared.ModelParts.{ModelParts}
 use Rattle.hx_cluster.specs.declared.planning.View.{View}
 use Rattle.hx_cluster.specs.declared.planning.Candidate.{Candidate}
-use Rattle.hx_covers.specs.Gate.{IsFit, is_for}
+use Rattle.hx_lawful.specs.Gate.{IsFit, is_for}
 
 -- a candidate leads to another state than the one that it leaves
 abbrev pub leads_elsewhere : Candidate → Bool

@@ -8,7 +8,7 @@ use Rattle.hx_cluster.specs.Events.{replay}
 use Rattle.hx_cluster.specs.Safe.{IsSafe}
 use Rattle.hx_cluster.specs.Runs.{IsOneRunEach}
 use Rattle.hx_pass.specs.Lawful.{IsLawful}
-use Rattle.hx_covers.specs.Covers.{Covers}
+use Rattle.hx_lawful.specs.Covers.{Covers}
 use Rattle.hx_lawful.specs.Unrefused.{IsUnrefused}
 
 -- the cluster is safe, and each message that was taken has one run, legal and alone

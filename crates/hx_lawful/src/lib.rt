@@ -1,6 +1,8 @@
-//! What controllers send in lawful histories, and that the board never has to refuse it. The
-//! contract of each function is a law over the definitions alone.
+//! What controllers are shown and send in lawful histories, and that the board never has to refuse
+//! it. The contract of each function is a law over the definitions alone.
 #![tactic(auto)]
+
+mod covers;
 
 ghost use Rattle.std.specs.Prelude.{◌≡◌, ◌++◌, ℕ, true, List, map};
 ghost use Rattle.std.specs.List.{list_all};
@@ -20,10 +22,16 @@ ghost use Rattle.hx_cluster.specs.Ranged.{IsRanged};
 ghost use Rattle.hx_cluster.specs.Views.{is_well_formed};
 ghost use Rattle.hx_pass.specs.Plans.{throttled_of, proposal, plan};
 ghost use Rattle.hx_pass.specs.Lawful.{IsLawful};
-ghost use Rattle.hx_covers.specs.Gate.{Shows, IsWithin};
+ghost use Rattle.hx_lawful.specs.Gate.{Shows, IsWithin};
 ghost use Rattle.hx_lawful.specs.Fitting.{AreFit};
 ghost use Rattle.hx_lawful.specs.Unrefused.{is_sent_or_gone, IsUnrefused};
 ghost use Rattle.hx_lawful.specs.Holding.{HoldsOfLegal, HoldsOfLawful};
+
+pub use covers::{
+    fit_candidates_pass_the_first_tests, lawful_reads_cover_the_board, lawful_views_show_the_board,
+    legal_turns_keep_their_shape, views_count_no_less_than_the_board,
+    views_load_no_less_than_the_board, what_was_read_is_well_formed, what_was_shown_is_well_formed,
+};
 
 /// What a plan sends fits the view that the plan was made of: each candidate is of a shown session
 /// and a part that is there, where no message was shown, and goes on from where its replica was

@@ -5,3 +5,8 @@ pub mod Tables
 pub mod Narrow
 pub mod Rising
 pub mod Sorting
+pub mod Stretches
+pub mod Pieces
+pub mod InPlace
+pub mod Cells
+pub mod Found

@@ -9,3 +9,14 @@ pub mod Made
 pub mod Posting
 pub mod Calm
 pub mod Waiting
+pub mod Again
+pub mod Among
+pub mod Sorted
+pub mod OneByPart
+pub mod Filtered
+pub mod Marked
+pub mod Alone
+pub mod Accepted
+pub mod FoundAgain
+pub mod PostedAgain
+pub mod FormedAgain

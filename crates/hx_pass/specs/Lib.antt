@@ -5,3 +5,7 @@ pub mod Explained
 pub mod Left
 pub mod Drafts
 pub mod Waiting
+pub mod Drafted
+pub mod Kept
+pub mod Known
+pub mod Local

@@ -7,8 +7,8 @@ ghost use Rattle.hx_pass.specs.Waiting.{HasWaiting};
 use hx_cluster::Candidate;
 use hx_lists::Seq;
 use hx_model::Model;
+use hx_parts::ViewIndex;
 use hx_select::accepted_on;
-use hx_views::ViewIndex;
 use std::alloc::{AllocError, Global};
 
 /// The candidates for which the bounds leave room, in order, and others that tell of which parts a

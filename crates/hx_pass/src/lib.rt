@@ -1,8 +1,14 @@
-//! The plan of a pass: what a controller proposes, given what it was shown.
+//! The plan of a pass: what a controller proposes, given what it was shown; and plans of views one
+//! after another, where what was found of the last view is kept.
 #![tactic(auto)]
 
 mod choices;
 mod drafts;
+mod kept;
+mod known;
+pub mod laws;
+mod narrow;
+mod planner;
 mod plans;
 mod posts;
 
@@ -19,6 +25,7 @@ use hx_cluster::{Candidate, Plan, Spec, View};
 use hx_hops::Hops;
 use hx_model::Model;
 use hx_throttle::sent_on;
+pub use planner::Planner;
 use plans::{candidates_on, plan_on};
 pub use posts::{instance_or_first, posted};
 use std::alloc::{AllocError, Global};

@@ -20,9 +20,9 @@ use Rattle.hx_cluster.specs.Steps.{refusal_of, after, changed_at, with_mode, mar
 use Rattle.hx_safe.proofs.Beside.{is_aside, beside_step}
 use Rattle.hx_safe.proofs.Fixed.{fixed_step}
 use Rattle.hx_safe.proofs.Whole.{IsWhole}
-use Rattle.hx_tallies.specs.Tallies.{IsCounted}
-use Rattle.hx_tallies.proofs.Listed.{listed_kept}
-use Rattle.hx_tallies.proofs.Beside.{counted_step}
+use Rattle.hx_slots.specs.Tallies.{IsCounted}
+use Rattle.hx_slots.proofs.Listed.{listed_kept}
+use Rattle.hx_slots.proofs.Beside.{counted_step}
 use Rattle.hx_records.specs.declared.Records.TheInside.{Inside}
 use Rattle.hx_records.specs.Records.{seen, AreRecords}
 

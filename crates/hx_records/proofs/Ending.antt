@@ -22,7 +22,7 @@ use Rattle.hx_safe.proofs.Kept.{kept_beside}
 use Rattle.hx_safe.proofs.Sessions.{seated_without, seated_tick}
 use Rattle.hx_safe.proofs.Throttles.{throttled_without}
 use Rattle.hx_safe.proofs.Whole.{IsWhole}
-use Rattle.hx_tallies.proofs.Listed.{IsListed, listed_unsent, listed_row_gone}
+use Rattle.hx_slots.proofs.Listed.{IsListed, listed_unsent, listed_row_gone}
 use Rattle.hx_records.proofs.Sitting.{drop_at}
 
 abbrev pub of_message : SessionId → Message → Bool

@@ -11,8 +11,8 @@ use Rattle.hx_cluster.specs.declared.happenings.Proposal.{Proposal}
 use Rattle.hx_cluster.specs.Ends.{count_of, limit_at, instance_in, shown_of}
 use Rattle.hx_cluster.specs.Messages.{proposal_load}
 use Rattle.hx_cluster.proofs.Shown.{instance_in_shown}
-use Rattle.hx_tallies.specs.Tallies.{key_on}
-use Rattle.hx_tallies.proofs.Gates.{ends_kept, load_its}
+use Rattle.hx_slots.specs.Tallies.{key_on}
+use Rattle.hx_slots.proofs.Gates.{ends_kept, load_its}
 use Rattle.hx_records.specs.declared.Records.TheInside.{Inside}
 use Rattle.hx_records.specs.Records.{seen, AreRecords}
 

@@ -26,12 +26,12 @@ use Rattle.hx_safe.proofs.Counting.{find-single, find-passes, find-any, any-coun
 use Rattle.hx_safe.proofs.Ends.{same-self, part_eq-self, session_same}
 use Rattle.hx_safe.proofs.Throttles.{instance_on}
 use Rattle.hx_safe.proofs.Whole.{IsWhole}
-use Rattle.hx_tallies.specs.Tallies.{IsCounted, IsLowered, IsRowLowered}
-use Rattle.hx_tallies.proofs.Listed.{IsListed, listed_kept}
-use Rattle.hx_tallies.proofs.Sent.{counted_unsent}
-use Rattle.hx_tallies.proofs.Put.{counted_row_gone}
-use Rattle.hx_tallies.proofs.Seated.{counted_left, counted_join, counted_beaten}
-use Rattle.hx_tallies.proofs.Beside.{counted_opening}
+use Rattle.hx_slots.specs.Tallies.{IsCounted, IsLowered, IsRowLowered}
+use Rattle.hx_slots.proofs.Listed.{IsListed, listed_kept}
+use Rattle.hx_slots.proofs.Sent.{counted_unsent}
+use Rattle.hx_slots.proofs.Put.{counted_row_gone}
+use Rattle.hx_slots.proofs.Seated.{counted_left, counted_join, counted_beaten}
+use Rattle.hx_slots.proofs.Beside.{counted_opening}
 use Rattle.hx_records.specs.declared.Records.TheInside.{Inside}
 use Rattle.hx_records.specs.Records.{seen, AreRecords}
 use Rattle.hx_records.proofs.Ending.{of_message, of_row}

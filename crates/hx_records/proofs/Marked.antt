@@ -29,10 +29,10 @@ use Rattle.hx_safe.proofs.Ends.{session_same}
 use Rattle.hx_safe.proofs.Kept.{IsKept}
 use Rattle.hx_safe.proofs.Sending.{room_from, sent_next}
 use Rattle.hx_safe.proofs.Throttles.{instance_on}
-use Rattle.hx_tallies.specs.Tallies.{IsRaised, IsLowered, IsRowLowered, IsLeft, IsPut, IsCounted}
-use Rattle.hx_tallies.proofs.Listed.{listed_kept}
-use Rattle.hx_tallies.proofs.Sent.{counted_placed, counted_unsent, counted_taken, counted_marked, message_there}
-use Rattle.hx_tallies.proofs.Put.{counted_put, outcome_covered}
+use Rattle.hx_slots.specs.Tallies.{IsRaised, IsLowered, IsRowLowered, IsLeft, IsPut, IsCounted}
+use Rattle.hx_slots.proofs.Listed.{listed_kept}
+use Rattle.hx_slots.proofs.Sent.{counted_placed, counted_unsent, counted_taken, counted_marked, message_there}
+use Rattle.hx_slots.proofs.Put.{counted_put, outcome_covered}
 use Rattle.hx_slots.specs.Kept.{Kept}
 use Rattle.hx_records.specs.declared.Records.TheInside.{Inside}
 use Rattle.hx_records.specs.Records.{seen, AreRecords}

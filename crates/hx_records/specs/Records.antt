@@ -10,7 +10,7 @@ use Rattle.hx_cluster.specs.declared.happenings.Placed.{Placed}
 use Rattle.hx_cluster.specs.Steps.{session_of}
 use Rattle.hx_cluster.specs.Messages.{has_id, placed_of, after_proposal, placed_all, after_proposals}
 use Rattle.hx_cluster.specs.Events.{has_part, is_proposable}
-use Rattle.hx_tallies.specs.Tallies.{IsCounted}
+use Rattle.hx_slots.specs.Tallies.{IsCounted}
 use Rattle.hx_safe.proofs.Kept.{IsKept}
 use Rattle.hx_records.specs.declared.Records.TheInside.{Inside}
 

@@ -20,7 +20,7 @@ use hx_cluster::{Dispatched, Message, Placed, Proposal, Rule};
 use hx_ids::{ControllerId, InstanceId, MsgId, PartId, SessionId, StateId};
 use hx_lists::Seq;
 use hx_model::limit;
-use hx_tallies::{key_on, lower, raise};
+use hx_slots::{key_on, lower, raise};
 use std::alloc::AllocError;
 
 /// The answer where a rule, by its place, has no room. A place past 32 bits is want of memory.

@@ -9,13 +9,13 @@ ghost use Rattle.hx_cluster.specs.Messages.{has_id};
 ghost use Rattle.hx_cluster.specs.Steps.{session_of, without, without_all};
 ghost use Rattle.hx_cluster.specs.Room.{half};
 ghost use Rattle.hx_safe.proofs.Whole.{IsWhole};
-ghost use Rattle.hx_tallies.proofs.Listed.{IsListed};
+ghost use Rattle.hx_slots.proofs.Listed.{IsListed};
 
 use crate::Records;
 use hx_cluster::{Message, Row};
 use hx_ids::{InstanceId, PartId, SessionId};
 use hx_lists::Seq;
-use hx_tallies::{lower, lower_row};
+use hx_slots::{lower, lower_row};
 
 fn end_resets(resets: &mut Seq<(SessionId, PartId)>, session: SessionId)
     ensures { resets.new ≡ filter (λ f. not (f.0.0 == session.0)) resets.old }

@@ -6,7 +6,7 @@ ghost use Rattle.hx_lists.specs.Answers.{RefusedAs};
 ghost use Rattle.hx_cluster.specs.Ends.{instance_in, shown_of};
 ghost use Rattle.hx_cluster.specs.Messages.{pending_of, has_id, after_take};
 ghost use Rattle.hx_cluster.specs.Messages.{after_write};
-ghost use Rattle.hx_tallies.specs.Tallies.{IsPut};
+ghost use Rattle.hx_slots.specs.Tallies.{IsPut};
 ghost use Rattle.hx_cluster.specs.Marks.{take_refusal, write_refusal, ack_refusal};
 ghost use Rattle.hx_cluster.specs.Events.{next};
 ghost use Rattle.hx_cluster.specs.Room.{HasRoom};
@@ -18,7 +18,7 @@ use hx_calls::settle_flags;
 use hx_cluster::{AckFault, Cluster, Event, Message, Outcome, TakeFault, WriteRefusal};
 use hx_counts::Counts;
 use hx_ids::{InstanceId, MsgId, PartId, SessionId, StateId};
-use hx_tallies::{lower, lower_row};
+use hx_slots::{lower, lower_row};
 
 /// Counts no longer the state that a replica leaves as the outcome of a message comes, where it is
 /// no end of the message.

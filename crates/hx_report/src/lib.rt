@@ -11,7 +11,7 @@ ghost use Rattle.hx_report.specs.Findings.{report, is_failed, finding_of};
 pub use fates::Fates;
 use hx_cluster::{Entries, Finding, Report, Selection, Target, Throttled, View};
 use hx_model::ERROR;
-use hx_views::ViewIndex;
+use hx_parts::ViewIndex;
 use std::alloc::{AllocError, Global};
 
 /// Whether a replica is in ERROR.

@@ -18,3 +18,12 @@ pub mod Fixed
 pub mod Ranges
 pub mod Whole
 pub mod Weighing
+pub mod Fronts
+pub mod On
+pub mod Calming
+pub mod Mail
+pub mod Past
+pub mod Sent
+pub mod Waiting
+pub mod OneRun
+mod Examples

@@ -2,3 +2,5 @@ pub mod Sound
 pub mod Ordered
 pub mod Along
 pub mod Weighed
+pub mod Onward
+pub mod Calm

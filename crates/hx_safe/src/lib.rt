@@ -1,6 +1,8 @@
-//! Laws of every cluster along a legal history: it is safe, its lists stand in order, and its ids
-//! are in range. The contract of each function is a law over the definitions alone.
+//! Laws of every cluster along a legal history: it is safe, its lists stand in order, its ids are in
+//! range, and each handler runs once. The contract of each function is a law over the definitions alone.
 #![tactic(auto)]
+
+mod runs;
 
 ghost use Rattle.std.specs.Prelude.{◌≡◌, ◌⊎◌, ◌≤◌, ℕ, List, Option, Some};
 ghost use Rattle.hx_ids.specs.declared.PartId.{PartId};
@@ -18,6 +20,8 @@ ghost use Rattle.hx_safe.specs.Ordered.{IsOrdered};
 ghost use Rattle.hx_cluster.specs.Weight.{weight_of_all};
 ghost use Rattle.hx_safe.specs.Along.{HoldsAlong};
 ghost use Rattle.hx_safe.specs.Weighed.{IsWeighed};
+
+pub use runs::{all_but_dispatches_are_calm, events_lead_on, legal_has_one_run_each};
 
 /// Each cluster along a legal history is safe: before each event, and after the last.
 pub fn legal_is_safe()

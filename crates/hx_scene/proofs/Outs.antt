@@ -17,7 +17,7 @@ use Rattle.hx_worlds.specs.Jobs.{is_job, is_job_of, job_before, end_job}
 use Rattle.hx_safe.proofs.Counting.{and-first, and-second, and-both, any-append, none-from-all, count-filter}
 use Rattle.hx_safe.proofs.Ends.{same-self, find-filter_kept}
 use Rattle.hx_safe.proofs.Ideals.{length-put}
-use Rattle.hx_covers.proofs.Sorting.{count-sort}
+use Rattle.hx_lawful.proofs.Sorting.{count-sort}
 use Rattle.hx_scripted.proofs.Standing.{Last}
 use Rattle.hx_agreed.specs.InStep.{Each, of_instance, IsHeldJob}
 use Rattle.hx_agreed.proofs.Lists.{each-le, each-filter, in_range}

@@ -40,7 +40,7 @@ use Rattle.hx_worlds.specs.Scripts
 use Rattle.hx_worlds.proofs.BroughtByLines.{prints_its_history}
 use Rattle.hx_safe.proofs.Counting.{and-first, and-second, all-map, all-le, all-find}
 use Rattle.hx_safe.proofs.Whole.{length-replicate}
-use Rattle.hx_covers.proofs.Sorting.{all-sort}
+use Rattle.hx_lawful.proofs.Sorting.{all-sort}
 use Rattle.hx_lawful.specs.Holding.{HoldsOfLawful}
 use Rattle.hx_lawful.proofs.Holding.{holds_of_lawful}
 use Rattle.hx_scripted.specs.OfHistory.{is_fetched, has_fetched, IsTurnOf, IsOfItsHistory}

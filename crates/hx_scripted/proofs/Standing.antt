@@ -26,8 +26,8 @@ use Rattle.hx_scripted.specs.OfHistory.{is_fetched, is_work_fetched, is_slot_fet
 use Rattle.hx_safe.proofs.Counting.{any-append, all-le}
 use Rattle.hx_safe.proofs.Fixed.{IsFixed}
 use Rattle.hx_safe.proofs.Whole.{reached_ranged}
-use Rattle.hx_covers.proofs.Covered.{replay_more}
-use Rattle.hx_covers.proofs.Whole.{fixed_along}
+use Rattle.hx_lawful.proofs.Covered.{replay_more}
+use Rattle.hx_lawful.proofs.Whole.{fixed_along}
 use Rattle.hx_pass.proofs.Longer.{legal_more, proper_more}
 
 -- the last line of a world, and whether its history was lawful from the beginning

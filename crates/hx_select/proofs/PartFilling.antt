@@ -16,7 +16,7 @@ use Rattle.hx_model.specs.declared.ModelParts.{ModelParts}
 use Rattle.hx_cluster.specs.declared.planning.View.{View}
 use Rattle.hx_cluster.specs.declared.planning.Candidate.{Candidate}
 use Rattle.hx_cluster.specs.Ends.{part_before}
-use Rattle.hx_views.specs.Index.{count_in}
+use Rattle.hx_parts.specs.Index.{count_in}
 use Rattle.hx_select.specs.declared.part_fillings.Filling.{Filling}
 use Rattle.hx_select.specs.Selection.{goes_to, has_room}
 use Rattle.hx_select.specs.Fillings.{limit_in, filling_in}

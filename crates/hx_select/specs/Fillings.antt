@@ -13,7 +13,7 @@ use Rattle.hx_model.specs.declared.ModelParts.{ModelParts}
 use Rattle.hx_cluster.specs.declared.planning.View.{View}
 use Rattle.hx_cluster.specs.declared.planning.Candidate.{Candidate}
 use Rattle.hx_cluster.specs.Ends.{limit_over}
-use Rattle.hx_views.specs.Index.{count_in}
+use Rattle.hx_parts.specs.Index.{count_in}
 use Rattle.hx_select.specs.Selection.{goes_to}
 
 -- the most that may be in a state of a part, if that is limited

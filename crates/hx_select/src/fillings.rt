@@ -11,7 +11,7 @@ ghost use Rattle.hx_select.specs.Selection.{has_room, full, holds, shown_session
 use hx_cluster::{Candidate, Full};
 use hx_ids::{PartId, SessionId, StateId};
 use hx_lists::Seq;
-use hx_views::ViewIndex;
+use hx_parts::ViewIndex;
 use std::alloc::{AllocError, Global};
 use std::collections::{BTreeMap, BTreeSet};
 

@@ -17,7 +17,7 @@ use crate::part_fillings::PartFillings;
 use hx_cluster::{Candidate, Selection, Spec, View};
 use hx_lists::Seq;
 use hx_model::Model;
-use hx_views::ViewIndex;
+use hx_parts::ViewIndex;
 use std::alloc::{AllocError, Global};
 
 /// The candidates for which the bounds of their states leave room, and those for which they don't,

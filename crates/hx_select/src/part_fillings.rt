@@ -14,7 +14,7 @@ ghost use Rattle.hx_select.specs.Selection.{has_room};
 use hx_cluster::Candidate;
 use hx_ids::{PartId, ResourceId, StateId};
 use hx_model::Model;
-use hx_views::ViewIndex;
+use hx_parts::ViewIndex;
 use std::alloc::{AllocError, Global};
 
 /// How many have a state among their ends or were accepted for it.

@@ -32,7 +32,7 @@ use Rattle.hx_cluster.specs.Events.{next}
 use Rattle.hx_cluster.specs.Safe.{IsSafe}
 use Rattle.hx_safe.proofs.Counting.{and-first, and-second, and-both, find-any, find-passes, any-count}
 use Rattle.hx_settled.specs.Standing.{ShowsTheSame, IsCounted}
-use Rattle.hx_covers.proofs.Leads.{along_proposals}
+use Rattle.hx_lawful.proofs.Leads.{along_proposals}
 
 -- the same twice
 same_self : (c : Cluster) → ShowsTheSame c c

@@ -40,7 +40,7 @@ use Rattle.hx_pass.specs.Left.{left_of}
 use Rattle.hx_pass.specs.Explained.{view_at}
 use Rattle.hx_safe.proofs.Counting.{and-first, and-second}
 use Rattle.hx_safe.proofs.Ends.{session_same, part_same, put-other, put-here}
-use Rattle.hx_covers.proofs.Viewing.{sessions_once}
+use Rattle.hx_lawful.proofs.Viewing.{sessions_once}
 use Rattle.hx_lawful.proofs.Fitting.{made_of, step_of}
 use Rattle.hx_settled.specs.Hops.{IsHop}
 use Rattle.hx_settled.specs.Places.{Place, places_of, left_at}

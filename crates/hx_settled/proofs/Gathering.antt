@@ -20,7 +20,7 @@ use Rattle.hx_pass.specs.Plans.{plan}
 use Rattle.hx_pass.specs.Explained.{view_at}
 use Rattle.hx_safe.proofs.Counting.{and-first, and-second, all-le, count-append, find-none, none-from-all, any-count}
 use Rattle.hx_safe.proofs.Ends.{session_same, find-filter_kept}
-use Rattle.hx_covers.proofs.Viewing.{sessions_once}
+use Rattle.hx_lawful.proofs.Viewing.{sessions_once}
 use Rattle.hx_settled.specs.Standing.{read_at}
 use Rattle.hx_settled.proofs.Moments.{shown_is_live}
 use Rattle.hx_settled.proofs.Lookups.{plan_same}

@@ -41,8 +41,8 @@ use Rattle.hx_safe.proofs.Counting.{and-first, and-second, and-both, and-three, 
 use Rattle.hx_safe.proofs.Ends.{part_same, same-self}
 use Rattle.hx_safe.proofs.Ideals.{none_from}
 use Rattle.hx_safe.proofs.Models.{good_from, or-none, state_same}
-use Rattle.hx_covers.proofs.Sorting.{all-sort, each_there, all-passed}
-use Rattle.hx_covers.proofs.Viewing.{good_view}
+use Rattle.hx_lawful.proofs.Sorting.{all-sort, each_there, all-passed}
+use Rattle.hx_lawful.proofs.Viewing.{good_view}
 use Rattle.hx_lawful.proofs.Choosing.{numbers-below}
 use Rattle.hx_settled.specs.Hops.{IsHop, HasHop, HaveHops}
 use Rattle.hx_model.proofs.Places.{no_place, none_passes}

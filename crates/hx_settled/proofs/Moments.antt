@@ -23,16 +23,16 @@ use Rattle.hx_pass.specs.Explained.{view_at}
 use Rattle.hx_safe.proofs.Counting.{and-first, and-second, and-both, all-le, all-both, count-map}
 use Rattle.hx_safe.proofs.Ends.{same-self, part_eq-self}
 use Rattle.hx_safe.proofs.Whole.{whole_from}
-use Rattle.hx_runs.specs.Calm.{has_stayed}
-use Rattle.hx_runs.specs.Onward.{is_same_kind, has_same_replicas}
-use Rattle.hx_runs.proofs.Fronts.{front-self, kind-self, replicas-self}
-use Rattle.hx_covers.specs.Covers.{has_nothing}
-use Rattle.hx_covers.specs.Gate.{Shows}
-use Rattle.hx_covers.proofs.Covering.{live_all}
-use Rattle.hx_covers.proofs.Fits.{message_good, row_good, pending_fits, kept_fits}
-use Rattle.hx_covers.proofs.Loading.{key_alike}
-use Rattle.hx_covers.proofs.Sorting.{count-sort, each_there, exactly}
-use Rattle.hx_covers.proofs.Viewing.{good_view, well_formed, beside, with_sessions, formed_live, own_shown}
+use Rattle.hx_safe.specs.Calm.{has_stayed}
+use Rattle.hx_safe.specs.Onward.{is_same_kind, has_same_replicas}
+use Rattle.hx_safe.proofs.Fronts.{front-self, kind-self, replicas-self}
+use Rattle.hx_lawful.specs.Covers.{has_nothing}
+use Rattle.hx_lawful.specs.Gate.{Shows}
+use Rattle.hx_lawful.proofs.Covering.{live_all}
+use Rattle.hx_lawful.proofs.Fits.{message_good, row_good, pending_fits, kept_fits}
+use Rattle.hx_lawful.proofs.Loading.{key_alike}
+use Rattle.hx_lawful.proofs.Sorting.{count-sort, each_there, exactly}
+use Rattle.hx_lawful.proofs.Viewing.{good_view, well_formed, beside, with_sessions, formed_live, own_shown}
 use Rattle.hx_settled.specs.Moments.{AgreesWith}
 
 -- tests over a list in order, and over what is made of each item

@@ -32,7 +32,7 @@ use Rattle.hx_pass.specs.Left.{steps_left, left_of}
 use Rattle.hx_pass.specs.Explained.{view_at}
 use Rattle.hx_safe.proofs.Counting.{and-both}
 use Rattle.hx_safe.proofs.Ends.{same-self}
-use Rattle.hx_covers.proofs.Sorting.{each_there}
+use Rattle.hx_lawful.proofs.Sorting.{each_there}
 use Rattle.hx_lawful.proofs.Choosing.{numbers-below}
 use Rattle.hx_settled.specs.Places.{Place, place_on, places_at, places_in, places_over, places_of, left_at, tries_at, tries_of, tries_left}
 use Rattle.hx_settled.proofs.Summing.{sum-map, sum-flat, sum-filter, sum-sort, sum-same, sum-places, sum-times, length-flat, sum-even, length-numbers}

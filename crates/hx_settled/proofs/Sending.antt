@@ -41,7 +41,7 @@ use Rattle.hx_safe.proofs.Ends.{same-self, part_eq-self}
 use Rattle.hx_safe.proofs.Kept.{IsKept, kept_raised}
 use Rattle.hx_safe.proofs.Sending.{kept_proposal}
 use Rattle.hx_safe.proofs.Whole.{whole_from}
-use Rattle.hx_covers.specs.Gate.{Shows, IsWithin, is_for}
+use Rattle.hx_lawful.specs.Gate.{Shows, IsWithin, is_for}
 use Rattle.hx_lawful.proofs.Comparing.{HadRoom, had_room, sent_there}
 use Rattle.hx_lawful.proofs.Fitting.{fits, fit_from, elsewhere_from, fits_all, once_all, made_of}
 use Rattle.hx_lawful.proofs.Placing.{within_none, within_more}

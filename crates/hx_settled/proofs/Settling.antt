@@ -38,8 +38,8 @@ use Rattle.hx_control.specs.OfBoard.{IsPlanOf, OfBoard}
 use Rattle.hx_safe.proofs.Ends.{same-self, part_eq-self}
 use Rattle.hx_safe.proofs.Whole.{reached_safe, reached_ranged}
 use Rattle.hx_safe.proofs.Fixed.{IsFixed}
-use Rattle.hx_covers.specs.Reading.{is_read}
-use Rattle.hx_covers.proofs.Whole.{fixed_along}
+use Rattle.hx_lawful.specs.Reading.{is_read}
+use Rattle.hx_lawful.proofs.Whole.{fixed_along}
 use Rattle.hx_settled.specs.Standing.{read_at}
 use Rattle.hx_settled.proofs.Gathering.{messages_read, plan_read}
 use Rattle.hx_settled.proofs.Steady.{read_whole}

@@ -14,7 +14,7 @@ use Rattle.hx_cluster.specs.Ends.{part_eq, is_live, is_shown, resource_at, parts
 use Rattle.hx_cluster.specs.Reads.{live_shown}
 use Rattle.hx_cluster.specs.Safe.{IsSafe}
 use Rattle.hx_safe.proofs.Counting.{and-first, any-append, any-count, count-map, count-none, count-le}
-use Rattle.hx_covers.proofs.Viewing.{sessions_once}
+use Rattle.hx_lawful.proofs.Viewing.{sessions_once}
 use Rattle.hx_lawful.proofs.Choosing.{pieces-once, numbers-once}
 use Rattle.hx_settled.specs.Places.{Place, place_on, places_at, places_in, places_of}
 use Rattle.hx_settled.proofs.Moments.{shown_is_live}

@@ -21,11 +21,11 @@ use Rattle.hx_pass.specs.Turns.{Call, Live, Mail, States, Ideals, Send, Post, Tu
 use Rattle.hx_safe.proofs.Counting.{and-first}
 use Rattle.hx_safe.proofs.Ends.{session_same}
 use Rattle.hx_safe.proofs.Whole.{IsWhole, whole_next, whole_opening, sound_from}
-use Rattle.hx_covers.specs.Reading.{is_in_order, is_read}
-use Rattle.hx_covers.proofs.Whole.{turn_law}
+use Rattle.hx_lawful.specs.Reading.{is_in_order, is_read}
+use Rattle.hx_lawful.proofs.Whole.{turn_law}
 use Rattle.hx_settled.specs.Standing.{ShowsTheSame, IsCounted, read_at}
 use Rattle.hx_settled.proofs.Changing.{counted_next}
-use Rattle.hx_covers.proofs.Whole.{own_or_other}
+use Rattle.hx_lawful.proofs.Whole.{own_or_other}
 
 -- what a turn will have been shown, if nothing changes until its last read
 abbrev pub shown_in_all : Cluster → List Call → View → View

@@ -5,7 +5,7 @@ use Rattle.hx_ids.specs.declared.InstanceId.{InstanceId}
 use Rattle.hx_cluster.specs.declared.state.Cluster.{Cluster}
 use Rattle.hx_cluster.specs.Steps.{has_instance}
 use Rattle.hx_safe.proofs.Fixed.{IsFixed}
-use Rattle.hx_covers.proofs.Whole.{fixed_along}
+use Rattle.hx_lawful.proofs.Whole.{fixed_along}
 use Rattle.hx_worlds.specs.World.{Missing, State}
 use Rattle.hx_worlds.specs.Items.{events_in}
 use Rattle.hx_worlds.specs.Runs.{Run}

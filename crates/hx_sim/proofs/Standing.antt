@@ -22,8 +22,8 @@ use Rattle.hx_cluster.specs.Steps.{opening, has_instance, has_controller, is_in_
 use Rattle.hx_safe.proofs.Counting.{all-map, and-first, and-second}
 use Rattle.hx_safe.proofs.Fixed.{IsFixed}
 use Rattle.hx_safe.proofs.Whole.{reached_safe, reached_ranged}
-use Rattle.hx_covers.proofs.Sorting.{all-sort}
-use Rattle.hx_covers.proofs.Whole.{fixed_along}
+use Rattle.hx_lawful.proofs.Sorting.{all-sort}
+use Rattle.hx_lawful.proofs.Whole.{fixed_along}
 use Rattle.hx_board.specs.Board.{Held, HasHistory}
 use Rattle.hx_scene.specs.Scenes.{SceneState}
 use Rattle.hx_scene.specs.Kept.{IsScene}

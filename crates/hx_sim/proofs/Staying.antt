@@ -4,7 +4,7 @@ use Rattle.std.specs.Prelude.{nat_lt, Result}
 use Rattle.hx_ids.specs.declared.ControllerId.{ControllerId}
 use Rattle.hx_cluster.specs.declared.state.Cluster.{Cluster}
 use Rattle.hx_cluster.specs.Steps.{has_controller}
-use Rattle.hx_covers.proofs.Whole.{fixed_along}
+use Rattle.hx_lawful.proofs.Whole.{fixed_along}
 use Rattle.hx_board.specs.declared.faults.RoomFault.{RoomFault}
 use Rattle.hx_worlds.specs.World.{Missing, State}
 use Rattle.hx_worlds.specs.Items.{Item, events_in}

@@ -8,3 +8,11 @@ pub mod Growing
 pub mod Mirrored
 pub mod Mirroring
 pub mod Ready
+pub mod Moving
+pub mod Single
+pub mod Listed
+pub mod Sent
+pub mod Put
+pub mod Seated
+pub mod Beside
+pub mod Gates

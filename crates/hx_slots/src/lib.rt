@@ -1,4 +1,5 @@
-//! The rows and the pending messages of sessions, as versioned records with their session as owner.
+//! The rows and the pending messages of sessions, as versioned records with their session as owner,
+//! and what they add to kept numbers.
 #![tactic(auto)]
 
 ghost use Rattle.std.specs.Prelude.{◌≡◌, ◌&&◌, ◌||◌, ◌==◌, ◌++◌, [], ◌∷◌, not, true, false};
@@ -12,6 +13,7 @@ mod owned;
 mod row_index;
 mod session_rows;
 mod slot;
+mod tallies;
 
 use hx_cluster::{Message, Row};
 use hx_ids::{MsgId, PartId, ResourceId, SessionId, StateId};
@@ -22,6 +24,7 @@ use row_index::RowIndex;
 use slot::{Slot, add_message, last_message, note_sent, put_at, slot_of};
 use std::alloc::{AllocError, Global};
 use std::marker::Model;
+pub use tallies::{key_on, lower, lower_row, raise};
 
 /// Rows and pending messages. Contracts see both as plain lists: rows by session, then part, and
 /// messages by number. What may come to a message needs no memory once it was sent.

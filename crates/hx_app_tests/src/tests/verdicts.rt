@@ -1,6 +1,5 @@
 //! Logs that are judged.
-use hx_answers::Status;
-use hx_verdicts::judged;
+use hx_app::{Status, judged};
 use std::alloc::{AllocError, Global};
 use std::test::Fail;
 

@@ -1,4 +1,5 @@
-use Rattle.std.proofs.Common.{◌≡◌, ◌∙◌, ◌++◌, ◌∷◌, [], Bool, List, get_or, append-nil, sym, ap, subst}
+use Rattle.std.proofs.Common.{◌≡◌, ◌∙◌, ◌++◌, ◌∷◌, [], Bool, List, get_or, append-nil, sym, ap, subst, arith}
+use Rattle.std.proofs.lemmas.Grind.{common_steps}
 use Rattle.std.specs.Prelude.{if◌then◌else◌}
 use Rattle.std.specs.List.{fold}
 use Rattle.hx_lists.specs.Choices.{with_chosen}
@@ -38,3 +39,6 @@ loop-candidate-preserved c =
     ] in
     walked_more models view c.args.candidates.now at.candidate-index no_candidate at.accepted c.if-branch.accepted at.fillings.part c.accepts.new.self.part at.fillings.fillings.items
     c.accepts.new.self.fillings.items c.requires.by_part c.loop-candidate-test.true at.invariant c.in_ok-accepts.ensures.part is (c.in_ok-accepts.ensures.kept at.accepted at.invariant.filled)
+
+pub returns : goal.returns
+returns c = grind (arith, common_steps)

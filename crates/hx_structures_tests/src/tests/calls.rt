@@ -1,13 +1,13 @@
 //! Each other call comes where there is memory.
 use crate::tests::fixtures::{C1, SECOND, add_resource, ideal, opening, part, seen};
 use hx_calls::{
-    begin, forget_shown, no_ideals, nothing_shown, publish, read_ideals_over, reread_ideals,
+    Same, all_same, begin, forget_shown, no_ideals, nothing_shown, publish, read_ideals_over,
+    reread_ideals,
 };
 use hx_cluster::{Cluster, Dispatched, Ideals, Placed};
 use hx_ideal::Mode;
 use hx_ids::PassNo;
 use hx_lists::Seq;
-use hx_same::{Same, all_same};
 use std::alloc::{AllocError, Global};
 use std::process::Abort;
 use std::test::Fail;

@@ -48,7 +48,7 @@ fn refusal(cluster: &Cluster, step: &Admin) -> Option<StepFault> {
 }
 
 fn expect_fault(rt: &impl Abort, cluster: &Cluster, step: &Admin, fault: StepFault) {
-    assert_eq!(rt; refusal(cluster, step), Some(fault), "of {step:?}");
+    assert_eq!(rt; refusal(cluster, step), Some(fault));
 }
 
 /// Each step is refused for its fault.
@@ -188,7 +188,7 @@ fn answer(cluster: &mut Cluster, step: &Admin) -> Result<Did, StepFault> {
 }
 
 fn expect_made(rt: &impl Abort, cluster: &mut Cluster, step: Admin) {
-    assert!(rt; answer(cluster, &step).is_ok(), "of {step:?}");
+    assert!(rt; answer(cluster, &step).is_ok());
 }
 
 #[test]

@@ -34,14 +34,9 @@ fn small_roll(alloc: Global) -> Result<Roll, AllocError> {
     })
 }
 
-/// What some events add to the log.
-fn printed(alloc: Global, spec: &Spec, events: &[Event]) -> Result<Page, AllocError> {
-    let roll = small_roll(alloc)?;
-    let mut page = Page::new(alloc);
-    for event in events {
-        print_event(event, &roll, spec, &mut page)?;
-    }
-    Ok(page)
+/// Prints an event of the log.
+fn print(event: Event, roll: &Roll, spec: &Spec, page: &mut Page) -> Result<(), AllocError> {
+    print_event(&event, roll, spec, page)
 }
 
 const LOG: &str = "line 7
@@ -65,20 +60,24 @@ fn log_lines(rt: HostRuntime) -> Result<(), Fail> {
         change: 9,
     };
     let ended = Seq::from_slice(rt.alloc(), &[SessionId(2), SessionId(1)])?;
-    let events = [
-        Event::Line(7),
-        Event::Admin(Admin::Join { instance: n1 }, Did::Joined(SessionId(3))),
-        Event::Admin(Admin::End { instance: n1 }, Did::Done),
-        Event::Admin(Admin::Tick { n: 5 }, Did::Ended(ended)),
-        Event::Begin(CONTROLLER, begun),
-        Event::Fetch {
-            instance: n1,
-            session: None,
-            count: 0,
-        },
-        Event::Write(SessionId(1), MsgId(1), Outcome::Failed),
-    ];
-    let page = printed(rt.alloc(), &spec, &events)?;
+    let roll = small_roll(rt.alloc())?;
+    let mut page = Page::new(rt.alloc());
+    print(Event::Line(7), &roll, &spec, &mut page)?;
+    let join = Event::Admin(Admin::Join { instance: n1 }, Did::Joined(SessionId(3)));
+    print(join, &roll, &spec, &mut page)?;
+    let end = Event::Admin(Admin::End { instance: n1 }, Did::Done);
+    print(end, &roll, &spec, &mut page)?;
+    let tick = Event::Admin(Admin::Tick { n: 5 }, Did::Ended(ended));
+    print(tick, &roll, &spec, &mut page)?;
+    print(Event::Begin(CONTROLLER, begun), &roll, &spec, &mut page)?;
+    let fetch = Event::Fetch {
+        instance: n1,
+        session: None,
+        count: 0,
+    };
+    print(fetch, &roll, &spec, &mut page)?;
+    let write = Event::Write(SessionId(1), MsgId(1), Outcome::Failed);
+    print(write, &roll, &spec, &mut page)?;
     assert_eq!(rt; page.as_bytes(), LOG.as_bytes());
     Ok(())
 }

@@ -7,7 +7,7 @@ use Rattle.hx_words.specs.declared.WordsFault.TheVariants as faults
 use Rattle.hx_words.specs.Tasks.{asked_by}
 use Rattle.hx_app.specs.Runs.{SourceAt}
 use Rattle.hx_app.specs.Writes.{SinkAt}
-use Rattle.hx_app.proofs.Statuses.{as_asked, tells_usage, tells_version, refuses_words, is_refused, words_unheard}
+use Rattle.hx_app.proofs.Promised.{as_asked, tells_usage, tells_version, refuses_words, is_refused, words_unheard}
 use Rattle.hx_app.proofs.program.run.Goals as goal
 
 pub returns-in-Ok-Run : goal.returns-in-Ok-Run

@@ -1,8 +1,8 @@
 use Rattle.std.proofs.Common.{refl, inl, inr}
-use Rattle.hx_answers.specs.Answers.{read_fault, too_long}
+use Rattle.hx_app.specs.Replies.{read_fault, too_long}
 use Rattle.hx_app.specs.Runs.{SourceAt}
 use Rattle.hx_app.specs.Writes.{SinkAt}
-use Rattle.hx_app.proofs.Statuses.{runs_answer}
+use Rattle.hx_app.proofs.Promised.{runs_answer}
 use Rattle.hx_app.proofs.program.run_input.Goals as goal
 
 pub returns-in-Err-Failed : goal.returns-in-Err-Failed

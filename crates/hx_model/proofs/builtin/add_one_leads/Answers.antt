@@ -1,4 +1,5 @@
-use Rattle.std.proofs.Common.{◌≡◌, ℕ, List, length, take, IfOk, sym, ap, ◌∙◌, subst}
+use Rattle.std.proofs.Common.{◌≡◌, ℕ, List, length, take, IfOk, sym, ap, ◌∙◌, subst, arith}
+use Rattle.std.proofs.lemmas.Grind.{common_steps}
 use Rattle.hx_model.specs.declared.ModelParts.{ModelParts}
 use Rattle.hx_model.specs.Builtin.{AreStates}
 use Rattle.hx_model.proofs.Named.{states_more, take_more}
@@ -31,3 +32,9 @@ returns-clause-kept c = (three_named c.args.names.now c.state_of.new.names c.sta
 
 pub returns-clause-states : goal.returns-clause-states
 returns-clause-states c = (three_named c.args.names.now c.state_of.new.names c.state_of-2.new.names c.state_of-3.new.names c.args.leader.now c.args.follower.now c.in_ok-leader.leader c.in_ok-follower.follower c.in_ok-offline.offline c.requires.states c.requires.new c.in_ok-leader.ensures.names c.in_ok-follower.ensures.names c.in_ok-offline.ensures.names c.in_ok-leader.ensures.state c.in_ok-follower.ensures.state c.in_ok-offline.ensures.state).states
+
+pub returns-in_err-leader-clause-kept : goal.returns-in_err-leader-clause-kept
+returns-in_err-leader-clause-kept c = grind (arith, common_steps)
+
+pub returns-in_err-follower-clause-kept : goal.returns-in_err-follower-clause-kept
+returns-in_err-follower-clause-kept c = grind (arith, common_steps)

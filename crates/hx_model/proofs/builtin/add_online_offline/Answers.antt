@@ -1,4 +1,5 @@
-use Rattle.std.proofs.Common.{◌≡◌, ℕ, List, length, take, codes, IfOk, sym, ap, ◌∙◌, subst}
+use Rattle.std.proofs.Common.{◌≡◌, ℕ, List, length, take, codes, IfOk, sym, ap, ◌∙◌, subst, arith}
+use Rattle.std.proofs.lemmas.Grind.{common_steps}
 use Rattle.hx_model.specs.declared.ModelParts.{ModelParts}
 use Rattle.hx_model.specs.Builtin.{AreStates}
 use Rattle.hx_model.proofs.Named.{states_more}
@@ -25,3 +26,6 @@ returns-clause-kept c = (two_named c.args.names.now c.state_of.new.names c.state
 
 pub returns-clause-states : goal.returns-clause-states
 returns-clause-states c = (two_named c.args.names.now c.state_of.new.names c.state_of-2.new.names c.in_ok-online.online c.in_ok-offline.offline c.requires.states c.in_ok-online.ensures.names c.in_ok-offline.ensures.names c.in_ok-online.ensures.state c.in_ok-offline.ensures.state).states
+
+pub returns-in_err-online-clause-kept : goal.returns-in_err-online-clause-kept
+returns-in_err-online-clause-kept c = grind (arith, common_steps)

@@ -1,4 +1,5 @@
-use Rattle.std.proofs.Common.{◌++◌, drop, sym, ap, ◌∙◌}
+use Rattle.std.proofs.Common.{◌++◌, drop, sym, ap, ◌∙◌, arith}
+use Rattle.std.proofs.lemmas.Grind.{common_steps}
 use Rattle.std.proofs.lemmas.List.{append-nil}
 use Rattle.hx_text.proofs.Printing.{prints_err}
 use Rattle.hx_print.proofs.Placed.{placed_lines-past, puts_placed}
@@ -15,3 +16,9 @@ returns-in_err-print_placed c =
     prints_err _ _ _ _ c.from_residual.result c.from_residual.ensures.1
     (puts_placed c.args.spec.now c.args.names.now c.args.proposals.now c.args.placed.now c.loop-i.i _ c.in-Some.answer.now _ c.loop-i.page _
     c.loop-i-test.true some.3.0 some.1 c.loop-i.invariant c.in_err-print_placed.ensures.err)
+
+pub loop-i-preserved : goal.loop-i-preserved
+loop-i-preserved c = grind (arith, common_steps)
+
+pub returns : goal.returns
+returns c = grind (arith, common_steps)

@@ -7,7 +7,7 @@ use Rattle.hx_cluster.specs.declared.state.Cluster.{Cluster}
 use Rattle.hx_cluster.specs.Ends.{is_session}
 use Rattle.hx_cluster.specs.Steps.{is_of, live_of}
 use Rattle.hx_safe.proofs.Ends.{find-filter_none}
-use Rattle.hx_tallies.proofs.Listed.{IsListed, listed_kept, listed_unsent}
+use Rattle.hx_slots.proofs.Listed.{IsListed, listed_kept, listed_unsent}
 use Rattle.hx_records.proofs.Ending.{of_message, of_row, none_left}
 use Rattle.hx_records.proofs.Insides.{seated_on, left}
 use Rattle.hx_records.proofs.Records.end_session.Goals as goal

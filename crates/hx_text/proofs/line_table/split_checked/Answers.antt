@@ -19,3 +19,9 @@ loop-rest-preserved c =
     let faultless = ap (λ n. line_fault c.args.most (n + 1) c.split_line.result.0.now) (sym c.len.ensures) ∙ c.in_ok-text.ensures.ok.1 in
     let new_is = c.in_ok-push.ensures.ok ∙ ap (λ (l : List ℕ). c.loop-rest.lines ++ l ∷ []) line_is in
     taken_more c.args.most c.args.bytes.now c.loop-rest.rest.now c.split_line.result.0.now c.split_line.result.1.now _ _ some c.loop-rest.invariant c.split_line.ensures.line c.split_line.ensures.rest faultless new_is
+
+pub loop-rest-smaller : goal.loop-rest-smaller
+loop-rest-smaller c = grind (arith, common_steps)
+
+pub returns-clause-ok : goal.returns-clause-ok
+returns-clause-ok c = grind (arith, common_steps)

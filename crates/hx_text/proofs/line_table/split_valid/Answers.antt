@@ -19,3 +19,9 @@ loop-rest-preserved c =
       search rules,
       taken_more c.args.most c.args.text.now c.loop-rest.rest.now c.split_text.result.0.now c.split_text.result.1.now _ _ some c.loop-rest.invariant.1 c.split_text.ensures.line c.split_text.ensures.rest faultless c.in_ok-push.ensures.ok,
     )
+
+pub loop-rest-smaller : goal.loop-rest-smaller
+loop-rest-smaller c = grind (arith, common_steps)
+
+pub returns-clause-ok : goal.returns-clause-ok
+returns-clause-ok c = grind (arith, common_steps)

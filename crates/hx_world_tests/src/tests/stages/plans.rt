@@ -17,12 +17,11 @@ use hx_formed::is_well_formed;
 use hx_ids::{InstanceId, MsgId, SessionId, StateId};
 use hx_lists::Seq;
 use hx_model::{DROPPED, ERROR};
-use hx_pass::{draft, plan};
-use hx_planner::Planner;
+use hx_parts::ViewIndex;
+use hx_pass::{Planner, draft, plan};
 use hx_report::report;
 use hx_select::{accepted_on, select};
 use hx_throttle::{sent_on, throttle};
-use hx_views::ViewIndex;
 use std::alloc::Global;
 use std::process::Abort;
 

@@ -4,7 +4,7 @@ use Rattle.hx_cluster.specs.Steps.{opening}
 use Rattle.hx_cluster.specs.Safe.{SafeAlong}
 use Rattle.hx_cluster.specs.Runs.{IsOneRunEach}
 use Rattle.hx_safe.proofs.Whole.{valid_safe}
-use Rattle.hx_runs.proofs.OneRun.{one_run_each}
+use Rattle.hx_safe.proofs.OneRun.{one_run_each}
 use Rattle.hx_board.specs.Board.{Held, held, lines_in, IsBoard, HasHistory}
 use Rattle.hx_board.specs.declared.board.Board.TheInside.{Inside}
 use Rattle.hx_board.proofs.board.Board.history.Goals as goal

@@ -1,4 +1,5 @@
-use Rattle.std.proofs.Common.{◌++◌, ◌∷◌, [], sym, ap, ◌∙◌}
+use Rattle.std.proofs.Common.{◌++◌, ◌∷◌, [], sym, ap, ◌∙◌, arith}
+use Rattle.std.proofs.lemmas.Grind.{common_steps}
 use Rattle.hx_lists.specs.Log.{Log}
 use Rattle.hx_cluster.specs.declared.happenings.Event.{Event}
 use Rattle.hx_history.proofs.Columns.{told_words, told_whole}
@@ -19,3 +20,9 @@ returns-clause-items c =
     (told_words a.kinds.items b.kind a.words.items c.words.result.now a.whole.items c.args.value c.self.invariant.fit
     (record { words = c.words.ensures.many; kept = sym tells.alone; event = rw c.words.ensures.words tells.words })
     ∙ ap (λ (l : Log Event). l.items ++ c.args.value ∷ []) c.self.view_is)
+
+pub invariant_of-self : goal.invariant_of-self
+invariant_of-self c = grind (arith, common_steps)
+
+pub invariant_of-self-2 : goal.invariant_of-self-2
+invariant_of-self-2 c = grind (arith, common_steps)

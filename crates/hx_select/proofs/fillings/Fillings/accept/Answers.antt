@@ -1,6 +1,6 @@
 use Rattle.std.specs.BTreeMap.{get}
 use Rattle.std.specs.BTreeSet.{contains}
-use Rattle.hx_views.specs.Index.{count_in}
+use Rattle.hx_parts.specs.Index.{count_in}
 use Rattle.hx_select.specs.Fillings.{end_cmp, taken_cmp}
 use Rattle.hx_select.proofs.Filling.{counted_more, held_more}
 use Rattle.hx_select.proofs.fillings.Fillings.accept.Goals as goal

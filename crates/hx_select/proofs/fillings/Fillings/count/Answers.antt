@@ -1,6 +1,6 @@
 use Rattle.std.proofs.Common.{◌∙◌, sym}
 use Rattle.std.specs.BTreeMap.{get}
-use Rattle.hx_views.specs.Index.{count_in}
+use Rattle.hx_parts.specs.Index.{count_in}
 use Rattle.hx_select.specs.Fillings.{end_cmp}
 use Rattle.hx_select.proofs.Filling.{counted_anew}
 use Rattle.hx_select.proofs.fillings.Fillings.count.Goals as goal

@@ -1,4 +1,5 @@
 use Rattle.std.proofs.Common.{◌≡◌, ◌∙◌, ℕ, ◌+◌, ◌++◌, ◌∷◌, [], true, false, List, Some, refl, sym, ap, subst, arith}
+use Rattle.std.proofs.lemmas.Grind.{common_steps}
 use Rattle.std.specs.Prelude.{nat_lt, is_some, Option}
 use Rattle.std.proofs.Math.ListN.{set}
 use Rattle.std.proofs.lemmas.Bool.Decides.{nat_tests}
@@ -58,3 +59,12 @@ returns-clause-kept c = λ models accepted are limit.
     let is = room (goal.at.returns-clause-kept c).After-index models accepted are c.args.bound limit in
     let none : has_room models c.args.index.now accepted c.args.candidate.now ≡ false = grind (arith, nat_tests, is, c.if-count-bound.false) in
     unjudged models c.args.index.now accepted c.args.candidate.now c.place_of.new.self.part c.place_of.new.self.fillings.items none (c.in_ok-place.ensures.kept models accepted are)
+
+pub returns-in_err-place-clause-answer : goal.returns-in_err-place-clause-answer
+returns-in_err-place-clause-answer c = grind (arith, common_steps)
+
+pub returns-in_err-place-clause-kept : goal.returns-in_err-place-clause-kept
+returns-in_err-place-clause-kept c = grind (arith, common_steps)
+
+pub returns-in_err-place-clause-part : goal.returns-in_err-place-clause-part
+returns-in_err-place-clause-part c = grind (arith, common_steps)

@@ -1,5 +1,0 @@
-use Rattle.hx_covers.proofs.Whole.{turn_law}
-use Rattle.hx_covers.proofs.legal_turns_keep_their_shape.Goals as goal
-
-pub returns : goal.returns
-returns c = λ spec h k valid legal. turn_law spec valid h legal k

@@ -1,3 +1,0 @@
-pub mod Reading
-pub mod Covers
-pub mod Gate

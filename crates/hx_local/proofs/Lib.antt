@@ -1,9 +1,0 @@
-pub mod Sorted
-pub mod OneByPart
-pub mod Filtered
-pub mod Marked
-pub mod Alone
-pub mod Accepted
-pub mod Again
-pub mod Posted
-pub mod FormedAgain

@@ -1,5 +1,0 @@
-use Rattle.hx_local.proofs.Again.{accepted_again}
-use Rattle.hx_local.proofs.accepted_candidates_are_found_by_part.Goals as goal
-
-pub returns : goal.returns
-returns c = λ models marked v w differ out spliced. accepted_again models marked v w differ out spliced

@@ -1,5 +1,0 @@
-use Rattle.hx_local.proofs.Posted.{posted_again}
-use Rattle.hx_local.proofs.posted_rows_are_found_by_part.Goals as goal
-
-pub returns : goal.returns
-returns c = λ marked v w differ out spliced. posted_again marked v w differ out spliced

@@ -1,9 +1,0 @@
-pub mod Cases
-pub mod LineFeeds
-pub mod Bytes
-pub mod Texts
-pub mod Values
-pub mod Cuts
-pub mod Scripts
-pub mod Descriptions
-pub mod Lengths

@@ -1,5 +1,0 @@
-use Rattle.hx_made.proofs.Descriptions.{input_spec-made}
-use Rattle.hx_made.proofs.made_descriptions_are_read.Goals as goal
-
-pub returns : goal.returns
-returns c = input_spec-made

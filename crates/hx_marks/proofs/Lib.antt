@@ -1,4 +1,0 @@
-pub mod Stretches
-pub mod Pieces
-pub mod InPlace
-pub mod Cells

@@ -1,7 +1,0 @@
-use Rattle.std.proofs.Common.{◌≡◌, ◌++◌, drop}
-use Rattle.hx_marks.specs.Marks.{marked_from}
-use Rattle.hx_marks.proofs.Marks.parts.Given as goal
-
--- with those of the resources that are left the parts are all
-abbrev pub invariant-loop-place : goal.invariant-loop-place
-invariant-loop-place l = l.parts.items ++ marked_from l.place (drop l.place l.cells) ≡ marked_from 0 l.cells

@@ -1,2 +1,0 @@
-pub mod ModelForm
-pub mod Tables

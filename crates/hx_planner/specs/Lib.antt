@@ -1,3 +1,0 @@
-pub mod Drafted
-pub mod Kept
-pub mod Known

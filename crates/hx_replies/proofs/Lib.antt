@@ -1,9 +1,0 @@
-pub mod Given
-pub mod Inputs
-pub mod Numbers
-pub mod Along
-pub mod Staff
-pub mod Opening
-pub mod Ended
-pub mod Answered
-pub mod Made

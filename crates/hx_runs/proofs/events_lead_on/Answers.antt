@@ -1,5 +1,0 @@
-use Rattle.hx_runs.proofs.On.{on_next}
-use Rattle.hx_runs.proofs.events_lead_on.Goals as goal
-
-pub returns : goal.returns
-returns c = λ cl safe e. on_next cl e safe.sessions.numbers

@@ -1,5 +1,0 @@
-use Rattle.hx_runs.proofs.OneRun.{one_run_each}
-use Rattle.hx_runs.proofs.legal_has_one_run_each.Goals as goal
-
-pub returns : goal.returns
-returns c = one_run_each
