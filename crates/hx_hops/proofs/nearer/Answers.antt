@@ -1,4 +1,5 @@
-use Rattle.std.proofs.Common.{◌≡◌, ◌+◌, ◌==◌, ◌&&◌, Bool, true, false, [], ◌∷◌, find, get_or, None, sym, ap, ◌∙◌}
+use Rattle.std.proofs.Common.{◌≡◌, ◌+◌, ◌==◌, ◌&&◌, Bool, true, false, [], ◌∷◌, find, get_or, None, sym, ap, ◌∙◌, arith}
+use Rattle.std.proofs.lemmas.Grind.{common_steps}
 use Rattle.std.specs.Prelude.{if◌then◌else◌}
 use Rattle.hx_ids.specs.declared.StateId.{StateId}
 use Rattle.hx_model.specs.Model.{error}
@@ -21,3 +22,12 @@ returns-then-is_nearer c =
     let apart : (from.0 == goal.0) ≡ false = sym c.eq.ensures ∙ c.if-eq.false in
     step_taken p from m.transitions items i d (if from.0 == 0 then m.initial ∷ [] else []) (find p (steps_from m from)) c.transitions-step-items.ensures c.loop-step-test.true ((λ k. here k && p (get_or items i d).1) ∙ near) c.loop-step.invariant
     ∙ sym (ap (λ (b : Bool). if b then None else find p (steps_from m from)) apart)
+
+pub loop-step-preserved : goal.loop-step-preserved
+loop-step-preserved c = grind (arith, common_steps)
+
+pub returns-then-is_nearer-2 : goal.returns-then-is_nearer-2
+returns-then-is_nearer-2 c = grind (arith, common_steps)
+
+pub returns : goal.returns
+returns c = grind (arith, common_steps)

@@ -1,4 +1,5 @@
-use Rattle.std.proofs.Common.{◌+◌, ◌∙◌, get_or, sym, ap}
+use Rattle.std.proofs.Common.{◌+◌, ◌∙◌, get_or, sym, ap, arith}
+use Rattle.std.proofs.lemmas.Grind.{common_steps}
 use Rattle.std.specs.Prelude.{is_some}
 use Rattle.hx_throttle.proofs.Walk.{keyed_is, all_sent, found_some, sent_where_none, sifted_sent, sifted_held, sifted_same}
 use Rattle.hx_throttle.proofs.sent_on.Goals as goal
@@ -26,3 +27,6 @@ loop-candidate-preserved c =
 
 pub returns-then-is_empty : goal.returns-then-is_empty
 returns-then-is_empty c = all_sent c.args.rules.now c.args.view.now c.args.accepted.now c.from_slice.result (sym c.is_empty.ensures ∙ c.if-is_empty.true) c.from_slice.ensures
+
+pub returns : goal.returns
+returns c = grind (arith, common_steps)

@@ -1,4 +1,5 @@
-use Rattle.std.proofs.Common.{◌+◌, ◌∙◌, ◌++◌, ◌∷◌, [], get_or, sym, ap}
+use Rattle.std.proofs.Common.{◌+◌, ◌∙◌, ◌++◌, ◌∷◌, [], get_or, sym, ap, arith}
+use Rattle.std.proofs.lemmas.Grind.{common_steps}
 use Rattle.std.specs.Prelude.{option_map}
 use Rattle.hx_cluster.specs.declared.planning.Held.{Held}
 use Rattle.hx_throttle.specs.Loads.{held_as}
@@ -25,3 +26,6 @@ loop-candidate-preserved c =
           walked_same rules view accepted (at.candidate-index + 1) _ _ _ _ _ _ (sym (w.sent-is ∙ w.in_ok-push-in-None.ensures.ok)) (sym w.held-is) (sym w.loads-is)
           (walked_sent rules view accepted at.candidate-index at.sent at.held at.loads w.count.new.loads no_candidate c.keyed-keyed.result is c.loop-candidate-test.true (sym found ∙ ap (option_map (held_as candidate)) w.in-None.is) w.in_ok-count-in-None.ensures at.invariant)
     ]
+
+pub returns : goal.returns
+returns c = grind (arith, common_steps)

@@ -8,12 +8,6 @@ returns-in_err-rules c =
     λ whole.
     part_stopped _ _ _ _ _ c.from_residual.ensures.1 c.in_err-rules.ensures
 
-pub returns-in_err-table : goal.returns-in_err-table
-returns-in_err-table c =
-    λ whole.
-    reads_behind _ _ _ _ c.in_ok-rules.ensures
-    (part_stopped _ _ _ _ _ c.from_residual-in_err-table.ensures.1 c.in_err-table.ensures)
-
 pub returns-in_err-failures : goal.returns-in_err-failures
 returns-in_err-failures c =
     λ whole.
@@ -28,3 +22,9 @@ returns c =
     (found_behind _ _ _ _ c.in_ok-table.ensures
     (found_behind _ _ _ _ c.in_ok-failures.ensures
     refl))
+
+pub returns-in_err-table : goal.returns-in_err-table
+returns-in_err-table c =
+    λ whole.
+    reads_behind _ _ _ _ c.in_ok-rules.ensures
+    (part_stopped _ _ _ _ _ c.from_residual-in_err-table.ensures.1 c.in_err-table.ensures)

@@ -1,4 +1,5 @@
 use Rattle.std.proofs.Common.{◌≡◌, ℕ, ◌+◌, ◌≤◌, List, ◌++◌, length, take, length-append, arith}
+use Rattle.std.proofs.lemmas.Grind.{common_steps}
 use Rattle.std.proofs.lemmas.List.{length-take-le}
 use Rattle.std.proofs.KnownBytes.{Consumes-trans}
 use Rattle.hx_io.proofs.whole.read_all.Goals as goal
@@ -22,3 +23,6 @@ returns-in_err-extend_from_slice-clause-short_of_memory g c = λ is.
       Consumes-trans _ _ _ _ _ c.loop-bytes.invariant.taken c.in_ok-n.ensures.bytes.0,
       omega (arith, both kept c.read.new.buf c.in_ok-n.n c.in_ok-n.ensures.bound.0, c.if-n-limit.false, c.len.ensures),
     )
+
+pub loop-bytes-preserved : goal.loop-bytes-preserved
+loop-bytes-preserved g c = grind (arith, common_steps)

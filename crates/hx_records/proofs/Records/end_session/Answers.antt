@@ -1,4 +1,5 @@
-use Rattle.std.proofs.Common.{◌≡◌, ◌≤◌, List, not, sym, ap, ◌∙◌, subst}
+use Rattle.std.proofs.Common.{◌≡◌, ◌≤◌, List, not, sym, ap, ◌∙◌, subst, arith}
+use Rattle.std.proofs.lemmas.Grind.{common_steps}
 use Rattle.std.specs.Prelude.{find, option_map}
 use Rattle.std.specs.List.{list_all}
 use Rattle.hx_lists.specs.Lists.{count}
@@ -41,3 +42,6 @@ invariant_of-self c =
     (ap (λ (x : Cluster). list_all (λ r. not (of_row s r)) x.rows) was ∙ none_left (of_row s) c.end_mail.new.self.rows)
     (ap (λ (x : Cluster). list_all (λ m. not (of_message s m)) x.mail) was ∙ ap (λ (x : Cluster). list_all (λ m. not (of_message s m)) x.mail) c.end_mail.ensures ∙ none_left (of_message s) c.args.self.now.mail)
     c.close.ensures.live c.close.ensures.next c.set.ensures
+
+pub overflow_sub-self : goal.overflow_sub-self
+overflow_sub-self c = grind (arith, common_steps)

@@ -1,4 +1,5 @@
 use Rattle.std.proofs.Common.{List, Option, length, ap, ◌∙◌, arith}
+use Rattle.std.proofs.lemmas.Grind.{common_steps}
 use Rattle.hx_ids.specs.declared.SessionId.{SessionId}
 use Rattle.hx_cluster.specs.declared.state.Cluster.{Cluster}
 use Rattle.hx_records.proofs.Reaching.{whole_reached}
@@ -20,3 +21,6 @@ returns c =
     shown_all c.loop-place.shown.items _ items c.loop-place.place (omega (arith, c.loop-place-test.false)) c.loop-place.invariant
     ∙ ap (shown_from 0) c.as_slice-seat-items.ensures
     ∙ rw (← c.self.view_is) (seats_sorted c.self.inside.sessions.live c.self.inside.seats c.self.invariant.seats (rw (← c.self.view_is) at whole.seated.instances))
+
+pub loop-place-preserved : goal.loop-place-preserved
+loop-place-preserved c = grind (arith, common_steps)

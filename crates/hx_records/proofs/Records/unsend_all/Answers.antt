@@ -1,4 +1,5 @@
 use Rattle.std.proofs.Common.{◌≡◌, ℕ, suc, ◌-◌, ◌≤◌, length, take, sym, subst, arith}
+use Rattle.std.proofs.lemmas.Grind.{common_steps}
 use Rattle.hx_cluster.specs.declared.state.Cluster.{Cluster}
 use Rattle.hx_cluster.specs.Messages.{after_proposals}
 use Rattle.hx_records.specs.Records.{IsPlacedFrom}
@@ -34,3 +35,6 @@ loop-left-preserved c =
           let was = placed_less x qs placed now left _ _ (omega (arith, test, old.few)) h.few here in
           subst (λ (d : Cluster). IsPlacedFrom x qs (take left placed) d) (sym (c.unsend_one.ensures (after_proposals x (take left qs)) was.last)) was.before;
     }
+
+pub loop-left-init : goal.loop-left-init
+loop-left-init c = grind (arith, common_steps)

@@ -1,4 +1,5 @@
 use Rattle.std.proofs.Common.{◌≡◌, ◌+◌, ◌<◌, length, get_or, drop, refl, ◌∙◌, arith}
+use Rattle.std.proofs.lemmas.Grind.{common_steps}
 use Rattle.std.specs.List.{sum_by}
 use Rattle.std.proofs.lemmas.List.{at_drop_all}
 use Rattle.std.proofs.lemmas.List.Edits.{map_over_more}
@@ -62,3 +63,6 @@ returns-clause-retired g c =
     let xs = c.args.slots.now.items in
     let none : sum_by count_of (drop c.loop-slot.slot-index xs) ≡ 0 = at_drop_all (λ ys. sum_by count_of ys) xs c.loop-slot.slot-index (rw c.deref_mut-slot-items.ensures.value at c.loop-slot-test.false) in
     omega (arith, none, c.loop-slot.invariant.balanced)
+
+pub returns-clause-slots : goal.returns-clause-slots
+returns-clause-slots g c = grind (arith, common_steps)

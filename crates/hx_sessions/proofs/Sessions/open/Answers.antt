@@ -1,4 +1,5 @@
 use Rattle.std.proofs.Common.{◌≤◌, ◌^◌, Some, refl, sym, ap, ◌∙◌, arith}
+use Rattle.std.proofs.lemmas.Grind.{common_steps}
 use Rattle.hx_sessions.specs.Places.{entries_of, IsOnlyList}
 use Rattle.hx_sessions.proofs.Keeping.{where_ok, where_err, same_gets, opened_kept, unopened_kept}
 use Rattle.hx_sessions.proofs.Sessions.open.Goals as goal
@@ -30,3 +31,6 @@ invariant_of-self-2 c =
     rw c.in_ok-order.ensures.list
     (opened_kept _ _ _ _ c.self.invariant c.in_ok-order.order c.reserve.new.self.lists c.push_reserved-node.result c.args.instance c.args.now one entries c.push_reserved-node.ensures.fresh
     c.push_reserved-node.new.self.lists c.insert.new.self.entries c.push_reserved-node.ensures.lists updates.0 (rw (← c.self.view_is) at c.requires.clock) (omega arith))
+
+pub returns-clause-ok : goal.returns-clause-ok
+returns-clause-ok c = grind (arith, common_steps)

@@ -3,11 +3,11 @@ use Rattle.hx_cluster.specs.declared.happenings.Event.TheVariants as events
 use Rattle.hx_board.proofs.Growing.{roomy, shown}
 use Rattle.hx_board.proofs.board.Board.read_states_into.Goals as goal
 
+pub invariant_of-self-2 : goal.invariant_of-self-2
+invariant_of-self-2 c = shown c.self.inside _ _ _ _ c.args.pass (events.States c.args.c c.args.pass c.args.session) c.self.invariant c.self.view_is c.requires (sym c.read_fault.ensures ∙ c.in_default.is) (λ now. now) refl refl refl c.in_ok-make_room.ensures c.record.ensures
+
 pub invariant_of-self : goal.invariant_of-self
 invariant_of-self c = roomy c.self.inside c.make_room.new.history c.self.invariant c.in_err-make_room.ensures.items c.in_err-make_room.ensures.spare
 
 pub invariant_of-self-in_err-read_states_into : goal.invariant_of-self-in_err-read_states_into
 invariant_of-self-in_err-read_states_into c = roomy c.self.inside c.make_room.new.history c.self.invariant c.in_ok-make_room.ensures.items c.in_ok-make_room.ensures.spare
-
-pub invariant_of-self-2 : goal.invariant_of-self-2
-invariant_of-self-2 c = shown c.self.inside _ _ _ _ c.args.pass (events.States c.args.c c.args.pass c.args.session) c.self.invariant c.self.view_is c.requires (sym c.read_fault.ensures ∙ c.in_default.is) (λ now. now) refl refl refl c.in_ok-make_room.ensures c.record.ensures

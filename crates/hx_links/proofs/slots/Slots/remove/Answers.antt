@@ -1,4 +1,5 @@
 use Rattle.std.proofs.Common.{arith}
+use Rattle.std.proofs.lemmas.Grind.{common_steps}
 use Rattle.std.proofs.lemmas.List.{map-set}
 use Rattle.hx_links.specs.declared.slots.Slot.TheVariants.{Vacant, Held}
 use Rattle.hx_links.proofs.Vacancy.{held_at, held-set, IsLaidOut-vacate}
@@ -17,3 +18,6 @@ returns-clause-held g c =
     let found = held_at c.self.inside.slots.items c.args.node (rw (← c.self.view_is) at c.requires) in
     let counted = held-set c.self.inside.slots.items c.args.node.0 (Held found.0) (Vacant c.self.inside.vacant) found.1 in
     rw (← c.self.view_is, c.replace.ensures.after) (omega arith)
+
+pub index_mut-requires : goal.index_mut-requires
+index_mut-requires g c = grind (arith, common_steps)

@@ -1,3 +1,5 @@
+use Rattle.std.proofs.Common.{arith}
+use Rattle.std.proofs.lemmas.Grind.{common_steps}
 use Rattle.hx_links.specs.Slots.{with_next}
 use Rattle.hx_links.proofs.Vacancy.{changed}
 use Rattle.hx_links.proofs.slots.Slots.set_next.Goals as goal
@@ -7,3 +9,6 @@ invariant_of-self g c = (changed _ _ _ _ _ _ (with_next c.args.next) _ _ c.self.
 
 pub returns : goal.returns
 returns g c = (changed _ _ _ _ _ _ (with_next c.args.next) _ _ c.self.invariant c.self.view_is c.index_mut.ensures.value c.in-Held.is c.requires).told
+
+pub index_mut-requires : goal.index_mut-requires
+index_mut-requires c = grind (arith, common_steps)

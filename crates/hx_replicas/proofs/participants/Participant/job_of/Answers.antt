@@ -1,4 +1,5 @@
-use Rattle.std.proofs.Common.{◌≡◌, rules, refl, sym, None}
+use Rattle.std.proofs.Common.{◌≡◌, rules, refl, sym, None, arith}
+use Rattle.std.proofs.lemmas.Grind.{common_steps}
 use Rattle.std.specs.List.{position}
 use Rattle.hx_replicas.specs.Layout.{has_number}
 use Rattle.hx_replicas.proofs.Placing.{accepted-none, accepted-some}
@@ -49,3 +50,6 @@ returns g c =
       rest = one.rest;
       ledger = now.ledger;
     }
+
+pub returns-in_default-clause-ledger : goal.returns-in_default-clause-ledger
+returns-in_default-clause-ledger g c = grind (arith, common_steps)

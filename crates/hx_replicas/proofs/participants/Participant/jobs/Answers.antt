@@ -1,4 +1,5 @@
 use Rattle.std.proofs.Common.{arith, rules, refl, sym, ◌∙◌, []}
+use Rattle.std.proofs.lemmas.Grind.{common_steps}
 use Rattle.std.proofs.lemmas.Result.{err_from_is_err_and}
 use Rattle.hx_replicas.specs.Participants.{accepted_all}
 use Rattle.hx_replicas.specs.Batches.{IsReadied}
@@ -85,3 +86,6 @@ returns-in_err-ready_all-clause-ledger g c =
 pub returns-in_err-jobs-clause-ledger : goal.returns-in_err-jobs-clause-ledger
 returns-in_err-jobs-clause-ledger g c =
     c.ready_all.ensures.ledger
+
+pub returns-in_err-messages-clause-ledger : goal.returns-in_err-messages-clause-ledger
+returns-in_err-messages-clause-ledger g c = grind (arith, common_steps)

@@ -1,4 +1,5 @@
-use Rattle.std.proofs.Common.{sym, ◌∙◌, vec_len}
+use Rattle.std.proofs.Common.{sym, ◌∙◌, vec_len, arith}
+use Rattle.std.proofs.lemmas.Grind.{common_steps}
 use Rattle.hx_replicas.specs.Queues.{entries_of}
 use Rattle.hx_replicas.proofs.Queues.{here, one_passed, only_entries, only_held}
 use Rattle.hx_replicas.proofs.queue.Queue.waiting.Goals as goal
@@ -20,3 +21,6 @@ loop-at-preserved c =
     let next = c.next-at.ensures ∙ next_of_one lists es c.in-Some.node only there in
     let passed = one_passed es (vec_len c.loop-at.found) c.loop-at.at c.loop-at.found.items c.in-Some.node c.self.invariant.once c.loop-at.invariant c.in-Some.is c.get.result.now value in
     rw (c.in_ok-push.ensures.items, c.in_ok-push.ensures.len, next) passed
+
+pub loop-at-smaller : goal.loop-at-smaller
+loop-at-smaller c = grind (arith, common_steps)
