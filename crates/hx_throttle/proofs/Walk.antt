@@ -103,6 +103,41 @@ pub record IsWalked (rules : List Rule) (view : View) (accepted : List Candidate
   pub sifted : IsSifted rules view accepted i sent table
   pub holding : held ++ left_after (is_sent rules view) (said rules view) sent (drop i accepted) ≡ held_of rules view accepted
 
+-- a candidate that no rule holds back is sent, and then it is counted
+pub chosen_sent : (rules : List Rule) (view : View) (sent : List Candidate) (c : Candidate) → is_sent rules view sent c ≡ true
+    → sent ++ c ∷ [] ≡ with_chosen (is_sent rules view) sent c
+chosen_sent rules view sent c is = ap (λ (b : Bool). sent ++ (if b then c ∷ [] else [])) (sym is)
+
+pub loads_sent : (rules : List Rule) (view : View) (sent : List Candidate) (old new : Table) (c : Candidate) (k : Keyed)
+    → k ≡ keyed_of view.live (transition_of c)
+    → ((n : ℕ) (r : Rule) (key : ℕ) → slice_get rules n ≡ Some r → load_at new n key ≡ load_at old n key + (if counts_under r key k then 1 else 0))
+    → AreLoads rules (loading view sent) old → AreLoads rules (loading view (sent ++ c ∷ [])) new
+loads_sent rules view sent old new c k is_its more loads = λ n r key at.
+    more n r key at
+    ∙ ap (λ (m : ℕ). m + (if counts_under r key k then 1 else 0)) (loads n r key at)
+    ∙ ap (λ (x : Keyed). loading view sent r key + (if counts_under r key x then 1 else 0)) is_its
+    ∙ ap (λ (b : Bool). loading view sent r key + (if b then 1 else 0)) (counted_found view.live r key (transition_of c))
+    ∙ omega (arith, count-push (counts_too view r key) sent c)
+
+-- one that a rule holds back isn't
+pub chosen_held : (rules : List Rule) (view : View) (sent : List Candidate) (c : Candidate) → is_sent rules view sent c ≡ false
+    → sent ≡ with_chosen (is_sent rules view) sent c
+chosen_held rules view sent c is = sym (ap (λ (b : Bool). sent ++ (if b then c ∷ [] else [])) is ∙ append-nil sent)
+
+-- one candidate more is judged
+pub sifted_next : (rules : List Rule) (view : View) (accepted : List Candidate) (i : ℕ) (sent new_sent : List Candidate) (table new_table : Table) (d : Candidate)
+    → i < length accepted → new_sent ≡ with_chosen (is_sent rules view) sent (get_or accepted i d) → AreLoads rules (loading view new_sent) new_table
+    → IsSifted rules view accepted i sent table → IsSifted rules view accepted (i + 1) new_sent new_table
+sifted_next rules view accepted i sent new_sent table new_table d lt sent_is loads w =
+    let rest = drop (i + 1) accepted in
+    record {
+      sending =
+          ap (λ (xs : List Candidate). fold (with_chosen (is_sent rules view)) xs rest) sent_is
+          ∙ sym (at_drop_more (fold (with_chosen (is_sent rules view)) sent) accepted i d lt)
+          ∙ w.sending;
+      loaded = loads;
+    }
+
 -- where there are no rules all are sent
 all_chosen : (view : View) (sent accepted : List Candidate) → fold (with_chosen (is_sent [] view)) sent accepted ≡ sent ++ accepted
 all_chosen view sent [] = sym (append-nil sent)

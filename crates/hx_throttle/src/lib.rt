@@ -5,15 +5,17 @@ mod loads;
 mod shown;
 mod table;
 
-ghost use Rattle.std.specs.Prelude.{◌≡◌, List, Bool, IfOk};
+ghost use Rattle.std.specs.Prelude.{◌≡◌, List, Bool, IfOk, OnOk};
 ghost use Rattle.std.specs.List.{items_where_true};
 ghost use Rattle.hx_cluster.specs.declared.description.Rule.{Rule};
 ghost use Rattle.hx_cluster.specs.declared.planning.View.{View};
 ghost use Rattle.hx_cluster.specs.declared.planning.Candidate.{Candidate};
-ghost use Rattle.hx_throttle.specs.Loads.{transition_of};
-ghost use Rattle.hx_throttle.specs.Throttle.{sent_of, throttled, IsSending};
+ghost use Rattle.hx_lists.specs.Choices.{with_chosen};
+ghost use Rattle.hx_throttle.specs.Loads.{AreLoads, transition_of};
+ghost use Rattle.hx_throttle.specs.Throttle.{loading, is_sent, sent_of, throttled, IsSending};
 
 use crate::loads::{count, first_holding, held_back, shown_loads};
+use crate::table::Loads;
 use hx_cluster::{Candidate, Proposal, Rule, Spec, Throttled, View};
 use hx_lists::Seq;
 pub use shown::Shown;
@@ -78,13 +80,34 @@ pub fn sent_on(
     let mut sent = Seq::new(alloc);
     sent.reserve(accepted.len().min(FEW))?;
     for candidate in accepted {
-        let keyed = shown.keyed(&transition(candidate));
-        if first_holding(&loads, rules, keyed).is_none() {
-            count(&mut loads, rules, keyed)?;
-            sent.push(*candidate)?;
-        }
+        send_if_allowed(&shown, &mut loads, rules, candidate, &mut sent)?;
     }
     Ok(sent)
+}
+
+/// Sends a candidate if no rule holds it back.
+#[inline(always)]
+fn send_if_allowed(
+    shown: &Shown,
+    loads: &mut Loads,
+    rules: &[Rule],
+    candidate: &Candidate,
+    sent: &mut Seq<Candidate>,
+) -> Result<(), AllocError>
+    ensures chosen { OnOk result ((view : View) → shown.now ≡ view.live
+        → AreLoads rules.now (loading view sent.old) loads.old
+        → sent.new ≡ with_chosen (is_sent rules.now view) sent.old candidate.now) }
+    ensures counted { OnOk result ((view : View) → shown.now ≡ view.live
+        → AreLoads rules.now (loading view sent.old) loads.old
+        → AreLoads rules.now (loading view sent.new) loads.new) }
+{
+    let keyed = shown.keyed(&transition(candidate));
+    if first_holding(loads, rules, keyed).is_some() {
+        return Ok(());
+    }
+    count(loads, rules, keyed)?;
+    sent.push(*candidate)?;
+    Ok(())
 }
 
 fn transition(candidate: &Candidate) -> Proposal
