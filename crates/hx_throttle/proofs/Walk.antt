@@ -14,10 +14,11 @@ use Rattle.hx_throttle.specs.Table.{Table, load_at}
 use Rattle.hx_cluster.specs.declared.description.Rule.{Rule}
 use Rattle.hx_cluster.specs.declared.description.Scope.TheVariants as scopes
 use Rattle.hx_cluster.specs.declared.happenings.Proposal.{Proposal}
+use Rattle.hx_cluster.specs.declared.state.Message.{Message}
 use Rattle.hx_cluster.specs.declared.planning.View.{View}
 use Rattle.hx_cluster.specs.declared.planning.Candidate.{Candidate}
 use Rattle.hx_cluster.specs.declared.planning.Held.{Held}
-use Rattle.hx_cluster.specs.Ends.{matches}
+use Rattle.hx_cluster.specs.Ends.{matches, load_over}
 use Rattle.hx_throttle.specs.declared.shown.Keyed.{Keyed}
 use Rattle.hx_throttle.specs.Throttle.{key_for, counts_too, loading, holds_back, is_sent, held_by, sent_of, held_of}
 use Rattle.hx_throttle.specs.Loads.{AreLoads, keyed_of, key_in, counts_under, transition_of}
@@ -103,6 +104,14 @@ pub record IsWalked (rules : List Rule) (view : View) (accepted : List Candidate
   pub sifted : IsSifted rules view accepted i sent table
   pub holding : held ++ left_after (is_sent rules view) (said rules view) sent (drop i accepted) ≡ held_of rules view accepted
 
+-- at first the loads are those of the messages that are shown
+pub loads_first : (rules : List Rule) (view : View) (live : List (SessionId × InstanceId)) (mail : List Message) (table : Table)
+    → live ≡ view.live → mail ≡ view.mail → AreLoads rules (load_over live mail) table → AreLoads rules (loading view []) table
+loads_first rules view live mail table live_is mail_is loads = λ n r key at.
+    let over : load_over live mail r key ≡ load_over view.live view.mail r key =
+    ap (λ (l : List (SessionId × InstanceId)). load_over l mail r key) live_is ∙ ap (λ (m : List Message). load_over view.live m r key) mail_is in
+    loads n r key at ∙ over ∙ omega arith
+
 -- a candidate that no rule holds back is sent, and then it is counted
 pub chosen_sent : (rules : List Rule) (view : View) (sent : List Candidate) (c : Candidate) → is_sent rules view sent c ≡ true
     → sent ++ c ∷ [] ≡ with_chosen (is_sent rules view) sent c
@@ -136,6 +145,36 @@ sifted_next rules view accepted i sent new_sent table new_table d lt sent_is loa
           ∙ sym (at_drop_more (fold (with_chosen (is_sent rules view)) sent) accepted i d lt)
           ∙ w.sending;
       loaded = loads;
+    }
+
+-- of a candidate that is sent nothing is said
+said_left : (rules : List Rule) (view : View) (sent : List Candidate) (c : Candidate)
+    → (if is_sent rules view sent c then [] else said rules view sent c) ≡ said rules view sent c
+said_left rules view sent c = one (held_by rules 0 view sent c) refl
+  where
+    one : (o : Option Held) → held_by rules 0 view sent c ≡ o → (if is_sent rules view sent c then [] else said rules view sent c) ≡ said rules view sent c
+    one None e =
+        ap (λ (b : Bool). if b then [] else said rules view sent c) (sent_where_free rules 0 view sent c e)
+        ∙ sym (ap option_to_list e)
+    one (Some h) e = ap (λ (b : Bool). if b then [] else said rules view sent c) (held_where_not rules 0 view sent c h e)
+
+pub walked_next : (rules : List Rule) (view : View) (accepted : List Candidate) (i : ℕ) (sent new_sent : List Candidate) (held new_held : List Held) (table new_table : Table) (d : Candidate)
+    → i < length accepted → new_sent ≡ with_chosen (is_sent rules view) sent (get_or accepted i d) → new_held ≡ held ++ said rules view sent (get_or accepted i d)
+    → AreLoads rules (loading view new_sent) new_table
+    → IsWalked rules view accepted i sent held table → IsWalked rules view accepted (i + 1) new_sent new_held new_table
+walked_next rules view accepted i sent new_sent held new_held table new_table d lt sent_is held_is loads w =
+    let c = get_or accepted i d in
+    let rest = drop (i + 1) accepted in
+    let left : List Candidate → List Candidate → List Held = left_after (is_sent rules view) (said rules view) in
+    record {
+      sifted = sifted_next rules view accepted i sent new_sent table new_table d lt sent_is loads w.sifted;
+      holding =
+          ap (λ (xs : List Held). xs ++ left new_sent rest) held_is
+          ∙ append_assoc held (said rules view sent c) (left new_sent rest)
+          ∙ ap (λ (xs : List Candidate). held ++ (said rules view sent c ++ left xs rest)) sent_is
+          ∙ ap (λ (xs : List Held). held ++ (xs ++ left (with_chosen (is_sent rules view) sent c) rest)) (sym (said_left rules view sent c))
+          ∙ sym (ap (λ (xs : List Held). held ++ xs) (at_drop_more (left sent) accepted i d lt))
+          ∙ w.holding;
     }
 
 -- where there are no rules all are sent

@@ -5,18 +5,19 @@ mod loads;
 mod shown;
 mod table;
 
-ghost use Rattle.std.specs.Prelude.{◌≡◌, List, Bool, IfOk, OnOk};
+ghost use Rattle.std.specs.Prelude.{◌≡◌, ◌++◌, [], List, Bool, option_map, IfOk, OnOk};
 ghost use Rattle.std.specs.List.{items_where_true};
+ghost use Rattle.std.specs.Option.{option_to_list};
 ghost use Rattle.hx_cluster.specs.declared.description.Rule.{Rule};
 ghost use Rattle.hx_cluster.specs.declared.planning.View.{View};
 ghost use Rattle.hx_cluster.specs.declared.planning.Candidate.{Candidate};
 ghost use Rattle.hx_lists.specs.Choices.{with_chosen};
-ghost use Rattle.hx_throttle.specs.Loads.{AreLoads, transition_of};
-ghost use Rattle.hx_throttle.specs.Throttle.{loading, is_sent, sent_of, throttled, IsSending};
+ghost use Rattle.hx_throttle.specs.Loads.{AreLoads, held_as, transition_of};
+ghost use Rattle.hx_throttle.specs.Throttle.{loading, is_sent, held_by, sent_of, throttled, IsSending};
 
-use crate::loads::{count, first_holding, held_back, shown_loads};
+use crate::loads::{Holding, count, first_holding, held_back, shown_loads};
 use crate::table::Loads;
-use hx_cluster::{Candidate, Proposal, Rule, Spec, Throttled, View};
+use hx_cluster::{Candidate, Held, Proposal, Rule, Spec, Throttled, View};
 use hx_lists::Seq;
 pub use shown::Shown;
 use std::alloc::{AllocError, Global};
@@ -48,19 +49,54 @@ pub fn throttle_on(
 {
     let shown = Shown::new(alloc, view.live.as_slice())?;
     let mut loads = shown_loads(alloc, rules, &shown, view.mail.as_slice())?;
+    throttled_beside(alloc, &shown, &mut loads, rules, accepted)
+}
+
+/// The same beside the loads of the messages that are shown.
+fn throttled_beside(
+    alloc: Global,
+    shown: &Shown,
+    loads: &mut Loads,
+    rules: &[Rule],
+    accepted: &[Candidate],
+) -> Result<Throttled, AllocError>
+    ensures chosen { (view : View) → shown.now ≡ view.live → AreLoads rules.now (loading view []) loads.old
+        → IfOk result (λ all. all ≡ throttled rules.now view accepted.now) }
+    ensures counted { (view : View) → shown.now ≡ view.live → AreLoads rules.now (loading view []) loads.old
+        → IfOk result (λ all. AreLoads rules.now (loading view all.sent) loads.new) }
+{
     let mut sent = Seq::new(alloc);
     let mut held = Seq::new(alloc);
     for candidate in accepted {
-        let keyed = shown.keyed(&transition(candidate));
-        match first_holding(&loads, rules, keyed) {
-            Some(holding) => held.push(held_back(candidate, holding)?)?,
-            None => {
-                count(&mut loads, rules, keyed)?;
-                sent.push(*candidate)?;
-            }
-        }
+        send_or_hold(shown, loads, rules, candidate, &mut sent, &mut held)?;
     }
     Ok(Throttled { sent, held })
+}
+
+/// Sends a candidate, or lists it with the first rule that holds it back.
+#[inline(always)]
+fn send_or_hold(
+    shown: &Shown,
+    loads: &mut Loads,
+    rules: &[Rule],
+    candidate: &Candidate,
+    sent: &mut Seq<Candidate>,
+    held: &mut Seq<Held>,
+) -> Result<(), AllocError>
+    ensures chosen { OnOk result ((view : View) → shown.now ≡ view.live
+        → AreLoads rules.now (loading view sent.old) loads.old
+        → sent.new ≡ with_chosen (is_sent rules.now view) sent.old candidate.now) }
+    ensures holding { OnOk result ((view : View) → shown.now ≡ view.live
+        → AreLoads rules.now (loading view sent.old) loads.old
+        → held.new ≡ held.old ++ option_to_list (held_by rules.now 0 view sent.old candidate.now)) }
+    ensures counted { OnOk result ((view : View) → shown.now ≡ view.live
+        → AreLoads rules.now (loading view sent.old) loads.old
+        → AreLoads rules.now (loading view sent.new) loads.new) }
+{
+    if let Some(holding) = send_if_allowed(shown, loads, rules, candidate, sent)? {
+        held.push(held_back(candidate, holding)?)?;
+    }
+    Ok(())
 }
 
 /// The accepted candidates that the throttles allow, with no list of those that they hold back.
@@ -77,15 +113,32 @@ pub fn sent_on(
     }
     let shown = Shown::new(alloc, view.live.as_slice())?;
     let mut loads = shown_loads(alloc, rules, &shown, view.mail.as_slice())?;
+    sent_beside(alloc, &shown, &mut loads, rules, accepted)
+}
+
+/// The same beside the loads of the messages that are shown.
+#[inline(always)]
+fn sent_beside(
+    alloc: Global,
+    shown: &Shown,
+    loads: &mut Loads,
+    rules: &[Rule],
+    accepted: &[Candidate],
+) -> Result<Seq<Candidate>, AllocError>
+    ensures chosen { (view : View) → shown.now ≡ view.live → AreLoads rules.now (loading view []) loads.old
+        → IfOk result (λ sent. sent ≡ sent_of rules.now view accepted.now) }
+    ensures counted { (view : View) → shown.now ≡ view.live → AreLoads rules.now (loading view []) loads.old
+        → IfOk result (λ sent. AreLoads rules.now (loading view sent) loads.new) }
+{
     let mut sent = Seq::new(alloc);
     sent.reserve(accepted.len().min(FEW))?;
     for candidate in accepted {
-        send_if_allowed(&shown, &mut loads, rules, candidate, &mut sent)?;
+        send_if_allowed(shown, loads, rules, candidate, &mut sent)?;
     }
     Ok(sent)
 }
 
-/// Sends a candidate if no rule holds it back.
+/// Sends a candidate if no rule holds it back; else the first rule that does.
 #[inline(always)]
 fn send_if_allowed(
     shown: &Shown,
@@ -93,21 +146,25 @@ fn send_if_allowed(
     rules: &[Rule],
     candidate: &Candidate,
     sent: &mut Seq<Candidate>,
-) -> Result<(), AllocError>
+) -> Result<Option<Holding>, AllocError>
     ensures chosen { OnOk result ((view : View) → shown.now ≡ view.live
         → AreLoads rules.now (loading view sent.old) loads.old
         → sent.new ≡ with_chosen (is_sent rules.now view) sent.old candidate.now) }
     ensures counted { OnOk result ((view : View) → shown.now ≡ view.live
         → AreLoads rules.now (loading view sent.old) loads.old
         → AreLoads rules.now (loading view sent.new) loads.new) }
+    ensures holding { IfOk result (λ holding. (view : View) → shown.now ≡ view.live
+        → AreLoads rules.now (loading view sent.old) loads.old
+        → option_map (held_as candidate.now) holding ≡ held_by rules.now 0 view sent.old candidate.now) }
 {
     let keyed = shown.keyed(&transition(candidate));
-    if first_holding(loads, rules, keyed).is_some() {
-        return Ok(());
+    let holding = first_holding(loads, rules, keyed);
+    if holding.is_some() {
+        return Ok(holding);
     }
     count(loads, rules, keyed)?;
     sent.push(*candidate)?;
-    Ok(())
+    Ok(holding)
 }
 
 fn transition(candidate: &Candidate) -> Proposal
