@@ -1,5 +1,5 @@
 -- The walk over the accepted candidates.
-use Rattle.std.proofs.Common.{◌≡◌, ℕ, ◌+◌, ◌<◌, Bool, true, false, List, [], ◌∷◌, ◌++◌, length, drop, get_or, append_assoc, refl, sym, ap, subst, ◌∙◌, arith}
+use Rattle.std.proofs.Common.{◌≡◌, ℕ, ◌+◌, ◌<◌, Bool, true, false, List, [], ◌∷◌, ◌++◌, length, drop, get_or, append_assoc, refl, sym, ap, ◌∙◌, arith}
 use Rattle.std.specs.Prelude.{◌==◌, slice_get, Option, None, Some, Result, Ok, Err, IfOk, is_some, option_map, not, if◌then◌else◌}
 use Rattle.std.specs.List.{fold}
 use Rattle.std.specs.Option.{option_to_list}
@@ -7,7 +7,6 @@ use Rattle.std.proofs.lemmas.Bool.{false≢true}
 use Rattle.std.proofs.lemmas.Bool.Decides.{nat_tests}
 use Rattle.std.proofs.lemmas.List.{at_drop_more, append-nil}
 use Rattle.hx_lists.specs.Choices.{with_chosen, left_after}
-use Rattle.hx_lists.proofs.Choosing.{chosen_more, chosen_same, left_more, left_same}
 use Rattle.hx_ids.specs.declared.InstanceId.{InstanceId}
 use Rattle.hx_ids.specs.declared.SessionId.{SessionId}
 use Rattle.hx_throttle.specs.Table.{Table, load_at}
@@ -158,6 +157,7 @@ said_left rules view sent c = one (held_by rules 0 view sent c) refl
         ∙ sym (ap option_to_list e)
     one (Some h) e = ap (λ (b : Bool). if b then [] else said rules view sent c) (held_where_not rules 0 view sent c h e)
 
+-- and listed where a rule holds it back
 pub walked_next : (rules : List Rule) (view : View) (accepted : List Candidate) (i : ℕ) (sent new_sent : List Candidate) (held new_held : List Held) (table new_table : Table) (d : Candidate)
     → i < length accepted → new_sent ≡ with_chosen (is_sent rules view) sent (get_or accepted i d) → new_held ≡ held ++ said rules view sent (get_or accepted i d)
     → AreLoads rules (loading view new_sent) new_table
@@ -189,83 +189,6 @@ all_sent [] view accepted (Err e) none is = is
 all_sent (r ∷ rules) view accepted result none is =
     let some : (length (r ∷ rules) == 0) ≡ false = grind (arith, nat_tests) in absurd (false≢true (sym some ∙ none))
 
--- one more is sent
-pub sifted_sent : (rules : List Rule) (view : View) (accepted : List Candidate) (i : ℕ) (sent : List Candidate) (old new : Table) (d : Candidate) (k : Keyed)
-    → k ≡ keyed_of view.live (transition_of (get_or accepted i d)) → i < length accepted → is_sent rules view sent (get_or accepted i d) ≡ true
-    → ((n : ℕ) (r : Rule) (key : ℕ) → slice_get rules n ≡ Some r → load_at new n key ≡ load_at old n key + (if counts_under r key k then 1 else 0))
-    → IsSifted rules view accepted i sent old → IsSifted rules view accepted (i + 1) (sent ++ get_or accepted i d ∷ []) new
-sifted_sent rules view accepted i sent old new d k is_its lt is more w =
-    let c = get_or accepted i d in
-    let rest = drop (i + 1) accepted in
-    record {
-      sending = sym (at_drop_more (fold (with_chosen (is_sent rules view)) sent) accepted i d lt ∙ chosen_more (is_sent rules view) sent c rest is) ∙ w.sending;
-      loaded = λ n r key at.
-          more n r key at
-          ∙ ap (λ (m : ℕ). m + (if counts_under r key k then 1 else 0)) (w.loaded n r key at)
-          ∙ ap (λ (x : Keyed). loading view sent r key + (if counts_under r key x then 1 else 0)) is_its
-          ∙ ap (λ (b : Bool). loading view sent r key + (if b then 1 else 0)) (counted_found view.live r key (transition_of c))
-          ∙ omega (arith, count-push (counts_too view r key) sent c);
-    }
-
--- one more isn't
-pub sifted_held : (rules : List Rule) (view : View) (accepted : List Candidate) (i : ℕ) (sent : List Candidate) (table : Table) (d : Candidate)
-    → i < length accepted → is_sent rules view sent (get_or accepted i d) ≡ false
-    → IsSifted rules view accepted i sent table → IsSifted rules view accepted (i + 1) sent table
-sifted_held rules view accepted i sent table d lt is w =
-    let c = get_or accepted i d in
-    let rest = drop (i + 1) accepted in
-    record {
-      sending = sym (at_drop_more (fold (with_chosen (is_sent rules view)) sent) accepted i d lt ∙ chosen_same (is_sent rules view) sent c rest is) ∙ w.sending;
-      loaded = w.loaded;
-    }
-
--- the same where those that are held are listed
-pub walked_sent : (rules : List Rule) (view : View) (accepted : List Candidate) (i : ℕ) (sent : List Candidate) (held : List Held) (old new : Table) (d : Candidate) (k : Keyed)
-    → k ≡ keyed_of view.live (transition_of (get_or accepted i d)) → i < length accepted → held_by rules 0 view sent (get_or accepted i d) ≡ None
-    → ((n : ℕ) (r : Rule) (key : ℕ) → slice_get rules n ≡ Some r → load_at new n key ≡ load_at old n key + (if counts_under r key k then 1 else 0))
-    → IsWalked rules view accepted i sent held old → IsWalked rules view accepted (i + 1) (sent ++ get_or accepted i d ∷ []) held new
-walked_sent rules view accepted i sent held old new d k is_its lt free more w =
-    let c = get_or accepted i d in
-    let is = sent_where_free rules 0 view sent c free in
-    let rest = drop (i + 1) accepted in
-    record {
-      sifted = sifted_sent rules view accepted i sent old new d k is_its lt is more w.sifted;
-      holding = sym (ap (λ (xs : List Held). held ++ xs) (at_drop_more (left_after (is_sent rules view) (said rules view) sent) accepted i d lt ∙ left_more (is_sent rules view) (said rules view) sent c rest is)) ∙ w.holding;
-    }
-
-pub walked_held : (rules : List Rule) (view : View) (accepted : List Candidate) (i : ℕ) (sent : List Candidate) (held : List Held) (table : Table) (d : Candidate) (h : Held)
-    → i < length accepted → held_by rules 0 view sent (get_or accepted i d) ≡ Some h
-    → IsWalked rules view accepted i sent held table → IsWalked rules view accepted (i + 1) sent (held ++ h ∷ []) table
-walked_held rules view accepted i sent held table d h lt some w =
-    let c = get_or accepted i d in
-    let is = held_where_not rules 0 view sent c h some in
-    let rest = drop (i + 1) accepted in
-    let says : said rules view sent c ≡ h ∷ [] = ap option_to_list some in
-    record {
-      sifted = sifted_held rules view accepted i sent table d lt is w.sifted;
-      holding =
-          append_assoc held (h ∷ []) (left_after (is_sent rules view) (said rules view) sent rest)
-          ∙ ap (λ (xs : List Held). held ++ (xs ++ left_after (is_sent rules view) (said rules view) sent rest)) (sym says)
-          ∙ sym (ap (λ (xs : List Held). held ++ xs) (at_drop_more (left_after (is_sent rules view) (said rules view) sent) accepted i d lt ∙ left_same (is_sent rules view) (said rules view) sent c rest is))
-          ∙ w.holding;
-    }
-
 -- what a look-up past the end of a list gives
 abbrev pub no_rule : Rule
 no_rule = record { scope = scopes.Cluster; transition = None; limit = 0 }
-
--- the same under other names
-pub sifted_same : (rules : List Rule) (view : View) (accepted : List Candidate) (i : ℕ) (sent other_sent : List Candidate) (table other_table : Table)
-    → sent ≡ other_sent → table ≡ other_table → IsSifted rules view accepted i sent table → IsSifted rules view accepted i other_sent other_table
-sifted_same rules view accepted i sent other_sent table other_table a b w =
-    let P : List Candidate → Type 0 = λ x. IsSifted rules view accepted i x other_table in
-    let Q : Table → Type 0 = λ x. IsSifted rules view accepted i sent x in
-    subst P a (subst Q b w)
-
-pub walked_same : (rules : List Rule) (view : View) (accepted : List Candidate) (i : ℕ) (sent other_sent : List Candidate) (held other_held : List Held) (table other_table : Table)
-    → sent ≡ other_sent → held ≡ other_held → table ≡ other_table → IsWalked rules view accepted i sent held table → IsWalked rules view accepted i other_sent other_held other_table
-walked_same rules view accepted i sent other_sent held other_held table other_table a b c w =
-    let P : List Candidate → Type 0 = λ x. IsWalked rules view accepted i x other_held other_table in
-    let Q : List Held → Type 0 = λ x. IsWalked rules view accepted i sent x other_table in
-    let R : Table → Type 0 = λ x. IsWalked rules view accepted i sent held x in
-    subst P a (subst Q b (subst R c w))
