@@ -17,7 +17,7 @@ ghost use Rattle.hx_throttle.specs.Throttle.{loading, is_sent, held_by, sent_of,
 
 use crate::loads::{Holding, count, first_holding, held_back, shown_loads};
 use crate::table::Loads;
-use hx_cluster::{Candidate, Held, Proposal, Rule, Spec, Throttled, View};
+use hx_cluster::{Candidate, Proposal, Rule, Spec, Throttled, View};
 use hx_lists::Seq;
 pub use shown::Shown;
 use std::alloc::{AllocError, Global};
@@ -65,12 +65,14 @@ fn throttled_beside(
     ensures counted { (view : View) → shown.now ≡ view.live → AreLoads rules.now (loading view []) loads.old
         → IfOk result (λ all. AreLoads rules.now (loading view all.sent) loads.new) }
 {
-    let mut sent = Seq::new(alloc);
-    let mut held = Seq::new(alloc);
+    let mut all = Throttled {
+        sent: Seq::new(alloc),
+        held: Seq::new(alloc),
+    };
     for candidate in accepted {
-        send_or_hold(shown, loads, rules, candidate, &mut sent, &mut held)?;
+        send_or_hold(shown, loads, rules, candidate, &mut all)?;
     }
-    Ok(Throttled { sent, held })
+    Ok(all)
 }
 
 /// Sends a candidate, or lists it with the first rule that holds it back.
@@ -80,21 +82,20 @@ fn send_or_hold(
     loads: &mut Loads,
     rules: &[Rule],
     candidate: &Candidate,
-    sent: &mut Seq<Candidate>,
-    held: &mut Seq<Held>,
+    all: &mut Throttled,
 ) -> Result<(), AllocError>
     ensures chosen { OnOk result ((view : View) → shown.now ≡ view.live
-        → AreLoads rules.now (loading view sent.old) loads.old
-        → sent.new ≡ with_chosen (is_sent rules.now view) sent.old candidate.now) }
+        → AreLoads rules.now (loading view all.old.sent) loads.old
+        → all.new.sent ≡ with_chosen (is_sent rules.now view) all.old.sent candidate.now) }
     ensures holding { OnOk result ((view : View) → shown.now ≡ view.live
-        → AreLoads rules.now (loading view sent.old) loads.old
-        → held.new ≡ held.old ++ option_to_list (held_by rules.now 0 view sent.old candidate.now)) }
+        → AreLoads rules.now (loading view all.old.sent) loads.old
+        → all.new.held ≡ all.old.held ++ option_to_list (held_by rules.now 0 view all.old.sent candidate.now)) }
     ensures counted { OnOk result ((view : View) → shown.now ≡ view.live
-        → AreLoads rules.now (loading view sent.old) loads.old
-        → AreLoads rules.now (loading view sent.new) loads.new) }
+        → AreLoads rules.now (loading view all.old.sent) loads.old
+        → AreLoads rules.now (loading view all.new.sent) loads.new) }
 {
-    if let Some(holding) = send_if_allowed(shown, loads, rules, candidate, sent)? {
-        held.push(held_back(candidate, holding)?)?;
+    if let Some(holding) = send_if_allowed(shown, loads, rules, candidate, &mut all.sent)? {
+        all.held.push(held_back(candidate, holding)?)?;
     }
     Ok(())
 }

@@ -8,7 +8,7 @@ use Rattle.hx_throttle.proofs.send_or_hold.Goals as goal
 pub returns-in_ok-push : goal.returns-in_ok-push
 returns-in_ok-push c =
     let does = c.in_ok-holding.ensures in
-    let held = c.args.held.now in
+    let held = c.args.all.now.held in
     record {
       chosen = does.chosen;
       counted = does.counted;
@@ -21,7 +21,7 @@ returns-in_ok-push c =
 pub returns-in_default : goal.returns-in_default
 returns-in_default c =
     let does = c.in_ok-holding.ensures in
-    let held = c.args.held.now in
+    let held = c.args.all.now.held in
     record {
       chosen = does.chosen;
       counted = does.counted;

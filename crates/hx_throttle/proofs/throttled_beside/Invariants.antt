@@ -7,4 +7,4 @@ use Rattle.hx_throttle.proofs.throttled_beside.Given as goal
 
 abbrev pub invariant-loop-candidate : goal.invariant-loop-candidate
 invariant-loop-candidate l = (view : View) → l.shown ≡ view.live → AreLoads l.rules (loading view []) l.fn.loads
-    → IsWalked l.rules view l.accepted l.candidate-index l.sent l.held l.loads
+    → IsWalked l.rules view l.accepted l.candidate-index l.all.sent l.all.held l.loads
