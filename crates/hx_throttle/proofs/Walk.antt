@@ -1,5 +1,5 @@
 -- The walk over the accepted candidates.
-use Rattle.std.proofs.Common.{◌≡◌, ℕ, ◌+◌, ◌<◌, Bool, true, false, List, [], ◌∷◌, ◌++◌, length, drop, get_or, append_assoc, refl, sym, ap, subst, ◌∙◌, arith}
+use Rattle.std.proofs.Common.{◌≡◌, ℕ, ◌+◌, ◌<◌, Bool, true, false, List, [], ◌∷◌, ◌++◌, length, drop, get_or, append_assoc, refl, sym, ap, ◌∙◌, arith}
 use Rattle.std.specs.Prelude.{◌==◌, slice_get, Option, None, Some, Result, Ok, Err, IfOk, is_some, option_map, not, if◌then◌else◌}
 use Rattle.std.specs.List.{fold}
 use Rattle.std.specs.Option.{option_to_list}
@@ -7,17 +7,17 @@ use Rattle.std.proofs.lemmas.Bool.{false≢true}
 use Rattle.std.proofs.lemmas.Bool.Decides.{nat_tests}
 use Rattle.std.proofs.lemmas.List.{at_drop_more, append-nil}
 use Rattle.hx_lists.specs.Choices.{with_chosen, left_after}
-use Rattle.hx_lists.proofs.Choosing.{chosen_more, chosen_same, left_more, left_same}
 use Rattle.hx_ids.specs.declared.InstanceId.{InstanceId}
 use Rattle.hx_ids.specs.declared.SessionId.{SessionId}
 use Rattle.hx_throttle.specs.Table.{Table, load_at}
 use Rattle.hx_cluster.specs.declared.description.Rule.{Rule}
 use Rattle.hx_cluster.specs.declared.description.Scope.TheVariants as scopes
 use Rattle.hx_cluster.specs.declared.happenings.Proposal.{Proposal}
+use Rattle.hx_cluster.specs.declared.state.Message.{Message}
 use Rattle.hx_cluster.specs.declared.planning.View.{View}
 use Rattle.hx_cluster.specs.declared.planning.Candidate.{Candidate}
 use Rattle.hx_cluster.specs.declared.planning.Held.{Held}
-use Rattle.hx_cluster.specs.Ends.{matches}
+use Rattle.hx_cluster.specs.Ends.{matches, load_over}
 use Rattle.hx_throttle.specs.declared.shown.Keyed.{Keyed}
 use Rattle.hx_throttle.specs.Throttle.{key_for, counts_too, loading, holds_back, is_sent, held_by, sent_of, held_of}
 use Rattle.hx_throttle.specs.Loads.{AreLoads, keyed_of, key_in, counts_under, transition_of}
@@ -103,6 +103,80 @@ pub record IsWalked (rules : List Rule) (view : View) (accepted : List Candidate
   pub sifted : IsSifted rules view accepted i sent table
   pub holding : held ++ left_after (is_sent rules view) (said rules view) sent (drop i accepted) ≡ held_of rules view accepted
 
+-- at first the loads are those of the messages that are shown
+pub loads_first : (rules : List Rule) (view : View) (live : List (SessionId × InstanceId)) (mail : List Message) (table : Table)
+    → live ≡ view.live → mail ≡ view.mail → AreLoads rules (load_over live mail) table → AreLoads rules (loading view []) table
+loads_first rules view live mail table live_is mail_is loads = λ n r key at.
+    let over : load_over live mail r key ≡ load_over view.live view.mail r key =
+    ap (λ (l : List (SessionId × InstanceId)). load_over l mail r key) live_is ∙ ap (λ (m : List Message). load_over view.live m r key) mail_is in
+    loads n r key at ∙ over ∙ omega arith
+
+-- a candidate that no rule holds back is sent, and then it is counted
+pub chosen_sent : (rules : List Rule) (view : View) (sent : List Candidate) (c : Candidate) → is_sent rules view sent c ≡ true
+    → sent ++ c ∷ [] ≡ with_chosen (is_sent rules view) sent c
+chosen_sent rules view sent c is = ap (λ (b : Bool). sent ++ (if b then c ∷ [] else [])) (sym is)
+
+pub loads_sent : (rules : List Rule) (view : View) (sent : List Candidate) (old new : Table) (c : Candidate) (k : Keyed)
+    → k ≡ keyed_of view.live (transition_of c)
+    → ((n : ℕ) (r : Rule) (key : ℕ) → slice_get rules n ≡ Some r → load_at new n key ≡ load_at old n key + (if counts_under r key k then 1 else 0))
+    → AreLoads rules (loading view sent) old → AreLoads rules (loading view (sent ++ c ∷ [])) new
+loads_sent rules view sent old new c k is_its more loads = λ n r key at.
+    more n r key at
+    ∙ ap (λ (m : ℕ). m + (if counts_under r key k then 1 else 0)) (loads n r key at)
+    ∙ ap (λ (x : Keyed). loading view sent r key + (if counts_under r key x then 1 else 0)) is_its
+    ∙ ap (λ (b : Bool). loading view sent r key + (if b then 1 else 0)) (counted_found view.live r key (transition_of c))
+    ∙ omega (arith, count-push (counts_too view r key) sent c)
+
+-- one that a rule holds back isn't
+pub chosen_held : (rules : List Rule) (view : View) (sent : List Candidate) (c : Candidate) → is_sent rules view sent c ≡ false
+    → sent ≡ with_chosen (is_sent rules view) sent c
+chosen_held rules view sent c is = sym (ap (λ (b : Bool). sent ++ (if b then c ∷ [] else [])) is ∙ append-nil sent)
+
+-- one candidate more is judged
+pub sifted_next : (rules : List Rule) (view : View) (accepted : List Candidate) (i : ℕ) (sent new_sent : List Candidate) (table new_table : Table) (d : Candidate)
+    → i < length accepted → new_sent ≡ with_chosen (is_sent rules view) sent (get_or accepted i d) → AreLoads rules (loading view new_sent) new_table
+    → IsSifted rules view accepted i sent table → IsSifted rules view accepted (i + 1) new_sent new_table
+sifted_next rules view accepted i sent new_sent table new_table d lt sent_is loads w =
+    let rest = drop (i + 1) accepted in
+    record {
+      sending =
+          ap (λ (xs : List Candidate). fold (with_chosen (is_sent rules view)) xs rest) sent_is
+          ∙ sym (at_drop_more (fold (with_chosen (is_sent rules view)) sent) accepted i d lt)
+          ∙ w.sending;
+      loaded = loads;
+    }
+
+-- of a candidate that is sent nothing is said
+said_left : (rules : List Rule) (view : View) (sent : List Candidate) (c : Candidate)
+    → (if is_sent rules view sent c then [] else said rules view sent c) ≡ said rules view sent c
+said_left rules view sent c = one (held_by rules 0 view sent c) refl
+  where
+    one : (o : Option Held) → held_by rules 0 view sent c ≡ o → (if is_sent rules view sent c then [] else said rules view sent c) ≡ said rules view sent c
+    one None e =
+        ap (λ (b : Bool). if b then [] else said rules view sent c) (sent_where_free rules 0 view sent c e)
+        ∙ sym (ap option_to_list e)
+    one (Some h) e = ap (λ (b : Bool). if b then [] else said rules view sent c) (held_where_not rules 0 view sent c h e)
+
+-- and listed where a rule holds it back
+pub walked_next : (rules : List Rule) (view : View) (accepted : List Candidate) (i : ℕ) (sent new_sent : List Candidate) (held new_held : List Held) (table new_table : Table) (d : Candidate)
+    → i < length accepted → new_sent ≡ with_chosen (is_sent rules view) sent (get_or accepted i d) → new_held ≡ held ++ said rules view sent (get_or accepted i d)
+    → AreLoads rules (loading view new_sent) new_table
+    → IsWalked rules view accepted i sent held table → IsWalked rules view accepted (i + 1) new_sent new_held new_table
+walked_next rules view accepted i sent new_sent held new_held table new_table d lt sent_is held_is loads w =
+    let c = get_or accepted i d in
+    let rest = drop (i + 1) accepted in
+    let left : List Candidate → List Candidate → List Held = left_after (is_sent rules view) (said rules view) in
+    record {
+      sifted = sifted_next rules view accepted i sent new_sent table new_table d lt sent_is loads w.sifted;
+      holding =
+          ap (λ (xs : List Held). xs ++ left new_sent rest) held_is
+          ∙ append_assoc held (said rules view sent c) (left new_sent rest)
+          ∙ ap (λ (xs : List Candidate). held ++ (said rules view sent c ++ left xs rest)) sent_is
+          ∙ ap (λ (xs : List Held). held ++ (xs ++ left (with_chosen (is_sent rules view) sent c) rest)) (sym (said_left rules view sent c))
+          ∙ sym (ap (λ (xs : List Held). held ++ xs) (at_drop_more (left sent) accepted i d lt))
+          ∙ w.holding;
+    }
+
 -- where there are no rules all are sent
 all_chosen : (view : View) (sent accepted : List Candidate) → fold (with_chosen (is_sent [] view)) sent accepted ≡ sent ++ accepted
 all_chosen view sent [] = sym (append-nil sent)
@@ -115,83 +189,6 @@ all_sent [] view accepted (Err e) none is = is
 all_sent (r ∷ rules) view accepted result none is =
     let some : (length (r ∷ rules) == 0) ≡ false = grind (arith, nat_tests) in absurd (false≢true (sym some ∙ none))
 
--- one more is sent
-pub sifted_sent : (rules : List Rule) (view : View) (accepted : List Candidate) (i : ℕ) (sent : List Candidate) (old new : Table) (d : Candidate) (k : Keyed)
-    → k ≡ keyed_of view.live (transition_of (get_or accepted i d)) → i < length accepted → is_sent rules view sent (get_or accepted i d) ≡ true
-    → ((n : ℕ) (r : Rule) (key : ℕ) → slice_get rules n ≡ Some r → load_at new n key ≡ load_at old n key + (if counts_under r key k then 1 else 0))
-    → IsSifted rules view accepted i sent old → IsSifted rules view accepted (i + 1) (sent ++ get_or accepted i d ∷ []) new
-sifted_sent rules view accepted i sent old new d k is_its lt is more w =
-    let c = get_or accepted i d in
-    let rest = drop (i + 1) accepted in
-    record {
-      sending = sym (at_drop_more (fold (with_chosen (is_sent rules view)) sent) accepted i d lt ∙ chosen_more (is_sent rules view) sent c rest is) ∙ w.sending;
-      loaded = λ n r key at.
-          more n r key at
-          ∙ ap (λ (m : ℕ). m + (if counts_under r key k then 1 else 0)) (w.loaded n r key at)
-          ∙ ap (λ (x : Keyed). loading view sent r key + (if counts_under r key x then 1 else 0)) is_its
-          ∙ ap (λ (b : Bool). loading view sent r key + (if b then 1 else 0)) (counted_found view.live r key (transition_of c))
-          ∙ omega (arith, count-push (counts_too view r key) sent c);
-    }
-
--- one more isn't
-pub sifted_held : (rules : List Rule) (view : View) (accepted : List Candidate) (i : ℕ) (sent : List Candidate) (table : Table) (d : Candidate)
-    → i < length accepted → is_sent rules view sent (get_or accepted i d) ≡ false
-    → IsSifted rules view accepted i sent table → IsSifted rules view accepted (i + 1) sent table
-sifted_held rules view accepted i sent table d lt is w =
-    let c = get_or accepted i d in
-    let rest = drop (i + 1) accepted in
-    record {
-      sending = sym (at_drop_more (fold (with_chosen (is_sent rules view)) sent) accepted i d lt ∙ chosen_same (is_sent rules view) sent c rest is) ∙ w.sending;
-      loaded = w.loaded;
-    }
-
--- the same where those that are held are listed
-pub walked_sent : (rules : List Rule) (view : View) (accepted : List Candidate) (i : ℕ) (sent : List Candidate) (held : List Held) (old new : Table) (d : Candidate) (k : Keyed)
-    → k ≡ keyed_of view.live (transition_of (get_or accepted i d)) → i < length accepted → held_by rules 0 view sent (get_or accepted i d) ≡ None
-    → ((n : ℕ) (r : Rule) (key : ℕ) → slice_get rules n ≡ Some r → load_at new n key ≡ load_at old n key + (if counts_under r key k then 1 else 0))
-    → IsWalked rules view accepted i sent held old → IsWalked rules view accepted (i + 1) (sent ++ get_or accepted i d ∷ []) held new
-walked_sent rules view accepted i sent held old new d k is_its lt free more w =
-    let c = get_or accepted i d in
-    let is = sent_where_free rules 0 view sent c free in
-    let rest = drop (i + 1) accepted in
-    record {
-      sifted = sifted_sent rules view accepted i sent old new d k is_its lt is more w.sifted;
-      holding = sym (ap (λ (xs : List Held). held ++ xs) (at_drop_more (left_after (is_sent rules view) (said rules view) sent) accepted i d lt ∙ left_more (is_sent rules view) (said rules view) sent c rest is)) ∙ w.holding;
-    }
-
-pub walked_held : (rules : List Rule) (view : View) (accepted : List Candidate) (i : ℕ) (sent : List Candidate) (held : List Held) (table : Table) (d : Candidate) (h : Held)
-    → i < length accepted → held_by rules 0 view sent (get_or accepted i d) ≡ Some h
-    → IsWalked rules view accepted i sent held table → IsWalked rules view accepted (i + 1) sent (held ++ h ∷ []) table
-walked_held rules view accepted i sent held table d h lt some w =
-    let c = get_or accepted i d in
-    let is = held_where_not rules 0 view sent c h some in
-    let rest = drop (i + 1) accepted in
-    let says : said rules view sent c ≡ h ∷ [] = ap option_to_list some in
-    record {
-      sifted = sifted_held rules view accepted i sent table d lt is w.sifted;
-      holding =
-          append_assoc held (h ∷ []) (left_after (is_sent rules view) (said rules view) sent rest)
-          ∙ ap (λ (xs : List Held). held ++ (xs ++ left_after (is_sent rules view) (said rules view) sent rest)) (sym says)
-          ∙ sym (ap (λ (xs : List Held). held ++ xs) (at_drop_more (left_after (is_sent rules view) (said rules view) sent) accepted i d lt ∙ left_same (is_sent rules view) (said rules view) sent c rest is))
-          ∙ w.holding;
-    }
-
 -- what a look-up past the end of a list gives
 abbrev pub no_rule : Rule
 no_rule = record { scope = scopes.Cluster; transition = None; limit = 0 }
-
--- the same under other names
-pub sifted_same : (rules : List Rule) (view : View) (accepted : List Candidate) (i : ℕ) (sent other_sent : List Candidate) (table other_table : Table)
-    → sent ≡ other_sent → table ≡ other_table → IsSifted rules view accepted i sent table → IsSifted rules view accepted i other_sent other_table
-sifted_same rules view accepted i sent other_sent table other_table a b w =
-    let P : List Candidate → Type 0 = λ x. IsSifted rules view accepted i x other_table in
-    let Q : Table → Type 0 = λ x. IsSifted rules view accepted i sent x in
-    subst P a (subst Q b w)
-
-pub walked_same : (rules : List Rule) (view : View) (accepted : List Candidate) (i : ℕ) (sent other_sent : List Candidate) (held other_held : List Held) (table other_table : Table)
-    → sent ≡ other_sent → held ≡ other_held → table ≡ other_table → IsWalked rules view accepted i sent held table → IsWalked rules view accepted i other_sent other_held other_table
-walked_same rules view accepted i sent other_sent held other_held table other_table a b c w =
-    let P : List Candidate → Type 0 = λ x. IsWalked rules view accepted i x other_held other_table in
-    let Q : List Held → Type 0 = λ x. IsWalked rules view accepted i sent x other_table in
-    let R : Table → Type 0 = λ x. IsWalked rules view accepted i sent held x in
-    subst P a (subst Q b (subst R c w))

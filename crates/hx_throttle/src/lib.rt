@@ -5,15 +5,18 @@ mod loads;
 mod shown;
 mod table;
 
-ghost use Rattle.std.specs.Prelude.{◌≡◌, List, Bool, IfOk};
+ghost use Rattle.std.specs.Prelude.{◌≡◌, ◌++◌, [], List, Bool, option_map, IfOk, OnOk};
 ghost use Rattle.std.specs.List.{items_where_true};
+ghost use Rattle.std.specs.Option.{option_to_list};
 ghost use Rattle.hx_cluster.specs.declared.description.Rule.{Rule};
 ghost use Rattle.hx_cluster.specs.declared.planning.View.{View};
 ghost use Rattle.hx_cluster.specs.declared.planning.Candidate.{Candidate};
-ghost use Rattle.hx_throttle.specs.Loads.{transition_of};
-ghost use Rattle.hx_throttle.specs.Throttle.{sent_of, throttled, IsSending};
+ghost use Rattle.hx_lists.specs.Choices.{with_chosen};
+ghost use Rattle.hx_throttle.specs.Loads.{AreLoads, held_as, transition_of};
+ghost use Rattle.hx_throttle.specs.Throttle.{loading, is_sent, held_by, sent_of, throttled, IsSending};
 
-use crate::loads::{count, first_holding, held_back, shown_loads};
+use crate::loads::{Holding, count, first_holding, held_back, shown_loads};
+use crate::table::Loads;
 use hx_cluster::{Candidate, Proposal, Rule, Spec, Throttled, View};
 use hx_lists::Seq;
 pub use shown::Shown;
@@ -46,19 +49,55 @@ pub fn throttle_on(
 {
     let shown = Shown::new(alloc, view.live.as_slice())?;
     let mut loads = shown_loads(alloc, rules, &shown, view.mail.as_slice())?;
-    let mut sent = Seq::new(alloc);
-    let mut held = Seq::new(alloc);
+    throttled_beside(alloc, &shown, &mut loads, rules, accepted)
+}
+
+/// The same beside the loads of the messages that are shown.
+fn throttled_beside(
+    alloc: Global,
+    shown: &Shown,
+    loads: &mut Loads,
+    rules: &[Rule],
+    accepted: &[Candidate],
+) -> Result<Throttled, AllocError>
+    ensures chosen { (view : View) → shown.now ≡ view.live → AreLoads rules.now (loading view []) loads.old
+        → IfOk result (λ all. all ≡ throttled rules.now view accepted.now) }
+    ensures counted { (view : View) → shown.now ≡ view.live → AreLoads rules.now (loading view []) loads.old
+        → IfOk result (λ all. AreLoads rules.now (loading view all.sent) loads.new) }
+{
+    let mut all = Throttled {
+        sent: Seq::new(alloc),
+        held: Seq::new(alloc),
+    };
     for candidate in accepted {
-        let keyed = shown.keyed(&transition(candidate));
-        match first_holding(&loads, rules, keyed) {
-            Some(holding) => held.push(held_back(candidate, holding)?)?,
-            None => {
-                count(&mut loads, rules, keyed)?;
-                sent.push(*candidate)?;
-            }
-        }
+        send_or_hold(shown, loads, rules, candidate, &mut all)?;
     }
-    Ok(Throttled { sent, held })
+    Ok(all)
+}
+
+/// Sends a candidate, or lists it with the first rule that holds it back.
+#[inline(always)]
+fn send_or_hold(
+    shown: &Shown,
+    loads: &mut Loads,
+    rules: &[Rule],
+    candidate: &Candidate,
+    all: &mut Throttled,
+) -> Result<(), AllocError>
+    ensures chosen { OnOk result ((view : View) → shown.now ≡ view.live
+        → AreLoads rules.now (loading view all.old.sent) loads.old
+        → all.new.sent ≡ with_chosen (is_sent rules.now view) all.old.sent candidate.now) }
+    ensures holding { OnOk result ((view : View) → shown.now ≡ view.live
+        → AreLoads rules.now (loading view all.old.sent) loads.old
+        → all.new.held ≡ all.old.held ++ option_to_list (held_by rules.now 0 view all.old.sent candidate.now)) }
+    ensures counted { OnOk result ((view : View) → shown.now ≡ view.live
+        → AreLoads rules.now (loading view all.old.sent) loads.old
+        → AreLoads rules.now (loading view all.new.sent) loads.new) }
+{
+    if let Some(holding) = send_if_allowed(shown, loads, rules, candidate, &mut all.sent)? {
+        all.held.push(held_back(candidate, holding)?)?;
+    }
+    Ok(())
 }
 
 /// The accepted candidates that the throttles allow, with no list of those that they hold back.
@@ -75,16 +114,58 @@ pub fn sent_on(
     }
     let shown = Shown::new(alloc, view.live.as_slice())?;
     let mut loads = shown_loads(alloc, rules, &shown, view.mail.as_slice())?;
+    sent_beside(alloc, &shown, &mut loads, rules, accepted)
+}
+
+/// The same beside the loads of the messages that are shown.
+#[inline(always)]
+fn sent_beside(
+    alloc: Global,
+    shown: &Shown,
+    loads: &mut Loads,
+    rules: &[Rule],
+    accepted: &[Candidate],
+) -> Result<Seq<Candidate>, AllocError>
+    ensures chosen { (view : View) → shown.now ≡ view.live → AreLoads rules.now (loading view []) loads.old
+        → IfOk result (λ sent. sent ≡ sent_of rules.now view accepted.now) }
+    ensures counted { (view : View) → shown.now ≡ view.live → AreLoads rules.now (loading view []) loads.old
+        → IfOk result (λ sent. AreLoads rules.now (loading view sent) loads.new) }
+{
     let mut sent = Seq::new(alloc);
     sent.reserve(accepted.len().min(FEW))?;
     for candidate in accepted {
-        let keyed = shown.keyed(&transition(candidate));
-        if first_holding(&loads, rules, keyed).is_none() {
-            count(&mut loads, rules, keyed)?;
-            sent.push(*candidate)?;
-        }
+        send_if_allowed(shown, loads, rules, candidate, &mut sent)?;
     }
     Ok(sent)
+}
+
+/// Sends a candidate if no rule holds it back; else the first rule that does.
+#[inline(always)]
+fn send_if_allowed(
+    shown: &Shown,
+    loads: &mut Loads,
+    rules: &[Rule],
+    candidate: &Candidate,
+    sent: &mut Seq<Candidate>,
+) -> Result<Option<Holding>, AllocError>
+    ensures chosen { OnOk result ((view : View) → shown.now ≡ view.live
+        → AreLoads rules.now (loading view sent.old) loads.old
+        → sent.new ≡ with_chosen (is_sent rules.now view) sent.old candidate.now) }
+    ensures counted { OnOk result ((view : View) → shown.now ≡ view.live
+        → AreLoads rules.now (loading view sent.old) loads.old
+        → AreLoads rules.now (loading view sent.new) loads.new) }
+    ensures holding { IfOk result (λ holding. (view : View) → shown.now ≡ view.live
+        → AreLoads rules.now (loading view sent.old) loads.old
+        → option_map (held_as candidate.now) holding ≡ held_by rules.now 0 view sent.old candidate.now) }
+{
+    let keyed = shown.keyed(&transition(candidate));
+    let holding = first_holding(loads, rules, keyed);
+    if holding.is_some() {
+        return Ok(holding);
+    }
+    count(loads, rules, keyed)?;
+    sent.push(*candidate)?;
+    Ok(holding)
 }
 
 fn transition(candidate: &Candidate) -> Proposal

@@ -1,6 +1,7 @@
 //! What each rule counts, and the rule that holds a transition back.
-ghost use Rattle.std.specs.Prelude.{◌≡◌, ℕ, ◌+◌, List, Some, slice_get, option_map, IfOk, OnOk, if◌then◌else◌};
+ghost use Rattle.std.specs.Prelude.{◌≡◌, ℕ, ◌+◌, [], ◌∷◌, ◌++◌, List, Some, slice_get, option_map, IfOk, OnOk, if◌then◌else◌};
 ghost use Rattle.hx_cluster.specs.declared.description.Rule.{Rule};
+ghost use Rattle.hx_cluster.specs.declared.state.Message.{Message};
 ghost use Rattle.hx_cluster.specs.declared.planning.View.{View};
 ghost use Rattle.hx_cluster.specs.declared.planning.Candidate.{Candidate};
 ghost use Rattle.hx_cluster.specs.Ends.{load_over};
@@ -48,17 +49,33 @@ pub fn shown_loads(
 {
     let mut loads = Loads::new(alloc, rules.len())?;
     for message in mail {
-        let keyed = shown.keyed(&Proposal {
-            session: message.session,
-            part: message.part,
-            from: message.from,
-            to: message.to,
-        });
-        if keyed.instance.is_some() {
-            count(&mut loads, rules, keyed)?;
-        }
+        count_shown(&mut loads, rules, shown, message)?;
     }
     Ok(loads)
+}
+
+/// Counts a message, if its session is shown.
+#[inline(always)]
+fn count_shown(
+    loads: &mut Loads,
+    rules: &[Rule],
+    shown: &Shown,
+    message: &Message,
+) -> Result<(), AllocError>
+    ensures { OnOk result ((mail : List Message)
+        → AreLoads rules.now (load_over shown.now mail) loads.old
+        → AreLoads rules.now (load_over shown.now (mail ++ message.now ∷ [])) loads.new) }
+{
+    let keyed = shown.keyed(&Proposal {
+        session: message.session,
+        part: message.part,
+        from: message.from,
+        to: message.to,
+    });
+    if keyed.instance.is_some() {
+        count(loads, rules, keyed)?;
+    }
+    Ok(())
 }
 
 /// A rule that holds a transition back, with its load under the transition's key.
