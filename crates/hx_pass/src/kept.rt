@@ -16,13 +16,25 @@ use std::{marker, mem};
 /// The view that was planned last. Contracts see it. Its sessions and what was wanted are copied;
 /// its messages and rows are taken over once the turn that was shown them ends, and then they are
 /// held. The lists for the marked parts serve again each time.
-#[derive(Drop)]
 pub(crate) struct Kept {
     view: Snapshot<View>,
     lists: View,
     held: bool,
     mail: Seq<Message>,
     rows: Seq<Row>,
+}
+
+// A derived drop is written out, field by field, wherever one is dropped; this is a call.
+impl Drop for Kept {
+    fn drop(self) {
+        let Kept {
+            view: _,
+            lists: _,
+            held: _,
+            mail: _,
+            rows: _,
+        } = self;
+    }
 }
 
 impl marker::Model for Kept {
@@ -38,11 +50,21 @@ impl marker::Model for Kept {
 
 /// A view with the rows and messages of the marked parts alone, and two lists that aren't in use
 /// meanwhile.
-#[derive(Drop)]
 pub(crate) struct Narrow {
     pub view: View,
     mail: Seq<Message>,
     rows: Seq<Row>,
+}
+
+// This is a call, too.
+impl Drop for Narrow {
+    fn drop(self) {
+        let Narrow {
+            view: _,
+            mail: _,
+            rows: _,
+        } = self;
+    }
 }
 
 /// Whether what is wanted is the same.
