@@ -1,5 +1,5 @@
 //! The view that was planned last.
-ghost use Rattle.std.specs.Prelude.{◌≡◌, true, false, IfOk, IsTrue};
+ghost use Rattle.std.specs.Prelude.{◌≡◌, true, false, IfOk, OnOk, IsTrue};
 ghost use Rattle.hx_ids.specs.declared.PartId.{PartId};
 ghost use Rattle.hx_cluster.specs.Reads.{nothing_shown};
 ghost use Rattle.hx_parts.specs.Marks.{is_marked};
@@ -76,6 +76,18 @@ fn same_ideals(ideals: &Ideals, others: &Ideals) -> bool
         && ideals.resets.same(&others.resets)
 }
 
+/// Gives lists the sessions and what is wanted of a view. What they have of what is wanted in the
+/// same place is kept, and takes no memory.
+fn show_like(lists: &mut View, view: &View) -> Result<(), AllocError>
+    ensures { OnOk result (IsAlike lists.new view.now) }
+{
+    lists.live = view.live.clone()?;
+    let none = no_ideals(view.live.allocator());
+    let ideals = mem::replace(&mut lists.ideals, none);
+    lists.ideals = ideals_over(&view.ideals, ideals)?;
+    Ok(())
+}
+
 impl Kept {
     /// Nothing, for which nothing was planned. It takes no memory.
     pub fn nothing(alloc: Global) -> Kept
@@ -103,10 +115,7 @@ impl Kept {
             mail,
             rows,
         } = self;
-        let none = no_ideals(view.live.allocator());
-        let ideals = mem::replace(&mut lists.ideals, none);
-        lists.live = view.live.clone()?;
-        lists.ideals = ideals_over(&view.ideals, ideals)?;
+        show_like(&mut lists, view)?;
         Ok(Kept {
             view: Snapshot::of(view),
             lists,

@@ -113,6 +113,29 @@ fn splice_few(
 }
 
 impl Lists {
+    /// The lists of a view, if it is well formed with a description.
+    fn of(alloc: Global, described: &Described, view: &View) -> Result<Option<Lists>, AllocError>
+        ensures { IfOk result (λ lists. MatchOption lists
+            (is_well_formed described.now.spec.now.models (length described.now.spec.now.instances)
+            view.now ≡ false) (λ l.
+            IsKnown described.now.spec.now.models (length described.now.spec.now.instances)
+            view.now l.accepted l.waiting.items l.posted.items)) }
+    {
+        let Described { spec, hops } = *described;
+        let models = spec.models.as_slice();
+        let instances = spec.instances.len() as usize;
+        if !is_well_formed(alloc, models, instances, view)? {
+            return Ok(None);
+        }
+        let posted = posted_rows(alloc, view)?;
+        let Choice { accepted, waiting } = choose(alloc, models, hops, view)?;
+        Ok(Some(Lists {
+            accepted,
+            waiting,
+            posted,
+        }))
+    }
+
     /// The lists of a view that differs in the marked parts alone from the one that these are of, if
     /// it is well formed. It is lent narrowed to these parts.
     #[inline(always)]
@@ -192,22 +215,17 @@ impl Known {
     ) -> Result<Option<Known>, AllocError>
         ensures { IfOk result (λ known. IsKnownOf described.now.spec.now view.now known) }
     {
-        let Described { spec, hops } = *described;
-        let models = spec.models.as_slice();
-        let instances = spec.instances.len() as usize;
-        if !is_well_formed(alloc, models, instances, view)? {
+        let Some(lists) = Lists::of(alloc, described, view)? else {
             return Ok(None);
-        }
-        let Choice { accepted, waiting } = choose(alloc, models, hops, view)?;
+        };
+        let spec = described.spec;
+        let models = spec.models.clone()?;
+        let kept = kept.over(view)?;
         Ok(Some(Known {
-            lists: Lists {
-                accepted,
-                waiting,
-                posted: posted_rows(alloc, view)?,
-            },
-            models: spec.models.clone()?,
-            instances,
-            view: kept.over(view)?,
+            models,
+            instances: spec.instances.len() as usize,
+            view: kept,
+            lists,
         }))
     }
 

@@ -1,5 +1,4 @@
-use Rattle.std.proofs.Common.{◌≡◌, ◌∙◌, ℕ, false, true, List, Option, Some, None, MatchOption, sym, ap, subst, refl}
-use Rattle.hx_pass.specs.declared.known.Lists.{Lists}
+use Rattle.std.proofs.Common.{◌≡◌, ◌∙◌, false, true, List, sym, ap, subst, refl}
 use Rattle.hx_model.specs.declared.ModelParts.{ModelParts}
 use Rattle.hx_cluster.specs.declared.planning.View.{View}
 use Rattle.hx_cluster.specs.declared.planning.Candidate.{Candidate}
@@ -10,6 +9,7 @@ use Rattle.hx_parts.specs.Parts.{IsByPart}
 use Rattle.hx_parts.specs.Marks.{is_marked}
 use Rattle.hx_pass.specs.Local.{DifferWithin}
 use Rattle.hx_pass.specs.Known.{Knowing, IsKnown}
+use Rattle.hx_pass.proofs.Listed.{known_none, known_some}
 use Rattle.hx_pass.proofs.Accepted.{accepted_by_part}
 use Rattle.hx_pass.proofs.PostedAgain.{posted_by_part}
 use Rattle.hx_pass.proofs.known.Known.again.Goals as goal
@@ -32,20 +32,6 @@ pub again-requires-clause-posted : goal.again-requires-clause-posted
 again-requires-clause-posted c =
     subst (λ (rows : List Seen). IsByPart (λ s. s.part) rows) (sym c.self.invariant.posted_are) (posted_by_part c.self.inside.view)
 
--- of no lists, or of some, it is known what is said of them
-known_none : (ms : List ModelParts) (n : ℕ) (w : View) (o : Option Lists)
-    → MatchOption o (is_well_formed ms n w ≡ false) (λ l. IsKnown ms n w l.accepted l.waiting.items l.posted.items)
-    → ((l : Lists) → o ≡ Some l → ⊥) → is_well_formed ms n w ≡ false
-known_none ms n w None told none = told
-known_none ms n w (Some l) told none = absurd (none l refl)
-
-known_some : (ms more : List ModelParts) → ms ≡ more → (n : ℕ) (w : View) (o : Option Lists) (l : Lists)
-    → MatchOption o (is_well_formed ms n w ≡ false) (λ l. IsKnown ms n w l.accepted l.waiting.items l.posted.items)
-    → o ≡ Some l → IsKnown more n w l.accepted l.waiting.items l.posted.items
-known_some ms more same n w o l told is =
-    subst (λ (m : List ModelParts). IsKnown m n w l.accepted l.waiting.items l.posted.items) same
-    (subst (λ (o : Option Lists). MatchOption o (is_well_formed ms n w ≡ false) (λ l. IsKnown ms n w l.accepted l.waiting.items l.posted.items)) is told)
-
 pub returns-in_default : goal.returns-in_default
 returns-in_default c =
     let at = (goal.at.returns-in_default c).In_ok-lists in
@@ -58,14 +44,15 @@ pub invariant_of-result : goal.invariant_of-result
 invariant_of-result c =
     let at = (goal.at.invariant_of-result c).In_ok-lists in
     let told = c.in_ok-lists.ensures c.self.inside.view c.args.view.now (is_known at) (differ at) c.in_ok-narrow.ensures in
-    subst (λ (w : View). IsKnown c.self.inside.models c.self.inside.instances w c.in-Some.lists.accepted c.in-Some.lists.waiting.items c.in-Some.lists.posted.items) (sym c.widened.ensures)
-    (known_some c.as_slice-all.result.now c.self.inside.models c.as_slice-all.ensures c.self.inside.instances c.args.view.now c.in_ok-lists.field-0 c.in-Some.lists told c.in-Some.is)
+    known_some c.as_slice-all.result.now c.self.inside.instances c.args.view.now c.in_ok-lists.field-0 c.in-Some.lists told c.in-Some.is
+    c.self.inside.models c.as_slice-all.ensures c.widened.result (sym c.widened.ensures)
 
 pub returns : goal.returns
 returns c =
     let at = (goal.at.returns c).In_ok-lists in
     let told = c.in_ok-lists.ensures c.self.inside.view c.args.view.now (is_known at) (differ at) c.in_ok-narrow.ensures in
-    let known = known_some c.as_slice-all.result.now c.self.inside.models c.as_slice-all.ensures c.self.inside.instances c.args.view.now c.in_ok-lists.field-0 c.in-Some.lists told c.in-Some.is in (
+    let known = known_some c.as_slice-all.result.now c.self.inside.instances c.args.view.now c.in_ok-lists.field-0 c.in-Some.lists told c.in-Some.is
+    c.self.inside.models c.as_slice-all.ensures c.args.view.now refl in (
       subst (λ (k : Knowing). is_well_formed k.models k.instances c.args.view.now ≡ true) c.self.view_is known.formed,
       ap (λ (v : View). record { models = c.self.inside.models; instances = c.self.inside.instances; view = v }) c.widened.ensures
           ∙ ap (λ (k : Knowing). record { models = k.models; instances = k.instances; view = c.args.view.now }) c.self.view_is,
