@@ -10,6 +10,7 @@ pub mod Posting
 pub mod Calm
 pub mod Waiting
 pub mod Again
+pub mod Listed
 pub mod Among
 pub mod Sorted
 pub mod OneByPart

@@ -1,5 +1,5 @@
 //! The view that was planned last.
-ghost use Rattle.std.specs.Prelude.{◌≡◌, true, false, IfOk, IsTrue};
+ghost use Rattle.std.specs.Prelude.{◌≡◌, true, false, IfOk, OnOk, IsTrue};
 ghost use Rattle.hx_ids.specs.declared.PartId.{PartId};
 ghost use Rattle.hx_cluster.specs.Reads.{nothing_shown};
 ghost use Rattle.hx_parts.specs.Marks.{is_marked};
@@ -16,13 +16,25 @@ use std::{marker, mem};
 /// The view that was planned last. Contracts see it. Its sessions and what was wanted are copied;
 /// its messages and rows are taken over once the turn that was shown them ends, and then they are
 /// held. The lists for the marked parts serve again each time.
-#[derive(Drop)]
 pub(crate) struct Kept {
     view: Snapshot<View>,
     lists: View,
     held: bool,
     mail: Seq<Message>,
     rows: Seq<Row>,
+}
+
+// A derived drop is written out, field by field, wherever one is dropped; this is a call.
+impl Drop for Kept {
+    fn drop(self) {
+        let Kept {
+            view: _,
+            lists: _,
+            held: _,
+            mail: _,
+            rows: _,
+        } = self;
+    }
 }
 
 impl marker::Model for Kept {
@@ -38,11 +50,21 @@ impl marker::Model for Kept {
 
 /// A view with the rows and messages of the marked parts alone, and two lists that aren't in use
 /// meanwhile.
-#[derive(Drop)]
 pub(crate) struct Narrow {
     pub view: View,
     mail: Seq<Message>,
     rows: Seq<Row>,
+}
+
+// This is a call, too.
+impl Drop for Narrow {
+    fn drop(self) {
+        let Narrow {
+            view: _,
+            mail: _,
+            rows: _,
+        } = self;
+    }
 }
 
 /// Whether what is wanted is the same.
@@ -52,6 +74,18 @@ fn same_ideals(ideals: &Ideals, others: &Ideals) -> bool
     ideals.resources.same(&others.resources)
         && ideals.drained.same(&others.drained)
         && ideals.resets.same(&others.resets)
+}
+
+/// Gives lists the sessions and what is wanted of a view. What they have of what is wanted in the
+/// same place is kept, and takes no memory.
+fn show_like(lists: &mut View, view: &View) -> Result<(), AllocError>
+    ensures { OnOk result (IsAlike lists.new view.now) }
+{
+    lists.live = view.live.clone()?;
+    let none = no_ideals(view.live.allocator());
+    let ideals = mem::replace(&mut lists.ideals, none);
+    lists.ideals = ideals_over(&view.ideals, ideals)?;
+    Ok(())
 }
 
 impl Kept {
@@ -81,10 +115,7 @@ impl Kept {
             mail,
             rows,
         } = self;
-        let none = no_ideals(view.live.allocator());
-        let ideals = mem::replace(&mut lists.ideals, none);
-        lists.live = view.live.clone()?;
-        lists.ideals = ideals_over(&view.ideals, ideals)?;
+        show_like(&mut lists, view)?;
         Ok(Kept {
             view: Snapshot::of(view),
             lists,

@@ -7,13 +7,15 @@ ghost use Rattle.hx_model.specs.declared.ModelParts.{ModelParts};
 ghost use Rattle.hx_cluster.specs.declared.planning.View.{View};
 ghost use Rattle.hx_cluster.specs.Ends.{part_eq};
 ghost use Rattle.hx_cluster.specs.Views.{is_well_formed};
+ghost use Rattle.hx_formed.specs.Wanted.{are_good_ideals};
 ghost use Rattle.hx_pass.specs.Plans.{all_candidates};
 ghost use Rattle.hx_pass.specs.Turns.{posted_of};
 ghost use Rattle.hx_gen.specs.Modelled.{has_models};
 ghost use Rattle.hx_parts.specs.Parts.{IsByPart};
 ghost use Rattle.hx_parts.specs.Marks.{are_rising, is_marked, IsSpliced};
-ghost use Rattle.hx_pass.specs.Local.{IsAlike, ShowSame, DifferWithin, accepted_in, accepted_within};
-ghost use Rattle.hx_pass.specs.Known.{IsKnownOf, IsKnownAs};
+ghost use Rattle.hx_pass.specs.Local.{IsAlike, ShowSame, DifferWithin};
+ghost use Rattle.hx_pass.specs.Local.{accepted_in, narrowed as narrowed_of};
+ghost use Rattle.hx_pass.specs.Known.{IsKnown, IsKnownOf, IsKnownAs};
 
 use crate::choices::Choice;
 use crate::kept::Kept;
@@ -38,28 +40,42 @@ pub(crate) struct Described<'a> {
     ghost hops_are: { hops.now ≡ spec.now.models },
 }
 
-/// A view that is well formed with the models and the number of instances of a description, and
-/// what a pass finds of it: the accepted candidates, those that may be left, and the rows to post.
-/// Contracts see the first three.
-pub(crate) struct Known {
-    models: Seq<Model>,
-    instances: usize,
-    view: Kept,
+/// What a pass finds of a view: the accepted candidates, those that may be left, and the rows to
+/// post.
+struct Lists {
     accepted: Seq<Candidate>,
     waiting: Vec<Candidate>,
     posted: Vec<Seen>,
 }
 
 // A derived drop is written out, field by field, wherever one is dropped; this is a call.
+impl Drop for Lists {
+    fn drop(self) {
+        let Lists {
+            accepted: _,
+            waiting: _,
+            posted: _,
+        } = self;
+    }
+}
+
+/// A view that is well formed with the models and the number of instances of a description, and
+/// what a pass finds of it. Contracts see the first three.
+pub(crate) struct Known {
+    models: Seq<Model>,
+    instances: usize,
+    view: Kept,
+    lists: Lists,
+}
+
+// This is a call, too.
 impl Drop for Known {
     fn drop(self) {
         let Known {
             models: _,
             instances: _,
             view: _,
-            accepted: _,
-            waiting: _,
-            posted: _,
+            lists: _,
         } = self;
     }
 }
@@ -72,7 +88,8 @@ impl marker::Model for Known {
     ghost view = { λ a. record { models = a.models; instances = a.instances; view = a.view } };
 
     ghost invariant = { λ a.
-        IsKnown a.models a.instances a.view a.accepted a.waiting.items a.posted.items };
+        IsKnown a.models a.instances a.view
+        a.lists.accepted a.lists.waiting.items a.lists.posted.items };
 }
 
 /// Candidates in order of part, where those of some parts give way to new ones. It costs nothing
@@ -95,26 +112,97 @@ fn splice_few(
     splice(alloc, old, parts, new)
 }
 
+impl Lists {
+    /// The lists of a view, if it is well formed with a description.
+    fn of(alloc: Global, described: &Described, view: &View) -> Result<Option<Lists>, AllocError>
+        ensures { IfOk result (λ lists. MatchOption lists
+            (is_well_formed described.now.spec.now.models (length described.now.spec.now.instances)
+            view.now ≡ false) (λ l.
+            IsKnown described.now.spec.now.models (length described.now.spec.now.instances)
+            view.now l.accepted l.waiting.items l.posted.items)) }
+    {
+        let Described { spec, hops } = *described;
+        let models = spec.models.as_slice();
+        let instances = spec.instances.len() as usize;
+        if !is_well_formed(alloc, models, instances, view)? {
+            return Ok(None);
+        }
+        let posted = posted_rows(alloc, view)?;
+        let Choice { accepted, waiting } = choose(alloc, models, hops, view)?;
+        Ok(Some(Lists {
+            accepted,
+            waiting,
+            posted,
+        }))
+    }
+
+    /// The lists of a view that differs in the marked parts alone from the one that these are of, if
+    /// it is well formed. It is lent narrowed to these parts.
+    #[inline(always)]
+    fn again(
+        &self,
+        alloc: Global,
+        models: &[Model],
+        instances: usize,
+        hops: &[Hops],
+        narrow: &View,
+        marks: &Marks,
+    ) -> Result<Option<Lists>, AllocError>
+        requires hops { hops.now ≡ models.now }
+        requires ideals { are_good_ideals models.now instances narrow.now.ideals ≡ true }
+        requires accepted { IsByPart (λ c. c.part) self.now.accepted }
+        requires waiting { IsByPart (λ c. c.part) self.now.waiting.items }
+        requires posted { IsByPart (λ s. s.part) self.now.posted.items }
+        ensures { IfOk result (λ lists. (v w : View)
+            → IsKnown models.now instances v
+            self.now.accepted self.now.waiting.items self.now.posted.items
+            → DifferWithin (is_marked marks.now) v w
+            → narrow.now ≡ narrowed_of (is_marked marks.now) w
+            → MatchOption lists (is_well_formed models.now instances w ≡ false) (λ l.
+            IsKnown models.now instances w l.accepted l.waiting.items l.posted.items)) }
+    {
+        if !is_well_formed_beside(alloc, models, instances, narrow)? {
+            return Ok(None);
+        }
+        let new = found_among(alloc, models, hops, narrow, marks)?;
+        let parts = new.parts.as_slice();
+        let (found, left) = (
+            new.choice.accepted.as_slice(),
+            new.choice.waiting.as_slice(),
+        );
+        let accepted = splice_few(alloc, self.accepted.as_slice(), parts, found)?;
+        let waiting = splice_few(alloc, self.waiting.as_slice(), parts, left)?;
+        let posted = splice(alloc, self.posted.as_slice(), parts, new.posted.as_slice())?;
+        Ok(Some(Lists {
+            accepted: Seq::from_vec(accepted),
+            waiting,
+            posted,
+        }))
+    }
+}
+
 impl Known {
     /// The accepted candidates.
     pub fn accepted(&self) -> &[Candidate]
         ensures { result.now ≡ accepted_in self.now.models self.now.view }
     {
-        self.accepted.as_slice()
+        self.lists.accepted.as_slice()
     }
 
     /// Whether it is known to have no candidates, with the models of a description.
     pub fn is_still(&self, spec: &Spec) -> bool
         ensures { IsTrue result → all_candidates spec.now.models self.now.view ≡ [] }
     {
-        self.accepted.is_empty() && self.waiting.is_empty() && self.models.same(&spec.models)
+        self.lists.accepted.is_empty()
+            && self.lists.waiting.is_empty()
+            && self.models.same(&spec.models)
     }
 
     /// The rows to post.
     pub fn posted(&self) -> &[Seen]
         ensures { result.now ≡ posted_of self.now.view }
     {
-        self.posted.as_slice()
+        self.lists.posted.as_slice()
     }
 
     /// What there is to know of a view, if it is well formed with a description. What was kept of an
@@ -127,20 +215,17 @@ impl Known {
     ) -> Result<Option<Known>, AllocError>
         ensures { IfOk result (λ known. IsKnownOf described.now.spec.now view.now known) }
     {
-        let Described { spec, hops } = *described;
-        let models = spec.models.as_slice();
-        let instances = spec.instances.len() as usize;
-        if !is_well_formed(alloc, models, instances, view)? {
+        let Some(lists) = Lists::of(alloc, described, view)? else {
             return Ok(None);
-        }
-        let Choice { accepted, waiting } = choose(alloc, models, hops, view)?;
+        };
+        let spec = described.spec;
+        let models = spec.models.clone()?;
+        let kept = kept.over(view)?;
         Ok(Some(Known {
-            accepted,
-            waiting,
-            posted: posted_rows(alloc, view)?,
-            models: spec.models.clone()?,
-            instances,
-            view: kept.over(view)?,
+            models,
+            instances: spec.instances.len() as usize,
+            view: kept,
+            lists,
         }))
     }
 
@@ -152,9 +237,7 @@ impl Known {
             models: _,
             instances: _,
             view,
-            accepted: _,
-            waiting: _,
-            posted: _,
+            lists: _,
         } = self;
         view
     }
@@ -207,30 +290,18 @@ impl Known {
             models,
             instances,
             view: last,
-            accepted,
-            waiting,
-            posted,
+            lists,
         } = self;
         let narrow = last.narrowed(view, marks)?;
-        if !is_well_formed_beside(alloc, models.as_slice(), instances, &narrow.view)? {
+        let all = models.as_slice();
+        let Some(lists) = lists.again(alloc, all, instances, hops, &narrow.view, marks)? else {
             return Ok(None);
-        }
-        let new = found_among(alloc, models.as_slice(), hops, &narrow.view, marks)?;
-        let parts = new.parts.as_slice();
-        let (found, left) = (
-            new.choice.accepted.as_slice(),
-            new.choice.waiting.as_slice(),
-        );
-        let accepted = splice_few(alloc, accepted.as_slice(), parts, found)?;
-        let waiting = splice_few(alloc, waiting.as_slice(), parts, left)?;
-        let posted = splice(alloc, posted.as_slice(), parts, new.posted.as_slice())?;
+        };
         Ok(Some(Known {
             models,
             instances,
             view: narrow.widened(view),
-            accepted: Seq::from_vec(accepted),
-            waiting,
-            posted,
+            lists,
         }))
     }
 }

@@ -16,10 +16,10 @@ pub returns-then-is_empty-2 : goal.returns-then-is_empty-2
 returns-then-is_empty-2 c = elim c.if-is_empty.branch [
   | then-is_empty w ↦ λ same.
       let a = c.self.inside in
-      let zero : vec_len a.waiting ≡ 0 = grind (arith, nat_tests, w.is_empty-then-is_empty.ensures, w.value-is, c.if-is_empty-2.true) in
-      let none : a.waiting.items ≡ [] = none_there a.waiting.items (grind (arith, zero, a.waiting.ok)) in
+      let zero : vec_len a.lists.waiting ≡ 0 = grind (arith, nat_tests, w.is_empty-then-is_empty.ensures, w.value-is, c.if-is_empty-2.true) in
+      let none : a.lists.waiting.items ≡ [] = none_there a.lists.waiting.items (grind (arith, zero, a.lists.waiting.ok)) in
       subst (λ (k : Knowing). all_candidates c.args.spec.now.models k.view ≡ []) c.self.view_is
       (subst (λ (ms : List ModelParts). all_candidates ms a.view ≡ []) (c.same.ensures.0 same)
-      (none_left (all_candidates a.models a.view) a.accepted a.waiting.items c.self.invariant.waiting_are (c.is_empty.ensures.0 w.if-is_empty.true) none))
+      (none_left (all_candidates a.models a.view) a.lists.accepted a.lists.waiting.items c.self.invariant.waiting_are (c.is_empty.ensures.0 w.if-is_empty.true) none))
   | else-is_empty w ↦ absurd (grind (arith, w.value-is, w.if-is_empty.false, c.if-is_empty-2.true))
 ]
