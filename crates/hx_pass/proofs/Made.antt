@@ -6,14 +6,10 @@ use Rattle.hx_cluster.specs.declared.planning.View.{View}
 use Rattle.hx_cluster.specs.declared.planning.Target.{Target}
 use Rattle.hx_cluster.specs.declared.planning.Candidate.{Candidate}
 use Rattle.hx_cluster.specs.declared.planning.Selection.{Selection}
-use Rattle.hx_cluster.specs.declared.planning.Throttled.{Throttled}
-use Rattle.hx_cluster.specs.declared.planning.Report.{Report}
 use Rattle.hx_best.specs.Targets.{all_targets}
 use Rattle.hx_gen.specs.Candidates.{candidates}
 use Rattle.hx_select.specs.Selection.{selection, accepted_of}
-use Rattle.hx_throttle.specs.Throttle.{throttled}
-use Rattle.hx_report.specs.Findings.{report}
-use Rattle.hx_pass.specs.Plans.{all_candidates, selection_of, throttled_of, plan}
+use Rattle.hx_pass.specs.Plans.{all_candidates, selection_of, plan}
 
 -- by the index of a view, and the slices of what the stages before it found
 module _ (models : List ModelParts) (view index : View) (same : index ≡ view) where
@@ -25,17 +21,6 @@ module _ (models : List ModelParts) (view index : View) (same : index ≡ view) 
 
   pub accepted_is : (read accepted : List Candidate) → read ≡ all_candidates models view → accepted ≡ accepted_of models index read → accepted ≡ (selection_of models view).accepted
   accepted_is read accepted there is = is ∙ ap (λ (v : View). accepted_of models v read) same ∙ ap (accepted_of models view) there
-
-  pub report_is : (rules : List Rule) (read : List Target) (s : Selection) (t : Throttled) (fates : Selection × Throttled) (r : Report)
-      → read ≡ all_targets models view → s ≡ selection_of models view → t ≡ throttled_of models rules view → fates ≡ (s, t) → r ≡ report read index fates.0 fates.1 → r ≡ (plan models rules view).report
-  report_is rules read s t fates r there selected held are is =
-      is ∙ ap (λ (xs : List Target). report xs index fates.0 fates.1) there ∙ ap (λ (v : View). report (all_targets models view) v fates.0 fates.1) same
-      ∙ ap (λ (f : Selection × Throttled). report (all_targets models view) view f.0 f.1) are
-      ∙ ap (λ (x : Selection). report (all_targets models view) view x t) selected ∙ ap (report (all_targets models view) view (selection_of models view)) held
-
-pub throttled_is : (models : List ModelParts) (rules : List Rule) (view index : View) (read : List Candidate) (t : Throttled)
-    → index ≡ view → read ≡ (selection_of models view).accepted → t ≡ throttled rules index read → t ≡ throttled_of models rules view
-throttled_is models rules view index read t same there is = is ∙ ap (λ (v : View). throttled rules v read) same ∙ ap (throttled rules view) there
 
 pub plan_same : (models ms : List ModelParts) (rules rs : List Rule) (view v : View) → ms ≡ models → rs ≡ rules → v ≡ view → plan ms rs v ≡ plan models rules view
 plan_same models ms rules rs view v a b c = ap (λ (x : List ModelParts). plan x rs v) a ∙ ap (λ (x : List Rule). plan models x v) b ∙ ap (plan models rules) c

@@ -99,11 +99,21 @@ fn posted_among(alloc: Global, index: &Index<'_>, parts: &[PartId]) -> Result<Ve
 
 /// The marked parts in order, and what is found of them: what is chosen of the candidates, and the
 /// rows to post.
-#[derive(Drop)]
 pub(crate) struct Found {
     pub parts: Vec<PartId>,
     pub choice: Choice,
     pub posted: Vec<Seen>,
+}
+
+// A derived drop is written out, field by field, wherever one is dropped; this is a call.
+impl Drop for Found {
+    fn drop(self) {
+        let Found {
+            parts: _,
+            choice: _,
+            posted: _,
+        } = self;
+    }
 }
 
 /// What is found of the marked parts of a view.

@@ -2,12 +2,17 @@
 ghost use Rattle.std.specs.Prelude.{◌≡◌, true, false, [], List, IfOk, IsTrue, map};
 ghost use Rattle.hx_cluster.specs.declared.description.Rule.{Rule as OfRules};
 ghost use Rattle.hx_best.specs.Lookups.{has_errors};
+ghost use Rattle.hx_best.specs.Targets.{all_targets};
 ghost use Rattle.hx_gen.specs.Modelled.{has_models};
 ghost use Rattle.hx_parts.specs.Parts.{IsByPart};
-ghost use Rattle.hx_pass.specs.Plans.{all_candidates, plan, proposal};
+ghost use Rattle.hx_throttle.specs.Throttle.{throttled};
+ghost use Rattle.hx_report.specs.Findings.{report};
+ghost use Rattle.hx_pass.specs.Plans.{all_candidates, plan, plan_over, proposal};
 
 use hx_best::{Index, all_targets, moving_targets};
-use hx_cluster::{Candidate, Entries, Plan, Proposal, Report, Row, Rule, View};
+use hx_cluster::{
+    Candidate, Entries, Plan, Proposal, Report, Row, Rule, Selection, Throttled, View,
+};
 use hx_gen::candidates;
 use hx_hops::Hops;
 use hx_lists::Seq;
@@ -100,6 +105,55 @@ fn plan_of_none(alloc: Global, models: &[Model], view: &View) -> Plan
     }
 }
 
+/// What is found of each target, by what was selected and throttled.
+fn report_of(
+    alloc: Global,
+    models: &[Model],
+    index: &Index<'_>,
+    selection: &Selection,
+    throttled: &Throttled,
+) -> Result<Report, AllocError>
+    ensures { IfOk result (λ all. all
+        ≡ report (all_targets models.now index.now) index.now selection.now throttled.now) }
+{
+    let targets = all_targets(alloc, models, index)?;
+    let fates = Fates::new(alloc, selection, throttled)?;
+    report_on(alloc, targets.as_slice(), index.shown(), &fates)
+}
+
+/// The plan of what was selected and throttled.
+fn plan_over(
+    alloc: Global,
+    models: &[Model],
+    index: &Index<'_>,
+    selection: &Selection,
+    throttled: &Throttled,
+) -> Result<Plan, AllocError>
+    ensures { IfOk result (λ made. made
+        ≡ plan_over models.now index.now selection.now throttled.now) }
+{
+    Ok(Plan {
+        proposals: proposals_of(alloc, throttled.sent.as_slice())?,
+        report: report_of(alloc, models, index, selection, throttled)?,
+    })
+}
+
+/// The plan of what was selected.
+fn plan_of_selected(
+    alloc: Global,
+    models: &[Model],
+    rules: &[Rule],
+    index: &Index<'_>,
+    selection: &Selection,
+) -> Result<Plan, AllocError>
+    ensures { IfOk result (λ made. made
+        ≡ plan_over models.now index.now selection.now
+        (throttled rules.now index.now selection.now.accepted)) }
+{
+    let throttled = throttle_on(alloc, rules, index.view(), selection.accepted.as_slice())?;
+    plan_over(alloc, models, index, selection, &throttled)
+}
+
 /// The plan of the candidates.
 fn plan_of(
     alloc: Global,
@@ -111,14 +165,8 @@ fn plan_of(
     requires { candidates.now ≡ all_candidates models.now index.now }
     ensures { IfOk result (λ made. made ≡ plan models.now rules.now index.now) }
 {
-    let targets = all_targets(alloc, models, index)?;
     let selection = select_on(alloc, models, index.shown(), candidates)?;
-    let throttled = throttle_on(alloc, rules, index.view(), selection.accepted.as_slice())?;
-    let fates = Fates::new(alloc, &selection, &throttled)?;
-    Ok(Plan {
-        proposals: proposals_of(alloc, throttled.sent.as_slice())?,
-        report: report_on(alloc, targets.as_slice(), index.shown(), &fates)?,
-    })
+    plan_of_selected(alloc, models, rules, index, &selection)
 }
 
 /// What is proposed of the sent candidates.
