@@ -3,3 +3,4 @@ pub mod Free
 pub mod Copies
 pub mod Histories
 pub mod Reaching
+pub mod Told

@@ -1,8 +1,12 @@
 //! What controllers send.
-ghost use Rattle.std.specs.Prelude.{◌≡◌, ◌+◌, ◌*◌, ◌≤◌, [], true, length, vec_capacity, IfOk, OnErr};
+ghost use Rattle.std.specs.Prelude.{◌≡◌, ◌+◌, ◌*◌, ◌≤◌, [], ◌∷◌, ◌++◌, true, length, vec_capacity};
+ghost use Rattle.std.specs.Prelude.{IfOk, OnOk, OnErr};
 ghost use Rattle.std.specs.List.{list_all};
 ghost use Rattle.hx_lists.specs.Answers.{RefusedAs, RefusedBy};
 ghost use Rattle.hx_cluster.specs.Steps.{has_controller};
+ghost use Rattle.hx_cluster.specs.Messages.{after_dispatch};
+ghost use Rattle.hx_cluster.specs.Room.{HasRoom};
+ghost use Rattle.hx_records.specs.Reached.{IsReached};
 ghost use Rattle.hx_cluster.specs.Events.{dispatched_of, is_proposable};
 ghost use Rattle.hx_board.specs.Board.{happened, IsNumber};
 ghost use Rattle.hx_board.specs.Refusals.{dispatch_refusal};
@@ -10,8 +14,10 @@ ghost use Rattle.hx_board.specs.Refusals.{dispatch_refusal};
 use crate::board::{Board, make_room, record};
 use crate::faults::DispatchRefusal;
 use hx_cluster::{Dispatched, Event, Placed, Proposal};
+use hx_history::History;
 use hx_ids::{ControllerId, Epoch, PassNo};
 use hx_lists::Seq;
+use hx_records::Records;
 use std::alloc::{AllocError, Global};
 
 /// What a dispatch of so many proposals weighs, where that is a number of 64 bits.
@@ -71,6 +77,36 @@ impl Unanswered {
     }
 }
 
+/// Makes a dispatch that nothing refuses, and records it in room that was made.
+#[inline(always)]
+fn place(
+    records: &mut Records,
+    history: &mut History,
+    alloc: Global,
+    c: ControllerId,
+    epoch: Epoch,
+    pass: PassNo,
+    proposals: &[Proposal],
+) -> Result<Dispatched, AllocError>
+    requires reached { IsReached records.old }
+    requires range { list_all (is_proposable records.old) proposals.now ≡ true }
+    requires room { HasRoom records.old }
+    requires spare { 1 ≤ history.old.entries.spare }
+    ensures answer { IfOk result (λ answer. answer ≡ dispatched_of records.old c proposals.now) }
+    ensures after { OnOk result (records.new ≡ after_dispatch records.old c proposals.now) }
+    ensures items { IfOk result (λ answer.
+        history.new.entries.items
+        ≡ history.old.entries.items
+        ++ Event.Dispatch c epoch pass proposals.now answer ∷ []) }
+    ensures spare { OnOk result (history.new.entries.spare + 1 ≡ history.old.entries.spare) }
+    ensures err { OnErr result ((records.new ≡ records.old) × (history.new ≡ history.old)) }
+{
+    let event = Unanswered::new(alloc, proposals)?;
+    let answer = records.dispatch(c, proposals)?;
+    record(history, event.answered(c, epoch, pass, &answer));
+    Ok(answer)
+}
+
 impl Board {
     /// What a dispatch weighs that isn't refused whole, or why it is.
     fn sendable(
@@ -122,11 +158,10 @@ impl Board {
     {
         let weight = self.sendable(c, epoch, pass, proposals)?;
         let coming = weight as usize - 1 - proposals.len();
-        let event = Unanswered::new(*self.lines.allocator(), proposals)?;
         make_room(&mut self.history, self.owed, 1 + coming)?;
-        let answer = self.records.dispatch(c, proposals)?;
-        let told = event.answered(c, epoch, pass, &answer);
-        record(&mut self.history, told);
+        let alloc = *self.lines.allocator();
+        let (records, history) = (&mut self.records, &mut self.history);
+        let answer = place(records, history, alloc, c, epoch, pass, proposals)?;
         self.weight += weight;
         self.owed += coming;
         Ok(answer)

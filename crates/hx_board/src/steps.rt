@@ -1,10 +1,12 @@
 //! The steps of an operator, a session or a leader; the script's lines; and charges.
-ghost use Rattle.std.specs.Prelude.{◌≡◌, true, false, None};
+ghost use Rattle.std.specs.Prelude.{◌≡◌, ◌+◌, ◌≤◌, [], ◌∷◌, ◌++◌, true, false, None};
 ghost use Rattle.std.specs.Prelude.{IfOk, OnOk, OnErr, IsErrOf};
 ghost use Rattle.hx_lists.specs.Answers.{RefusedAs, RefusedBy};
-ghost use Rattle.hx_cluster.specs.Steps.{did_of, is_in_range};
+ghost use Rattle.hx_cluster.specs.Steps.{after, did_of, is_in_range, refusal_of};
+ghost use Rattle.hx_cluster.specs.Room.{HasRoom};
 ghost use Rattle.hx_cluster.specs.Numbered.{is_end};
 ghost use Rattle.hx_cluster.specs.Weight.{step_weight as step_weight_of};
+ghost use Rattle.hx_records.specs.Reached.{IsReached};
 ghost use Rattle.hx_board.specs.Board.{happened, charged, next_line_of, line_taken};
 ghost use Rattle.hx_board.specs.Board.{opens as opens_of, IsNumber};
 ghost use Rattle.hx_board.specs.Refusals.{charge_refusal, line_refusal, step_refusal};
@@ -12,6 +14,8 @@ ghost use Rattle.hx_board.specs.Refusals.{charge_refusal, line_refusal, step_ref
 use crate::board::{Board, make_room, record};
 use crate::faults::{BoardFault, HistoryFull, RoomFault};
 use hx_cluster::{Admin, Did, Event};
+use hx_history::History;
+use hx_records::Records;
 use std::alloc::AllocError;
 
 /// What a step weighs, where that is a number of 64 bits.
@@ -59,6 +63,28 @@ fn event_of(step: &Admin, did: &Did) -> Result<Event, AllocError>
     Ok(Event::Admin(step, did))
 }
 
+/// Makes a step that nothing refuses, and records it in room that was made.
+#[inline(always)]
+fn make(records: &mut Records, history: &mut History, step: &Admin) -> Result<Did, AllocError>
+    requires may { refusal_of records.old step.now ≡ None }
+    requires range { is_in_range records.old step.now ≡ true }
+    requires reached { IsReached records.old }
+    requires room { HasRoom records.old }
+    requires spare { 1 ≤ history.old.entries.spare }
+    ensures did { IfOk result (λ did. did ≡ did_of records.old step.now) }
+    ensures after { OnOk result (records.new ≡ after records.old step.now) }
+    ensures items { IfOk result (λ did.
+        history.new.entries.items ≡ history.old.entries.items ++ Event.Admin step.now did ∷ []) }
+    ensures spare { OnOk result (history.new.entries.spare + 1 ≡ history.old.entries.spare) }
+    ensures err { OnErr result ((records.new ≡ records.old) × (history.new ≡ history.old)) }
+{
+    let did = records.answer_to(step)?;
+    let event = event_of(step, &did)?;
+    records.make(step, &did)?;
+    record(history, event);
+    Ok(did)
+}
+
 impl Board {
     /// What a step weighs that nothing refuses, or why it is refused.
     fn allowed(&self, step: &Admin) -> Result<u64, BoardFault>
@@ -93,6 +119,25 @@ impl Board {
         self.owed -= 1;
     }
 
+    /// Makes a step that nothing refuses, and pays what it weighs.
+    #[inline(always)]
+    fn change(&mut self, step: &Admin, weight: u64) -> Result<Did, AllocError>
+        requires free { step_refusal self.old step.now ≡ None }
+        requires range { is_in_range self.old.cluster step.now ≡ true }
+        requires weight { weight ≡ step_weight_of step.now }
+        ensures did { IfOk result (λ did. did ≡ did_of self.old.cluster step.now) }
+        ensures ok { OnOk result (
+            self.new
+            ≡ happened self.old (Event.Admin step.now (did_of self.old.cluster step.now))) }
+        ensures err { OnErr result (self.new ≡ self.old) }
+    {
+        make_room(&mut self.history, self.owed, 2)?;
+        let did = make(&mut self.records, &mut self.history, step)?;
+        self.weight += weight;
+        self.owed += opens(step);
+        Ok(did)
+    }
+
     /// Makes a step. An end takes no memory.
     pub fn admin(&mut self, step: &Admin) -> Result<Did, BoardFault>
         requires { is_in_range self.old.cluster step.now ≡ true }
@@ -111,14 +156,7 @@ impl Board {
             });
             return Ok(Did::Done);
         }
-        let did = self.records.answer_to(step)?;
-        let event = event_of(step, &did)?;
-        make_room(&mut self.history, self.owed, 2)?;
-        self.records.make(step, &did)?;
-        record(&mut self.history, event);
-        self.weight += weight;
-        self.owed += opens(step);
-        Ok(did)
+        Ok(self.change(step, weight)?)
     }
 
     /// The script's line that comes next, unless all are taken.

@@ -1,5 +1,5 @@
-use Rattle.std.proofs.Common.{ℕ, ◌+◌, ◌≤◌, sym, ◌∙◌, subst, arith}
-use Rattle.hx_board.specs.Board.{Held, held, weight_at}
+use Rattle.std.proofs.Common.{ℕ, ◌+◌, ◌≤◌, sym, ap, ◌∙◌, subst, arith}
+use Rattle.hx_board.specs.Board.{Held, held, weight_at, charged}
 use Rattle.hx_board.specs.declared.faults.HistoryFull.{HistoryFull}
 use Rattle.hx_board.proofs.Free.{full_free, full_told}
 use Rattle.hx_board.proofs.Growing.{charged_more}
@@ -25,3 +25,6 @@ pub returns-in-Some-clause-refused : goal.returns-in-Some-clause-refused
 returns-in-Some-clause-refused c =
     let fault : ℕ → HistoryFull = λ w. record { weight = w } in
     full_told c.args.self.now c.args.n fault c.in-Some.weight (sym c.full.ensures ∙ c.in-Some.is)
+
+pub returns-clause-ok : goal.returns-clause-ok
+returns-clause-ok c = ap (λ (v : Held). charged v c.args.n) c.self.view_is

@@ -6,6 +6,7 @@ use Rattle.hx_cluster.specs.Reads.{messages_for, fetched}
 use Rattle.hx_board.specs.Board.{Held}
 use Rattle.hx_board.specs.declared.faults.RoomFault.TheVariants as rooms
 use Rattle.hx_board.proofs.Free.{full_free, full_told}
+use Rattle.hx_board.proofs.Told.{told}
 use Rattle.hx_board.proofs.Growing.{roomy, recorded}
 use Rattle.hx_board.proofs.board.Board.fetch.Goals as goal
 
@@ -33,3 +34,10 @@ invariant_of-self-2 c =
 
 pub returns-in-Some-clause-refused : goal.returns-in-Some-clause-refused
 returns-in-Some-clause-refused c = inr (full_told c.args.self.now 1 rooms.HistoryFull c.in-Some.weight (sym c.full.ensures ∙ c.in-Some.is))
+
+pub returns-clause-ok : goal.returns-clause-ok
+returns-clause-ok c =
+    let i = c.args.instance in
+    let mail = c.in_ok-mail.mail in
+    let count : c.in-Ok.count ≡ length mail.messages = grind (arith, c.in-Ok.ensures, c.len.ensures) in
+    told c.self.inside _ _ c.make_room.new.history c.record.new.history _ (events.Fetch i mail.session (length mail.messages)) c.self.view_is refl c.in_ok-make_room.ensures.items c.record.ensures.items (ap (events.Fetch i mail.session) count)

@@ -1,4 +1,5 @@
 use Rattle.std.proofs.Common.{◌≡◌, None, Some, sym, ap, ◌∙◌, ◌∷◌, [], ◌++◌, List, subst, arith}
+use Rattle.std.proofs.lemmas.Grind.{common_steps}
 use Rattle.std.specs.Prelude.{slice_get}
 use Rattle.hx_cluster.specs.declared.happenings.Event.{Event}
 use Rattle.hx_cluster.specs.declared.happenings.Event.TheVariants as events
@@ -28,3 +29,6 @@ invariant_of-self-2 c =
       within = omega (arith, line_free (held a) n follows none, c.self.invariant.weighs);
       room = omega (arith, c.in_ok-make_room.ensures.room, c.record.ensures.spare);
     })
+
+pub overflow_add-self : goal.overflow_add-self
+overflow_add-self c = grind (arith, common_steps)

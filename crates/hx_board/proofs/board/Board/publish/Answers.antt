@@ -3,6 +3,7 @@ use Rattle.hx_board.specs.Board.{Held, held, weight_at}
 use Rattle.hx_cluster.specs.declared.state.Cluster.{Cluster}
 use Rattle.hx_cluster.specs.declared.happenings.Event.TheVariants as events
 use Rattle.hx_board.proofs.Free.{post_free}
+use Rattle.hx_board.proofs.Told.{told}
 use Rattle.hx_board.proofs.Growing.{roomy, still, recorded}
 use Rattle.hx_board.proofs.board.Board.publish.Goals as goal
 use Rattle.hx_board.proofs.board.Board.publish.Goals.{In_default}
@@ -32,3 +33,6 @@ overflow_add-self c = omega (arith, fits (goal.at.overflow_add-self c).In_defaul
 
 pub overflow_add-self-2 : goal.overflow_add-self-2
 overflow_add-self-2 c = omega (arith, fits (goal.at.overflow_add-self-2 c).In_default, c.self.invariant.weighs, c.self.invariant.limited)
+
+pub returns-clause-ok : goal.returns-clause-ok
+returns-clause-ok c = told c.self.inside _ _ c.make_room.new.history c.record.new.history _ (events.Post c.args.c c.args.epoch c.args.rows.now) c.self.view_is c.in_ok-publish.ensures.ok c.in_ok-make_room.ensures.items c.record.ensures.items (ap (events.Post c.args.c c.args.epoch) (c.posted_rows-posted.ensures ∙ ap (λ (d : Cluster). d.posted) c.in_ok-publish.ensures.ok))

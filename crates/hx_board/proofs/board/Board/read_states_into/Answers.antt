@@ -1,5 +1,6 @@
 use Rattle.std.proofs.Common.{refl, sym, ◌∙◌}
 use Rattle.hx_cluster.specs.declared.happenings.Event.TheVariants as events
+use Rattle.hx_board.proofs.Told.{told}
 use Rattle.hx_board.proofs.Growing.{roomy, shown}
 use Rattle.hx_board.proofs.board.Board.read_states_into.Goals as goal
 
@@ -11,3 +12,6 @@ invariant_of-self c = roomy c.self.inside c.make_room.new.history c.self.invaria
 
 pub invariant_of-self-in_err-read_states_into : goal.invariant_of-self-in_err-read_states_into
 invariant_of-self-in_err-read_states_into c = roomy c.self.inside c.make_room.new.history c.self.invariant c.in_ok-make_room.ensures.items c.in_ok-make_room.ensures.spare
+
+pub returns-clause-ok : goal.returns-clause-ok
+returns-clause-ok c = told c.self.inside _ _ c.make_room.new.history c.record.new.history _ (events.States c.args.c c.args.pass c.args.session) c.self.view_is refl c.in_ok-make_room.ensures.items c.record.ensures.items refl

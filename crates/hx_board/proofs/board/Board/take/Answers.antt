@@ -1,5 +1,6 @@
-use Rattle.std.proofs.Common.{refl}
+use Rattle.std.proofs.Common.{refl, arith}
 use Rattle.hx_cluster.specs.declared.happenings.Event.TheVariants as events
+use Rattle.hx_board.proofs.Told.{told}
 use Rattle.hx_board.proofs.Growing.{room_of, none-is, owed_take, paid_room, paid}
 use Rattle.hx_board.proofs.board.Board.take.Goals as goal
 
@@ -11,3 +12,9 @@ record-requires c = paid_room c.self.inside _ c.self.invariant (owed_take c.self
 
 pub invariant_of-self-2 : goal.invariant_of-self-2
 invariant_of-self-2 c = paid c.self.inside _ _ (events.Take c.args.session c.args.id) c.self.invariant (none-is _ c.in_ok-take.ensures.refused) refl refl c.in_ok-take.ensures.ok (owed_take c.self.inside.records c.args.session c.args.id c.in_ok-take.ensures.refused) c.record.ensures
+
+pub overflow_sub-self : goal.overflow_sub-self
+overflow_sub-self c = omega (arith, owed_take c.self.inside.records c.args.session c.args.id c.in_ok-take.ensures.refused, c.self.invariant.owed)
+
+pub returns-clause-ok : goal.returns-clause-ok
+returns-clause-ok c = told c.self.inside _ _ c.self.inside.history c.record.new.history _ (events.Take c.args.session c.args.id) c.self.view_is c.in_ok-take.ensures.ok refl c.record.ensures.items refl
