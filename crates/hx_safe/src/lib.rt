@@ -1,5 +1,6 @@
-//! Laws of every cluster along a legal history: it is safe, its lists stand in order, its ids are in
-//! range, and each handler runs once. The contract of each function is a law over the definitions alone.
+//! Laws of every cluster along a legal history: it is safe, its lists stand in order, its ids are
+//! in range, and each handler runs once. The contract of each function is a law over the
+//! definitions alone.
 #![tactic(auto)]
 
 mod runs;
