@@ -13,15 +13,15 @@ use Rattle.hx_app.proofs.input.read_scenario.Goals as goal
 pub read_script-requires-clause-short : goal.read_script-requires-clause-short
 read_script-requires-clause-short c = script_fits c.args.bytes.now c.in-Some.input.description.now c.in-Some.input.script.now c.in-Some.ensures c.requires
 
-pub read_script-requires-clause-readable : goal.read_script-requires-clause-readable
-read_script-requires-clause-readable c =
-    readable c.args.bytes.now c.in_ok-spec.spec (lines_of c.in-Some.input.script.now) c.in_ok-spec.ensures.read
-    (lines_fit c.args.bytes.now c.in-Some.input.description.now c.in-Some.input.script.now c.in-Some.ensures c.requires)
-
 pub returns-in_err-lines-clause-err : goal.returns-in_err-lines-clause-err
 returns-in_err-lines-clause-err c =
     handed_on c.from_residual-in_err-lines.result (by_script c.in_err-lines.field-0.0) (scenario_of c.args.bytes.now) c.from_residual-in_err-lines.ensures.1
     (script_refused c.args.bytes.now c.in-Some.input.description.now c.in-Some.input.script.now c.in_ok-spec.spec c.in_err-lines.field-0.0 c.in_ok-spec.ensures.read c.in-Some.ensures c.in_err-lines.ensures.err)
+
+pub read_script-requires-clause-readable : goal.read_script-requires-clause-readable
+read_script-requires-clause-readable c =
+    readable c.args.bytes.now c.in_ok-spec.spec (lines_of c.in-Some.input.script.now) c.in_ok-spec.ensures.read
+    (lines_fit c.args.bytes.now c.in-Some.input.description.now c.in-Some.input.script.now c.in-Some.ensures c.requires)
 
 pub returns-clause-given : goal.returns-clause-given
 returns-clause-given c =

@@ -1,4 +1,5 @@
-use Rattle.std.proofs.Common.{◌≡◌, ℕ, take, sym, ap, ◌∙◌, subst}
+use Rattle.std.proofs.Common.{◌≡◌, ℕ, take, sym, ap, ◌∙◌, subst, arith}
+use Rattle.std.proofs.lemmas.Grind.{common_steps}
 use Rattle.hx_cluster.specs.declared.description.Spec.{Spec}
 use Rattle.hx_cluster.specs.Valid.{IsValid}
 use Rattle.hx_script.specs.Logs.{log_of}
@@ -44,3 +45,6 @@ returns-clause-kept c =
     let back : Spec = record full { resource_names = c.truncate.new.self } in
     let same : back ≡ c.args.spec.now = restored c.args.spec.now full c.truncate.new.self c.add_names.ensures.kept (c.truncate.ensures ∙ ap (λ (n : ℕ). take n full.resource_names) c.len-known.ensures.len) in
     kept_both c.args.spec.now c.judge_lines.new.spec c.add_names-2.new.spec (subst (λ (s : Spec). KeepsAllButNames s c.judge_lines.new.spec) same c.judge_lines.ensures.kept) c.add_names-2.ensures.kept
+
+pub judge_lines-requires-clause-readable : goal.judge_lines-requires-clause-readable
+judge_lines-requires-clause-readable c = grind (arith, common_steps)

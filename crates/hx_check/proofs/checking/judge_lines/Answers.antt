@@ -1,4 +1,5 @@
 use Rattle.std.proofs.Common.{◌≡◌, ◌+◌, ◌<◌, Bool, true, Option, length, drop, sym, ap, ◌∙◌, subst, arith}
+use Rattle.std.proofs.lemmas.Grind.{common_steps}
 use Rattle.hx_cluster.specs.declared.description.Spec.{Spec}
 use Rattle.hx_script.specs.Logs.{sort_of}
 use Rattle.hx_script.specs.declared.log.Sort.TheVariants as sorts
@@ -73,3 +74,9 @@ loop-place-preserved c =
 pub returns-clause-verdict : goal.returns-clause-verdict
 returns-clause-verdict c =
     sym (c.loop-place.invariant.verdict ∙ past_all c.args.spec.now c.loop-place.judge c.loop-place.entries c.loop-place.begun c.loop-place.spec c.loop-place.place c.args.lines.now (omega arith))
+
+pub returns-in_err-found-clause-kept : goal.returns-in_err-found-clause-kept
+returns-in_err-found-clause-kept c = grind (arith, common_steps)
+
+pub returns-in-Some-clause-kept : goal.returns-in-Some-clause-kept
+returns-in-Some-clause-kept c = grind (arith, common_steps)

@@ -2,14 +2,6 @@ use Rattle.hx_forms.proofs.Chains.{reads_behind}
 use Rattle.hx_desc.proofs.Stopped.{part_stopped, part_refused, found_behind}
 use Rattle.hx_desc.proofs.rules.rule.Goals as goal
 
-pub returns : goal.returns
-returns c =
-    λ before.
-    found_behind _ _ _ _ c.in_ok-object.ensures
-    (found_behind _ _ _ _ c.in_ok-scope.ensures.read
-    (found_behind _ _ _ _ c.in_ok-limit.ensures.read
-    (c.in_ok-transition.ensures _)))
-
 pub returns-in_err-transition : goal.returns-in_err-transition
 returns-in_err-transition c =
     λ before.
@@ -30,6 +22,14 @@ returns-in_err-scope c =
     λ before.
     reads_behind _ _ _ _ c.in_ok-object.ensures
     (part_stopped _ _ _ _ _ c.from_residual-in_err-scope.ensures.1 c.in_err-scope.ensures.read)
+
+pub returns : goal.returns
+returns c =
+    λ before.
+    found_behind _ _ _ _ c.in_ok-object.ensures
+    (found_behind _ _ _ _ c.in_ok-scope.ensures.read
+    (found_behind _ _ _ _ c.in_ok-limit.ensures.read
+    (c.in_ok-transition.ensures _)))
 
 pub returns-in_err-object : goal.returns-in_err-object
 returns-in_err-object c =

@@ -1,4 +1,5 @@
-use Rattle.std.proofs.Common.{ℕ, List, [], ◌∷◌, Bor, map, sym, ap}
+use Rattle.std.proofs.Common.{ℕ, List, [], ◌∷◌, Bor, map, sym, ap, arith}
+use Rattle.std.proofs.lemmas.Grind.{common_steps}
 use Rattle.std.proofs.lemmas.List.{map-append}
 use Rattle.hx_logs.proofs.Walking.{gathered_past, gathered_more, gathered_all}
 use Rattle.hx_logs.proofs.reading.gather_indented.Goals as goal
@@ -17,3 +18,6 @@ loop-place-preserved c =
           let both = map-append (λ (t : Bor (List ℕ)). t.now) c.loop-place.indented.items (w.behind_spaces.result ∷ []) in
           rw w.indented-is cc
     ]
+
+pub returns : goal.returns
+returns c = grind (arith, common_steps)

@@ -1,4 +1,5 @@
 use Rattle.std.proofs.Common.{sym, arith}
+use Rattle.std.proofs.lemmas.Grind.{common_steps}
 use Rattle.hx_script.specs.Logs.{exact_words}
 use Rattle.hx_logs.specs.Walk.{line_at}
 use Rattle.hx_logs.proofs.Added.{kept_on_entry, few_on_entry}
@@ -45,3 +46,6 @@ loop-place-preserved c =
             few = few_on_entry c.args.spec.now c.loop-place.spec w.read_entry.new.spec words w.in_ok-entry-in-Head.entry place told.1 c.loop-place.invariant.few;
           })
     ]
+
+pub returns-clause-ok : goal.returns-clause-ok
+returns-clause-ok c = grind (arith, common_steps)

@@ -10,12 +10,6 @@ returns-in_default-clause-placed c =
     (subst (λ (v : Cluster). is_live v.live c.args.proposal.now.session ≡ false) c.self.view_is
     (dead_found c.self.inside.sessions.live c.args.proposal.now.session (sym c.find.ensures.found ∙ c.in_default.is)))
 
-pub returns-in_default-clause-ok : goal.returns-in_default-clause-ok
-returns-in_default-clause-ok c =
-    after_dead c.args.self.now c.args.proposal.now
-    (subst (λ (v : Cluster). is_live v.live c.args.proposal.now.session ≡ false) c.self.view_is
-    (dead_found c.self.inside.sessions.live c.args.proposal.now.session (sym c.find.ensures.found ∙ c.in_default.is)))
-
 pub place-requires-clause-instance : goal.place-requires-clause-instance
 place-requires-clause-instance c =
     subst (λ (v : Cluster). instance_in (shown_of v.live) c.args.proposal.now.session ≡ Some c.in-Some.live.instance) c.self.view_is
@@ -30,3 +24,9 @@ pub send-requires-clause-instance : goal.send-requires-clause-instance
 send-requires-clause-instance c =
     subst (λ (v : Cluster). instance_in (shown_of v.live) c.args.proposal.now.session ≡ Some c.in-Some.live.instance) c.self.view_is
     (instance_found c.self.inside.sessions.live c.args.proposal.now.session c.in-Some.live (sym c.find.ensures.found ∙ c.in-Some.is))
+
+pub returns-in_default-clause-ok : goal.returns-in_default-clause-ok
+returns-in_default-clause-ok c =
+    after_dead c.args.self.now c.args.proposal.now
+    (subst (λ (v : Cluster). is_live v.live c.args.proposal.now.session ≡ false) c.self.view_is
+    (dead_found c.self.inside.sessions.live c.args.proposal.now.session (sym c.find.ensures.found ∙ c.in_default.is)))

@@ -1,4 +1,5 @@
 use Rattle.std.proofs.Common.{rules, tests, inl, inr, refl, arith}
+use Rattle.std.proofs.lemmas.Grind.{common_steps}
 use Rattle.std.proofs.lemmas.Bool.Decides.{nat_tests}
 use Rattle.hx_script.proofs.Shapes.{not_five}
 use Rattle.hx_script.proofs.forms.five_words.Goals as goal
@@ -10,3 +11,6 @@ returns-in_default c =
       | in_default-via-then-words-lt5 w ↦ rw (not_five c.args.words.now (inl (first_of (grind (arith, nat_tests), search (rules, tests))))) refl
       | in_default-via-else-words-lt5+else-words-lt6 w ↦ rw (not_five c.args.words.now (inr (first_of (grind (arith, nat_tests), search (rules, tests))))) refl
     ]
+
+pub returns-in-len5 : goal.returns-in-len5
+returns-in-len5 c = grind (arith, common_steps)

@@ -1,4 +1,5 @@
 use Rattle.std.proofs.Common.{inr, refl, sym, ◌∙◌, arith}
+use Rattle.std.proofs.lemmas.Grind.{common_steps}
 use Rattle.hx_script.specs.Grammar.{script_of}
 use Rattle.hx_script.proofs.LinesAgain.{lines_asked}
 use Rattle.hx_script.proofs.RangesGiven.{all_asked_in_range}
@@ -46,3 +47,6 @@ returns-clause-in_range c =
     let script = c.loop-place.script.items in
     let whole = read_whole lines c.loop-place.place c.loop-place.spec script (script_of lines c.args.spec.now) (omega (arith, c.loop-place-test.false, c.len-place-end.ensures)) c.loop-place.invariant.script in
     all_asked_in_range c.loop-place.spec script (lines_asked lines 1 c.args.spec.now script c.loop-place.spec whole)
+
+pub returns-clause-ok : goal.returns-clause-ok
+returns-clause-ok c = grind (arith, common_steps)

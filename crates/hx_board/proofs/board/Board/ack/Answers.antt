@@ -14,8 +14,8 @@ record-requires c = paid_room c.self.inside _ c.self.invariant (owed_ack c.self.
 pub invariant_of-self-2 : goal.invariant_of-self-2
 invariant_of-self-2 c = paid c.self.inside _ _ (events.Ack c.args.session c.args.id) c.self.invariant (none-is _ c.in_ok-ack.ensures.refused) refl refl c.in_ok-ack.ensures.ok (owed_ack c.self.inside.records c.args.session c.args.id c.in_ok-ack.ensures.refused) c.record.ensures
 
-pub overflow_sub-self : goal.overflow_sub-self
-overflow_sub-self c = omega (arith, owed_ack c.self.inside.records c.args.session c.args.id c.in_ok-ack.ensures.refused, c.self.invariant.owed)
-
 pub returns-clause-ok : goal.returns-clause-ok
 returns-clause-ok c = told c.self.inside _ _ c.self.inside.history c.record.new.history _ (events.Ack c.args.session c.args.id) c.self.view_is c.in_ok-ack.ensures.ok refl c.record.ensures.items refl
+
+pub overflow_sub-self : goal.overflow_sub-self
+overflow_sub-self c = omega (arith, owed_ack c.self.inside.records c.args.session c.args.id c.in_ok-ack.ensures.refused, c.self.invariant.owed)

@@ -4,11 +4,11 @@ use Rattle.hx_board.proofs.Growing.{room_of}
 use Rattle.hx_board.proofs.Reaching.{reached_of}
 use Rattle.hx_board.proofs.board.Board.allowed.Goals as goal
 
-pub refuses-requires : goal.refuses-requires
-refuses-requires c = record { numbered = (room_of c.self.inside c.self.invariant).ids; reached = reached_of c.self.inside c.self.invariant }
-
 pub returns-in_default-step_weight-clause-refused : goal.returns-in_default-step_weight-clause-refused
 returns-in_default-step_weight-clause-refused c = grind (arith, common_steps)
+
+pub refuses-requires : goal.refuses-requires
+refuses-requires c = record { numbered = (room_of c.self.inside c.self.invariant).ids; reached = reached_of c.self.inside c.self.invariant }
 
 pub returns-in-Some-full-clause-refused : goal.returns-in-Some-full-clause-refused
 returns-in-Some-full-clause-refused c = grind (arith, common_steps)

@@ -8,30 +8,8 @@ use Rattle.hx_board.proofs.Growing.{roomy, still, room_of, opens_paid, opens_one
 use Rattle.hx_board.proofs.Reaching.{reached_of}
 use Rattle.hx_board.proofs.board.Board.change.Goals as goal
 
-pub make-requires : goal.make-requires
-make-requires c =
-    let P : Held → Type 0 = λ v. is_in_range v.cluster c.args.step.now ≡ true in
-    let free = step_free _ _ c.args.step.now c.self.view_is c.requires.free in
-    record {
-      may = free.free;
-      range = subst P (sym c.self.view_is) c.requires.range;
-      reached = reached_of c.self.inside c.self.invariant;
-      room = room_of c.self.inside c.self.invariant;
-      spare = omega (arith, c.in_ok-make_room.ensures.room);
-    }
-
 pub invariant_of-self : goal.invariant_of-self
 invariant_of-self c = roomy c.self.inside c.make_room.new.history c.self.invariant c.in_err-make_room.ensures.items c.in_err-make_room.ensures.spare
-
-pub invariant_of-self-in_err-did : goal.invariant_of-self-in_err-did
-invariant_of-self-in_err-did c =
-    still c.self.inside c.make.new.records c.make.new.history c.self.invariant c.in_err-did.ensures.err.0 (ap (λ (h : History). h.entries.items) c.in_err-did.ensures.err.1 ∙ c.in_ok-make_room.ensures.items)
-    (omega (arith, ap (λ (h : History). h.entries.spare) c.in_err-did.ensures.err.1, c.in_ok-make_room.ensures.spare))
-
-pub overflow_add-self : goal.overflow_add-self
-overflow_add-self c =
-    let free = step_free _ _ c.args.step.now c.self.view_is c.requires.free in
-    omega (arith, free.fits, c.self.invariant.weighs, c.self.invariant.limited, c.requires.weight)
 
 pub invariant_of-self-2 : goal.invariant_of-self-2
 invariant_of-self-2 c =
@@ -54,6 +32,18 @@ invariant_of-self-2 c =
       room = omega (arith, c.in_ok-make_room.ensures.room, c.in_ok-did.ensures.spare, opens_one step, c.opens.ensures);
     })
 
+pub make-requires : goal.make-requires
+make-requires c =
+    let P : Held → Type 0 = λ v. is_in_range v.cluster c.args.step.now ≡ true in
+    let free = step_free _ _ c.args.step.now c.self.view_is c.requires.free in
+    record {
+      may = free.free;
+      range = subst P (sym c.self.view_is) c.requires.range;
+      reached = reached_of c.self.inside c.self.invariant;
+      room = room_of c.self.inside c.self.invariant;
+      spare = omega (arith, c.in_ok-make_room.ensures.room);
+    }
+
 pub returns : goal.returns
 returns c =
     let a = c.self.inside in
@@ -68,3 +58,13 @@ returns c =
       ok = made ∙ (λ i. happened (c.self.view_is i) (events.Admin step (did_of (c.self.view_is i).cluster step)));
       err = tt;
     }
+
+pub overflow_add-self : goal.overflow_add-self
+overflow_add-self c =
+    let free = step_free _ _ c.args.step.now c.self.view_is c.requires.free in
+    omega (arith, free.fits, c.self.invariant.weighs, c.self.invariant.limited, c.requires.weight)
+
+pub invariant_of-self-in_err-did : goal.invariant_of-self-in_err-did
+invariant_of-self-in_err-did c =
+    still c.self.inside c.make.new.records c.make.new.history c.self.invariant c.in_err-did.ensures.err.0 (ap (λ (h : History). h.entries.items) c.in_err-did.ensures.err.1 ∙ c.in_ok-make_room.ensures.items)
+    (omega (arith, ap (λ (h : History). h.entries.spare) c.in_err-did.ensures.err.1, c.in_ok-make_room.ensures.spare))

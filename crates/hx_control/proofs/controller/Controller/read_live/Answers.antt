@@ -25,3 +25,6 @@ returns c =
     λ spec. live_done spec c.args.board.now c.read_live.new.self c.self.inside c.args.self.now c.self.view_is c.requires.controller c.requires.next c.in_ok-live.ensures.refused
     c.from_vec.result c.mail_at-self-inside.result (c.from_vec.ensures ∙ c.in_ok-live.ensures.shown)
     (all_left c.from_vec.result _ (c.mail_at-self-inside.ensures.calls c.from_vec.result (let long : length c.from_vec.result ≡ c.len.result = grind (arith, common_steps) in long))) c.in_ok-live.ensures.ok
+
+pub returns-in_err-live : goal.returns-in_err-live
+returns-in_err-live c = grind (arith, common_steps)

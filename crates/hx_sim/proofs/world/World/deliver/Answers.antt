@@ -17,13 +17,13 @@ returns-in-Some g c =
     rw (← c.self.view_is)
     (does_as _ _ s (λ a. ap (λ o. deliver_from_bag c.args.voice c.args.instance o (at s a)) (sym found.found ∙ c.in-Some.is)) _ _ _ _ _ (rw found.same at c.deliver.ensures.does))
 
+pub returns-in_err-message : goal.returns-in_err-message
+returns-in_err-message g c =
+    rw (← c.self.view_is, c.fetched.ensures.same) (does_err _ _ _ _ _ _ _ _ c.from_residual.ensures.1 (cut_here _ _ _))
+
 pub returns-in-None : goal.returns-in-None
 returns-in-None g c =
     let s = c.self.inside.scene in
     let found = c.in_ok-message.ensures in
     rw (← c.self.view_is)
     (does_as _ _ s (λ a. ap (λ o. deliver_from_bag c.args.voice c.args.instance o (at s a)) (sym found.found ∙ c.in-None.is)) _ _ _ _ _ (rw found.same at c.note.ensures.does))
-
-pub returns-in_err-message : goal.returns-in_err-message
-returns-in_err-message g c =
-    rw (← c.self.view_is, c.fetched.ensures.same) (does_err _ _ _ _ _ _ _ _ c.from_residual.ensures.1 (cut_here _ _ _))
