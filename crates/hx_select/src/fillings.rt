@@ -16,13 +16,23 @@ use std::alloc::{AllocError, Global};
 use std::collections::{BTreeMap, BTreeSet};
 
 /// What takes room in the limited states of parts.
-#[derive(Drop)]
 pub struct Fillings {
     alloc: Global,
     /// How many have the state among their ends or were accepted for it, once it was asked for.
     counts: BTreeMap<(PartId, StateId), u32>,
     /// Who was accepted for it.
     taken: BTreeSet<(PartId, StateId, SessionId)>,
+}
+
+// A derived drop is written out, field by field, wherever one is dropped; this is a call.
+impl Drop for Fillings {
+    fn drop(self) {
+        let Fillings {
+            alloc: _,
+            counts: _,
+            taken: _,
+        } = self;
+    }
 }
 
 impl Fillings {
