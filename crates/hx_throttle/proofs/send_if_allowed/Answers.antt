@@ -8,14 +8,12 @@ use Rattle.hx_throttle.proofs.send_if_allowed.Goals as goal
 
 pub returns-then-is_some : goal.returns-then-is_some
 returns-then-is_some c =
-    let rules = c.args.rules.now in
     let sent = c.args.sent.now in
     let candidate = c.args.candidate.now in
     record {
       chosen = λ view shown loads.
-          let is = keyed_is view _ _ candidate _ shown c.transition.ensures c.keyed-keyed.ensures in
-          let found = sym (ap is_some (c.first_holding-holding.ensures view sent candidate is loads)) ∙ found_some _ _ ∙ sym c.is_some.ensures ∙ c.if-is_some.true in
-          chosen_held rules view sent candidate (sent_where_none rules view sent candidate false found);
+          let found = sym (ap is_some (c.first_holding-holding.ensures view sent candidate (keyed_is view _ _ candidate _ shown c.transition.ensures c.keyed-keyed.ensures) loads)) ∙ found_some _ _ ∙ sym c.is_some.ensures ∙ c.if-is_some.true in
+          chosen_held c.args.rules.now view sent candidate (sent_where_none c.args.rules.now view sent candidate false found);
       counted = λ view shown loads. loads;
       holding = λ view shown loads.
           c.first_holding-holding.ensures view sent candidate (keyed_is view _ _ candidate _ shown c.transition.ensures c.keyed-keyed.ensures) loads;

@@ -20,8 +20,8 @@ returns-in_ok-push c =
 
 pub returns-in_default : goal.returns-in_default
 returns-in_default c =
-    let does = c.in_ok-holding.ensures in
     let held = c.args.all.now.held in
+    let does = c.in_ok-holding.ensures in
     record {
       chosen = does.chosen;
       counted = does.counted;

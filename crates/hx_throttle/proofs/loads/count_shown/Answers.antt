@@ -18,7 +18,6 @@ returns-in_ok-count c = λ mail before n r key at.
 pub returns-else-is_some : goal.returns-else-is_some
 returns-else-is_some c = λ mail before n r key at.
     let live = c.args.shown.now in
-    let m = c.args.message.now in
-    let found = ap (λ (k : Keyed). is_some k.instance) c.keyed-keyed.ensures ∙ shown_found live m.session in
+    let found = ap (λ (k : Keyed). is_some k.instance) c.keyed-keyed.ensures ∙ shown_found live c.args.message.now.session in
     let unshown = sym found ∙ sym c.is_some.ensures ∙ c.if-is_some.false in
-    message_passed live m r key _ _ _ (load-push live mail m r key) (before n r key at) unshown
+    message_passed live c.args.message.now r key _ _ _ (load-push live mail c.args.message.now r key) (before n r key at) unshown
