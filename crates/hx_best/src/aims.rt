@@ -205,6 +205,25 @@ impl Index<'_> {
         }
         Ok(())
     }
+
+    /// Adds the targets of all resources, in order of number.
+    #[inline(always)]
+    fn add_all_targets(
+        &self,
+        alloc: Global,
+        models: &[Model],
+        found: &mut Vec<Target>,
+    ) -> Result<(), AllocError>
+        ensures { OnOk result (
+            found.new.items ≡ found.old.items ++ all_targets_of models.now self.now) }
+    {
+        let count = number(self.view().ideals.resources.len())?;
+        let mut room = Room::new(alloc);
+        for number in 0..count {
+            self.add_targets(alloc, models, ResourceId(number), &mut room, found)?;
+        }
+        Ok(())
+    }
 }
 
 /// The targets of a resource over an index of the view. The index may serve all resources.
@@ -244,13 +263,8 @@ pub fn all_targets(
 ) -> Result<Vec<Target>, AllocError>
     ensures { IfOk result (λ found. found.items ≡ all_targets_of models.now index.now) }
 {
-    let count = number(index.view().ideals.resources.len())?;
     // Mostly there is one for each row.
     let mut found = Vec::with_capacity(alloc, index.view().rows.len())?;
-    let mut room = Room::new(alloc);
-    for number in 0..count {
-        let resource = ResourceId(number);
-        index.add_targets(alloc, models, resource, &mut room, &mut found)?;
-    }
+    index.add_all_targets(alloc, models, &mut found)?;
     Ok(found)
 }

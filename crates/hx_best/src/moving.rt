@@ -11,7 +11,7 @@ use crate::aims::Room;
 use crate::lookups::Index;
 use crate::marks::{Shown, number};
 use crate::places::Places;
-use hx_cluster::Target;
+use hx_cluster::{Resource, Target};
 use hx_ids::{PartId, ResourceId};
 use hx_model::Model;
 use hx_parts::Marks;
@@ -84,8 +84,68 @@ fn add_moving_of(
     Ok(())
 }
 
-/// Those of all resources. The room and the list are the same for all of them, so that what they
-/// take is allocated once.
+/// Adds those of a resource of the index.
+#[inline(always)]
+fn add_moving_in(
+    alloc: Global,
+    models: &[Model],
+    index: &Index<'_>,
+    resource: ResourceId,
+    shown: &Resource,
+    marks: Option<&Marks>,
+    room: &mut Room,
+    found: &mut Vec<Target>,
+) -> Result<(), AllocError>
+    requires { resource_at index.now.ideals.resources resource ≡ Some shown.now }
+    ensures { (all : List Target) → HasMoving models.now index.now all found.old.items
+        → OnOk result
+        (HasMoving models.now index.now
+        (all
+        ++ those_among (option_copied marks.entry)
+        (targets_in models.now index.now resource shown.now))
+        found.new.items) }
+{
+    let places = Places::of(alloc, &*index, models, shown)?;
+    add_moving_of(&places, resource, marks, room, found)
+}
+
+/// Adds those of all resources. The room is the same for all of them, so that what it takes is
+/// allocated once.
+#[inline(always)]
+fn add_moving_among(
+    alloc: Global,
+    models: &[Model],
+    index: &Index<'_>,
+    marks: Option<&Marks>,
+    found: &mut Vec<Target>,
+) -> Result<(), AllocError>
+    ensures { (all : List Target) → HasMoving models.now index.now all found.old.items
+        → OnOk result
+        (HasMoving models.now index.now
+        (all
+        ++ those_among (option_copied marks.entry) (all_targets models.now index.now))
+        found.new.items) }
+{
+    let resources = index.view().ideals.resources.as_slice();
+    let count = number(resources.len())?;
+    let mut room = Room::new(alloc);
+    for number in 0..count {
+        let shown = &resources[number as usize];
+        add_moving_in(
+            alloc,
+            models,
+            index,
+            ResourceId(number),
+            shown,
+            marks,
+            &mut room,
+            found,
+        )?;
+    }
+    Ok(())
+}
+
+/// Those of all resources.
 fn moving_among(
     alloc: Global,
     models: &[Model],
@@ -96,14 +156,8 @@ fn moving_among(
         HasMoving models.now index.now
         (those_among (option_copied marks.entry) (all_targets models.now index.now)) found.items) }
 {
-    let resources = index.view().ideals.resources.as_slice();
-    let count = number(resources.len())?;
-    let mut room = Room::new(alloc);
     let mut found = Vec::with_capacity(alloc, index.view().rows.len().min(FEW))?;
-    for number in 0..count {
-        let places = Places::of(alloc, &*index, models, &resources[number as usize])?;
-        add_moving_of(&places, ResourceId(number), marks, &mut room, &mut found)?;
-    }
+    add_moving_among(alloc, models, index, marks, &mut found)?;
     Ok(found)
 }
 
