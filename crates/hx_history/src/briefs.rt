@@ -1,5 +1,5 @@
 //! The few words that tell most events.
-ghost use Rattle.std.specs.Prelude.{◌≡◌, ◌∷◌, [], length, take, IfSome};
+ghost use Rattle.std.specs.Prelude.{◌≡◌, ◌∷◌, [], length, take, option_map, IfSome};
 ghost use Rattle.hx_cluster.specs.declared.happenings.Event.TheVariants as events;
 ghost use Rattle.hx_history.specs.Columns as Spec;
 ghost use Rattle.hx_history.specs.Columns.{words_of};
@@ -49,16 +49,13 @@ fn in_words(kind: Kind, numbers: [u64; 3]) -> Option<Brief>
     Some(Brief { kind, words })
 }
 
-/// A kind with one word.
+/// A kind with one word, where there is one.
 #[inline(always)]
-fn in_word(kind: Kind, word: u32) -> Option<Brief>
-    ensures { IfSome result (λ brief. brief
-        ≡ record { kind = kind; words = word ∷ 0 ∷ 0 ∷ [] }) }
+fn in_word(kind: Kind, word: Option<u32>) -> Option<Brief>
+    ensures { result ≡ option_map (λ word. record { kind = kind; words = word ∷ 0 ∷ 0 ∷ [] }) word }
 {
-    Some(Brief {
-        kind,
-        words: [word, 0, 0],
-    })
+    let words = [word?, 0, 0];
+    Some(Brief { kind, words })
 }
 
 /// A controller and a pass of it in one word.
@@ -134,8 +131,8 @@ fn fetch_in_word(instance: InstanceId, session: Option<SessionId>, count: u32) -
     ensures { IfSome result (λ brief. Tells brief (events.Fetch instance session count)) }
 {
     match session {
-        Some(session) => in_word(Kind::Fetch, fetch_of(instance, session, count)?),
-        None => in_word(Kind::FetchNobody, fetch(instance, count)?),
+        Some(session) => in_word(Kind::Fetch, fetch_of(instance, session, count)),
+        None => in_word(Kind::FetchNobody, fetch(instance, count)),
     }
 }
 
@@ -144,7 +141,7 @@ fn fetch_in_word(instance: InstanceId, session: Option<SessionId>, count: u32) -
 fn write_in_word(session: SessionId, id: MsgId, outcome: Outcome) -> Option<Brief>
     ensures { IfSome result (λ brief. Tells brief (events.Write session id outcome)) }
 {
-    let word = job(session, id)?;
+    let word = job(session, id);
     match outcome {
         Outcome::Ok => in_word(Kind::WriteOk, word),
         Outcome::Failed => in_word(Kind::WriteFailed, word),
@@ -168,7 +165,7 @@ pub(crate) fn brief_of(event: &Event) -> Option<Brief>
     ensures { IfSome result (λ brief. Tells brief event.now) }
 {
     match event {
-        Event::Line(line) => in_word(Kind::Line, *line),
+        Event::Line(line) => in_word(Kind::Line, Some(*line)),
         Event::Admin(Admin::Tick { n }, Did::Ended(ended)) if ended.is_empty() => {
             in_words(Kind::Tick, [*n, 0, 0])
         }
@@ -176,18 +173,18 @@ pub(crate) fn brief_of(event: &Event) -> Option<Brief>
             let word = turn(*c, begun.pass)?;
             in_words(Kind::Begin, [u64::from(word), begun.epoch.0, begun.change])
         }
-        Event::Live(c, pass) => in_word(Kind::Live, turn(*c, *pass)?),
-        Event::Mail(c, pass, session) => in_word(Kind::Mail, read(*c, *pass, *session)?),
-        Event::States(c, pass, session) => in_word(Kind::States, read(*c, *pass, *session)?),
-        Event::Ideals(c, pass) => in_word(Kind::Ideals, turn(*c, *pass)?),
+        Event::Live(c, pass) => in_word(Kind::Live, turn(*c, *pass)),
+        Event::Mail(c, pass, session) => in_word(Kind::Mail, read(*c, *pass, *session)),
+        Event::States(c, pass, session) => in_word(Kind::States, read(*c, *pass, *session)),
+        Event::Ideals(c, pass) => in_word(Kind::Ideals, turn(*c, *pass)),
         Event::Fetch {
             instance,
             session,
             count,
         } => fetch_in_word(*instance, *session, *count),
-        Event::Take(session, id) => in_word(Kind::Take, job(*session, *id)?),
+        Event::Take(session, id) => in_word(Kind::Take, job(*session, *id)),
         Event::Write(session, id, outcome) => write_in_word(*session, *id, *outcome),
-        Event::Ack(session, id) => in_word(Kind::Ack, job(*session, *id)?),
+        Event::Ack(session, id) => in_word(Kind::Ack, job(*session, *id)),
         Event::Admin(..) | Event::Dispatch { .. } | Event::Post { .. } => None,
     }
 }
