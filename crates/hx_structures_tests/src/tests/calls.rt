@@ -1,5 +1,5 @@
 //! Each other call comes where there is memory.
-use crate::tests::fixtures::{C1, SECOND, add_resource, ideal, opening, part, seen};
+use crate::tests::fixtures::{C1, SECOND, add_resource, expect, ideal, opening, part, seen};
 use hx_calls::{
     Same, all_same, begin, forget_shown, no_ideals, nothing_shown, publish, read_ideals_over,
     reread_ideals,
@@ -19,7 +19,7 @@ fn forgotten(rt: &impl Abort, alloc: Global, cluster: &Cluster) -> Result<Ideals
     let mut spare = no_ideals(alloc);
     assert!(rt; forget_shown(&mut view, &mut spare));
     assert!(rt; view.ideals.drained.is_empty());
-    assert_eq!(rt; spare.drained.len(), 3);
+    expect(rt, &spare.drained.len(), &3);
     Ok(spare)
 }
 
@@ -45,13 +45,22 @@ fn ideals_are_read_over_earlier_ones(rt: HostRuntime) -> Result<(), Fail> {
     Ok(())
 }
 
+fn expect_other_ideals(
+    rt: &impl Abort,
+    cluster: &mut Cluster,
+    kept: &mut Ideals,
+) -> Result<(), Fail> {
+    assert!(rt; reread_ideals(cluster, kept)?);
+    add_third(cluster)?;
+    assert!(rt; !reread_ideals(cluster, kept)?);
+    Ok(())
+}
+
 #[test]
 fn ideals_are_the_same_until_one_is_added(rt: HostRuntime) -> Result<(), Fail> {
     let mut cluster = opening(rt.alloc())?;
     let mut kept = forgotten(&rt, rt.alloc(), &cluster)?;
-    assert!(rt; reread_ideals(&cluster, &mut kept)?);
-    add_third(&mut cluster)?;
-    assert!(rt; !reread_ideals(&cluster, &mut kept)?);
+    expect_other_ideals(&rt, &mut cluster, &mut kept)?;
     expect_ideals(&rt, &cluster, kept)?;
     Ok(())
 }
@@ -60,7 +69,7 @@ fn ideals_are_the_same_until_one_is_added(rt: HostRuntime) -> Result<(), Fail> {
 fn a_pass_begins_and_rows_are_posted(rt: HostRuntime) -> Result<(), Fail> {
     let mut cluster = opening(rt.alloc())?;
     assert!(rt; cluster.has_room());
-    assert_eq!(rt; begin(&mut cluster, C1).pass, PassNo(1));
+    expect(&rt, &begin(&mut cluster, C1).pass, &PassNo(1));
     publish(&mut cluster, &[seen(part(SECOND, 0))])?;
     Ok(())
 }
@@ -72,6 +81,6 @@ fn an_answer_is_copied_into_room_for_it(rt: HostRuntime) -> Result<(), Fail> {
         placed: Seq::from_slice(rt.alloc(), &[Placed::Ended])?,
     };
     let room = Vec::with_capacity(rt.alloc(), 1)?;
-    assert_eq!(rt; answer.copied_into(room), answer);
+    expect(&rt, &answer.copied_into(room), &answer);
     Ok(())
 }

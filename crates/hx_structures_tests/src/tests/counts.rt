@@ -1,3 +1,4 @@
+use crate::tests::fixtures::expect;
 use hx_counts::Counts;
 use hx_ids::{PartId, ResourceId, StateId};
 use std::test::Fail;
@@ -11,8 +12,8 @@ fn ends_and_loads_are_counted(rt: HostRuntime) -> Result<(), Fail> {
     };
     counts.raise_end(part, StateId(2))?;
     counts.raise_load(1, 7)?;
-    assert_eq!(rt; counts.count(part, StateId(2)), 1);
-    assert_eq!(rt; counts.load(1, 7), 1);
+    expect(&rt, &counts.count(part, StateId(2)), &1);
+    expect(&rt, &counts.load(1, 7), &1);
     counts.lower_end(part, StateId(2));
     counts.lower_load(1, 7);
     Ok(())

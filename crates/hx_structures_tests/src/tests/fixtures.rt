@@ -7,6 +7,8 @@ use hx_ids::{
 use hx_lists::Seq;
 use hx_model::{Bound, DROPPED, Model, ModelParts};
 use std::alloc::{AllocError, Global};
+use std::fmt::Debug;
+use std::process::Abort;
 use std::test::Fail;
 
 pub const N1: InstanceId = InstanceId(0);
@@ -28,6 +30,11 @@ const OFFLINE: StateId = StateId(3);
 pub const FIRST: ResourceId = ResourceId(0);
 
 pub const SECOND: ResourceId = ResourceId(1);
+
+/// What is found is what is wanted. Inline, an `assert_eq!` takes longer to prove.
+pub fn expect<T: PartialEq + Debug>(rt: &impl Abort, found: &T, wanted: &T) {
+    assert_eq!(rt; found, wanted);
+}
 
 pub fn part(resource: ResourceId, index: u32) -> PartId {
     PartId { resource, index }

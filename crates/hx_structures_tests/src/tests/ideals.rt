@@ -1,7 +1,7 @@
 ghost use Rattle.std.specs.Prelude.{◌≡◌, IfOk, IsSome};
 ghost use Rattle.hx_ideal.specs.IdealState.{lists_of, maps_of};
 
-use crate::tests::fixtures::{N1, N2, N3};
+use crate::tests::fixtures::{N1, N2, N3, expect};
 use hx_ideal::{Ideal, IdealFault, Mode};
 use hx_ids::{InstanceId, StateId};
 use hx_lists::Seq;
@@ -50,7 +50,7 @@ fn numbers_of_replicas_and_partitions_are_tested(rt: HostRuntime) -> Result<(), 
     ] {
         let mode = semi(rt.alloc(), &[&[N1]])?;
         let made = Ideal::check(replicas, parts, mode, 3, &[ONLINE]);
-        assert_eq!(rt; made.err(), fault);
+        expect(&rt, &made.err(), &fault);
     }
     Ok(())
 }
@@ -65,7 +65,7 @@ fn entries_of_lists_are_tested(rt: HostRuntime) -> Result<(), Fail> {
     for (list, fault) in table {
         let mode = semi(rt.alloc(), &[&[N1, N2], list])?;
         let made = Ideal::check(1, 2, mode, 2, &[ONLINE]);
-        assert_eq!(rt; made.err(), Some(fault));
+        expect(&rt, &made.err(), &Some(fault));
     }
     Ok(())
 }
@@ -83,7 +83,7 @@ fn entries_of_maps_are_tested(rt: HostRuntime) -> Result<(), Fail> {
     for (map, fault) in table {
         let mode = custom(rt.alloc(), &[map])?;
         let made = Ideal::check(1, 1, mode, 2, &[ONLINE, OFFLINE]);
-        assert_eq!(rt; made.err(), Some(fault));
+        expect(&rt, &made.err(), &Some(fault));
     }
     Ok(())
 }
@@ -100,7 +100,7 @@ fn one_list_is_replaced(rt: HostRuntime) -> Result<(), Fail> {
     let mode = semi(rt.alloc(), &[&[N1], &[N2]])?;
     let mut ideal = two_parts(mode).ok().ok_or("a fault")?;
     let list = Vec::from_slice(rt.alloc(), &[N3, N1])?;
-    assert_eq!(rt; ideal.set_list(1, list, 3), Ok(()));
+    expect(&rt, &ideal.set_list(1, list, 3), &Ok(()));
     Ok(())
 }
 
@@ -109,6 +109,6 @@ fn one_map_is_replaced(rt: HostRuntime) -> Result<(), Fail> {
     let mode = custom(rt.alloc(), &[&[], &[(N2, ONLINE)]])?;
     let mut ideal = two_parts(mode).ok().ok_or("a fault")?;
     let map = Vec::from_slice(rt.alloc(), &[(N3, ONLINE)])?;
-    assert_eq!(rt; ideal.set_map(0, map, 3, &[ONLINE]), Ok(()));
+    expect(&rt, &ideal.set_map(0, map, 3, &[ONLINE]), &Ok(()));
     Ok(())
 }

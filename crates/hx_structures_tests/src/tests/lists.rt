@@ -1,3 +1,4 @@
+use crate::tests::fixtures::expect;
 use hx_lists::{Log, Seq};
 use std::alloc::AllocError;
 use std::test::Fail;
@@ -19,7 +20,7 @@ fn a_list_is_kept_in_order_and_copied(rt: HostRuntime) -> Result<(), Fail> {
     put_some(&mut list)?;
     let copy = list.clone()?;
     assert!(rt; copy == list);
-    assert_eq!(rt; copy.as_slice(), [1, 2, 4, 5].as_slice());
+    expect(&rt, &copy.as_slice(), &[1, 2, 4, 5].as_slice());
     Ok(())
 }
 
@@ -30,6 +31,6 @@ fn a_log_takes_what_there_is_room_for(rt: HostRuntime) -> Result<(), Fail> {
     assert!(rt; log.spare() >= 1);
     log.push_reserved(7u32);
     log.push(8)?;
-    assert_eq!(rt; log.as_slice(), [7, 8].as_slice());
+    expect(&rt, &log.as_slice(), &[7, 8].as_slice());
     Ok(())
 }

@@ -1,6 +1,7 @@
 ghost use Rattle.std.specs.Prelude.{◌≤◌, length, IfOk};
 ghost use Rattle.hx_model.specs.Builtin.{AreStates};
 
+use crate::tests::fixtures::expect;
 use hx_ids::{Names, StateId};
 use hx_lists::Seq;
 use hx_model::{
@@ -8,6 +9,7 @@ use hx_model::{
     online_offline,
 };
 use std::alloc::{AllocError, Global};
+use std::process::Abort;
 use std::test::Fail;
 
 pub const P: StateId = StateId(8);
@@ -36,7 +38,7 @@ const PLAIN: [(StateId, Bound); 2] = [(P, Bound::Live), (OFFLINE, Bound::Free)];
 const BACK: [(StateId, StateId); 3] = [(OFFLINE, P), (P, OFFLINE), (OFFLINE, DROPPED)];
 
 /// States of which a model with the transitions of BACK has a fault.
-const STATE_FAULTS: [(&[(StateId, Bound)], ModelFault); 6] = [
+static STATE_FAULTS: &[(&[(StateId, Bound)], ModelFault)] = &[
     (&[(P, Bound::Free); 17], ModelFault::TooManyStates),
     (
         &[(OFFLINE, Bound::Free), (ERROR, Bound::Free)],
@@ -55,7 +57,7 @@ const STATE_FAULTS: [(&[(StateId, Bound)], ModelFault); 6] = [
 ];
 
 /// Transitions of which a model with the states of PLAIN has a fault.
-const MOVE_FAULTS: [(&[(StateId, StateId)], ModelFault); 6] = [
+static MOVE_FAULTS: &[(&[(StateId, StateId)], ModelFault)] = &[
     (
         &[(OFFLINE, P), (P, ERROR)],
         ModelFault::Reserved { place: 1 },
@@ -92,18 +94,28 @@ pub fn checked(
     }))
 }
 
+fn expect_fault(
+    rt: &impl Abort,
+    alloc: Global,
+    states: &[(StateId, Bound)],
+    moves: &[(StateId, StateId)],
+    fault: ModelFault,
+) -> Result<(), AllocError> {
+    let made = checked(alloc, states, moves)?;
+    expect(rt, &made.err(), &Some(fault));
+    Ok(())
+}
+
 #[test]
 fn each_fault_of_a_model_is_named(rt: HostRuntime) -> Result<(), Fail> {
     for (states, fault) in STATE_FAULTS {
-        let made = checked(rt.alloc(), states, &BACK)?;
-        assert_eq!(rt; made.err(), Some(fault));
+        expect_fault(&rt, rt.alloc(), states, &BACK, *fault)?;
     }
     for (moves, fault) in MOVE_FAULTS {
-        let made = checked(rt.alloc(), &PLAIN, moves)?;
-        assert_eq!(rt; made.err(), Some(fault));
+        expect_fault(&rt, rt.alloc(), &PLAIN, moves, *fault)?;
     }
-    let stuck = checked(rt.alloc(), &SWAP, &STUCK)?;
-    assert_eq!(rt; stuck.err(), Some(ModelFault::CantLeave { state: P }));
+    let stuck = ModelFault::CantLeave { state: P };
+    expect_fault(&rt, rt.alloc(), &SWAP, &STUCK, stuck)?;
     Ok(())
 }
 
@@ -129,6 +141,6 @@ fn the_models_of_every_description_come(rt: HostRuntime) -> Result<(), Fail> {
     master_slave(rt.alloc(), &mut names)?;
     online_offline(rt.alloc(), &mut names)?;
     leader_standby(rt.alloc(), &mut names)?;
-    assert_eq!(rt; names.len(), 8);
+    expect(&rt, &names.len(), &8);
     Ok(())
 }

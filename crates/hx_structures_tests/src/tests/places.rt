@@ -1,3 +1,4 @@
+use crate::tests::fixtures::expect;
 use hx_place::round_robin;
 use std::test::Fail;
 
@@ -14,11 +15,7 @@ fn parts_take_instances_in_turn(rt: HostRuntime) -> Result<(), Fail> {
     for (instances, parts, replicas, want) in rows {
         let lists = round_robin(rt.alloc(), instances, parts, replicas)?;
         let shown = format!(in rt.alloc(); "{lists:?}")?;
-        assert_eq!(rt;
-            shown.as_str(),
-            want,
-            "{instances} instances, {replicas} replicas"
-        );
+        expect(&rt, &shown.as_str(), &want);
     }
     Ok(())
 }

@@ -1,10 +1,12 @@
 ghost use Rattle.std.specs.Prelude.{◌≡◌, [], IfOk};
 
-use hx_cluster::Message;
+use crate::tests::fixtures::expect;
+use hx_cluster::{Message, Row};
 use hx_ids::{Epoch, MsgId, PartId, ResourceId, SessionId, StateId};
 use hx_lists::Seq;
 use hx_slots::Slots;
 use std::alloc::{AllocError, Global};
+use std::process::Abort;
 use std::test::Fail;
 
 const SESSION: SessionId = SessionId(7);
@@ -28,6 +30,13 @@ const SENT: Message = Message {
     written: false,
 };
 
+/// The row of the message's outcome.
+const ROW: Row = Row {
+    session: SESSION,
+    part: PART,
+    state: STATE,
+};
+
 // Slots with a message that was sent and written.
 fn with_row(alloc: Global) -> Result<Slots, AllocError> {
     let mut slots = Slots::new(alloc);
@@ -36,15 +45,26 @@ fn with_row(alloc: Global) -> Result<Slots, AllocError> {
     Ok(slots)
 }
 
+/// Sends a message, takes it and acknowledges it.
+fn send_and_take(rt: &impl Abort, slots: &mut Slots) -> Result<(), AllocError>
+    requires { slots.old.mail ≡ [] }
+{
+    slots.send(SENT)?;
+    slots.take(&SENT);
+    let taken = Message {
+        taken: true,
+        ..SENT
+    };
+    expect(rt, &slots.message(SESSION, PART), &Some(&taken));
+    slots.acknowledge(SESSION, MsgId(1));
+    expect(rt, &slots.pending(SESSION, MsgId(1)), &None);
+    Ok(())
+}
+
 #[test]
 fn a_message_is_sent_taken_and_acknowledged(rt: HostRuntime) -> Result<(), Fail> {
     let mut slots = Slots::new(rt.alloc());
-    slots.send(SENT)?;
-    slots.take(&SENT);
-    let taken = slots.message(SESSION, PART).map(|m| m.taken);
-    assert_eq!(rt; taken, Some(true));
-    slots.acknowledge(SESSION, MsgId(1));
-    assert_eq!(rt; slots.pending(SESSION, MsgId(1)), None);
+    send_and_take(&rt, &mut slots)?;
     Ok(())
 }
 
@@ -62,21 +82,28 @@ fn mail_of(alloc: Global, slots: &Slots) -> Result<usize, AllocError> {
     Ok(mail.len())
 }
 
+fn expect_row(rt: &impl Abort, alloc: Global, slots: &Slots) {
+    expect(rt, &slots.state(SESSION, PART), &Some(STATE));
+    assert!(rt; slots.holds(SESSION, ResourceId(1)));
+    expect(rt, &rows_of(alloc, slots), &Ok(1));
+    expect(rt, &mail_of(alloc, slots), &Ok(1));
+}
+
 #[test]
 fn an_outcome_comes_to_the_row(rt: HostRuntime) -> Result<(), Fail> {
     let slots = with_row(rt.alloc())?;
-    assert_eq!(rt; slots.state(SESSION, PART), Some(STATE));
-    assert_eq!(rt; slots.holds(SESSION, ResourceId(1)), true);
-    assert_eq!(rt; rows_of(rt.alloc(), &slots), Ok(1));
-    assert_eq!(rt; mail_of(rt.alloc(), &slots), Ok(1));
+    expect_row(&rt, rt.alloc(), &slots);
     Ok(())
 }
 
 #[test]
 fn the_first_message_of_a_session_goes(rt: HostRuntime) -> Result<(), Fail> {
     let mut slots = with_row(rt.alloc())?;
-    let first = slots.pop_message(SESSION).map(|m| m.id);
-    assert_eq!(rt; first, Some(MsgId(1)));
+    let written = Message {
+        written: true,
+        ..SENT
+    };
+    expect(&rt, &slots.pop_message(SESSION), &Some(written));
     Ok(())
 }
 
@@ -94,8 +121,7 @@ fn with_row_alone(alloc: Global) -> Result<Slots, AllocError>
 #[test]
 fn the_first_row_of_a_session_goes(rt: HostRuntime) -> Result<(), Fail> {
     let mut slots = with_row_alone(rt.alloc())?;
-    let first = slots.pop_row(SESSION).map(|r| (r.part, r.state));
-    assert_eq!(rt; first, Some((PART, STATE)));
-    assert_eq!(rt; slots.state(SESSION, PART), None);
+    assert!(rt; slots.pop_row(SESSION) == Some(ROW));
+    expect(&rt, &slots.state(SESSION, PART), &None);
     Ok(())
 }

@@ -1,7 +1,7 @@
 //! What refuses each step, and what each step answers.
 use crate::tests::fixtures::{
     C1, C2, FIRST, N1, N2, ONLINE, S1, SECOND, add_resource, custom, drain_second, drop_resource,
-    ideal, live, opening, part, row, stop_second,
+    expect, ideal, live, opening, part, row, stop_second,
 };
 use hx_cluster::{Admin, Cluster, Did, StepFault};
 use hx_ideal::{Ideal, IdealFault, Mode};
@@ -48,7 +48,7 @@ fn refusal(cluster: &Cluster, step: &Admin) -> Option<StepFault> {
 }
 
 fn expect_fault(rt: &impl Abort, cluster: &Cluster, step: &Admin, fault: StepFault) {
-    assert_eq!(rt; refusal(cluster, step), Some(fault));
+    expect(rt, &refusal(cluster, step), &Some(fault));
 }
 
 /// Each step is refused for its fault.
@@ -131,12 +131,12 @@ fn list_refusal(
 fn lists_are_refused(rt: HostRuntime) -> Result<(), Fail> {
     let cluster = busy(rt.alloc())?;
     let gone = list_refusal(rt.alloc(), &cluster, part(SECOND, 0), &[]);
-    assert_eq!(rt; gone, Ok(Some(StepFault::ResourceDropped)));
+    expect(&rt, &gone, &Ok(Some(StepFault::ResourceDropped)));
     let nowhere = list_refusal(rt.alloc(), &cluster, part(FIRST, 9), &[]);
-    assert_eq!(rt; nowhere, Ok(Some(StepFault::NoPart { parts: 1 })));
+    expect(&rt, &nowhere, &Ok(Some(StepFault::NoPart { parts: 1 })));
     let given = list_refusal(rt.alloc(), &cluster, part(FIRST, 0), &[N1, N1]);
     let twice = IdealFault::TwiceInList { part: 0, place: 1 };
-    assert_eq!(rt; given, Ok(Some(StepFault::Ideal(twice))));
+    expect(&rt, &given, &Ok(Some(StepFault::Ideal(twice))));
     Ok(())
 }
 
@@ -164,13 +164,19 @@ fn resets_are_refused(rt: HostRuntime) -> Result<(), Fail> {
     Ok(())
 }
 
+/// Adds as many resources as there may be.
+fn fill_up(cluster: &mut Cluster) -> Result<(), Fail> {
+    for _number in 2..256 {
+        add_resource(cluster, 1, ideal(Mode::Full, 1)?)?;
+    }
+    Ok(())
+}
+
 #[test]
 fn a_cluster_has_at_most_256_resources(rt: HostRuntime) -> Result<(), Fail> {
     let step = add(2, ideal(Mode::Full, 1)?);
     let mut cluster = busy(rt.alloc())?;
-    for _number in 2..256 {
-        add_resource(&mut cluster, 1, ideal(Mode::Full, 1)?)?;
-    }
+    fill_up(&mut cluster)?;
     expect_fault(&rt, &cluster, &step, StepFault::TooMany);
     cluster.leader = None;
     let down = Admin::Lead { controller: C2 };
@@ -202,7 +208,7 @@ fn steps_of_sessions_and_controllers_are_made(rt: HostRuntime) -> Result<(), Fai
     expect_made(&rt, &mut cluster, Admin::Lead { controller: C1 });
     expect_made(&rt, &mut cluster, Admin::Stop { controller: C1 });
     expect_made(&rt, &mut cluster, Admin::Start { controller: C1 });
-    assert_eq!(rt; cluster.epoch, Epoch(2));
+    expect(&rt, &cluster.epoch, &Epoch(2));
     Ok(())
 }
 
@@ -242,16 +248,25 @@ fn a_step_and_its_answer_are_cloned(rt: HostRuntime) -> Result<(), Fail> {
     Ok(())
 }
 
+/// Of two sessions that began together the first beats, and a tick ends the other one.
+fn join_and_tick(rt: &impl Abort, cluster: &mut Cluster) {
+    expect_made(rt, cluster, Admin::Join { instance: N1 });
+    expect_made(rt, cluster, Admin::Join { instance: N2 });
+    expect_made(rt, cluster, Admin::Tick { n: 29 });
+    expect_made(rt, cluster, Admin::Beat { instance: N1 });
+    expect_made(rt, cluster, Admin::Tick { n: 1 });
+    expect(rt, &cluster.session_of(N2), &None);
+}
+
 #[test]
 fn a_tick_ends_sessions_by_their_last_beat(rt: HostRuntime) -> Result<(), Fail> {
     let mut cluster = opening(rt.alloc())?;
-    expect_made(&rt, &mut cluster, Admin::Join { instance: N1 });
-    expect_made(&rt, &mut cluster, Admin::Join { instance: N2 });
-    expect_made(&rt, &mut cluster, Admin::Tick { n: 29 });
-    expect_made(&rt, &mut cluster, Admin::Beat { instance: N1 });
-    expect_made(&rt, &mut cluster, Admin::Tick { n: 1 });
-    assert_eq!(rt; cluster.session_of(N2), None);
+    join_and_tick(&rt, &mut cluster);
     let ended = Did::Ended(Seq::from_slice(rt.alloc(), &[S1])?);
-    assert_eq!(rt; answer(&mut cluster, &Admin::Tick { n: 29 }), Ok(ended));
+    expect(
+        &rt,
+        &answer(&mut cluster, &Admin::Tick { n: 29 }),
+        &Ok(ended),
+    );
     Ok(())
 }
