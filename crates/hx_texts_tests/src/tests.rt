@@ -2,8 +2,10 @@ ghost use Rattle.std.specs.Prelude.{IfSome};
 ghost use Rattle.hx_script.specs.Parsing.{IsReadable};
 
 use hx_cluster::Spec;
-use hx_text::{Lines, split_lines};
+use hx_text::{Lines, Page, split_lines};
 use std::alloc::Global;
+use std::fmt::Debug;
+use std::process::Abort;
 use std::test::Fail;
 
 mod descriptions;
@@ -14,6 +16,15 @@ mod pages;
 mod printing;
 mod scripts;
 mod words;
+
+/// What is found is what is wanted. Inline, an `assert_eq!` takes longer to prove.
+fn expect<T: PartialEq + Debug>(rt: &impl Abort, found: &T, wanted: &T) {
+    assert_eq!(rt; found, wanted);
+}
+
+fn expect_page(rt: &impl Abort, page: &Page, wanted: &str) {
+    expect(rt, &page.as_bytes(), &wanted.as_bytes());
+}
 
 /// Two resources: `logs` has number 0, and `db` number 1.
 const DESCRIPTION: &str =

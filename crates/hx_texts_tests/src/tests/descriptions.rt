@@ -1,8 +1,11 @@
+use super::expect;
 use hx_desc::{DescKind, DescRefusal, read};
+use std::alloc::Global;
+use std::process::Abort;
 use std::test::Fail;
 
 /// The first fault of each input: its kind, its path, and the input.
-const FAULTS: [(DescKind, &str, &str); 33] = [
+static FAULTS: &[(DescKind, &str, &str)] = &[
     (DescKind::NoSeparator, "$", "builtin demo\n"),
     (DescKind::BadJson, "$", "{\"version\n---\n"),
     (DescKind::WrongType, "$", "[]\n---\n"),
@@ -150,17 +153,21 @@ const FAULTS: [(DescKind, &str, &str); 33] = [
     ),
 ];
 
+fn expect_fault(rt: &impl Abort, alloc: Global, input: &str, kind: DescKind, path: &str) {
+    match read(alloc, input.as_bytes()) {
+        Err(DescRefusal::Fault(fault)) => {
+            expect(rt, &fault.kind, &kind);
+            expect(rt, &fault.path.as_str(), &path);
+        }
+        Err(DescRefusal::OutOfMemory) => panic!(rt; "no memory for {input}"),
+        Ok(_) => panic!(rt; "no fault in {input}"),
+    }
+}
+
 #[test]
 fn each_fault_is_told(rt: HostRuntime) {
-    for (kind, path, input) in &FAULTS {
-        match read(rt.alloc(), input.as_bytes()) {
-            Err(DescRefusal::Fault(fault)) => {
-                assert_eq!(rt; fault.kind, *kind, "of {input}");
-                assert_eq!(rt; fault.path.as_str(), *path, "of {input}");
-            }
-            Err(DescRefusal::OutOfMemory) => panic!(rt; "no memory for {input}"),
-            Ok(_) => panic!(rt; "no fault in {input}"),
-        }
+    for (kind, path, input) in FAULTS {
+        expect_fault(&rt, rt.alloc(), *input, *kind, *path);
     }
 }
 
@@ -169,11 +176,16 @@ const WHOLE: &str =
     "{\"version\":1,\"controllers\":2,\"timeout\":9,\"instances\":[\"n2\",\"n10\",\"n1\"],\"models\":[{\"name\":\"M\",\"states\":[{\"name\":\"A\",\"bound\":\"-1\"},{\"name\":\"MASTER\",\"bound\":\"1\"}],\"initial\":\"A\",\"transitions\":[\"A>MASTER\",\"MASTER>A\",\"A>DROPPED\"]}],\"throttles\":[{\"scope\":\"instance\",\"limit\":3,\"from\":\"A\",\"to\":\"MASTER\"}],\"resources\":[{\"name\":\"db\",\"model\":\"M\",\"replicas\":2,\"partitions\":1,\"mode\":\"CUSTOMIZED\",\"maps\":[[{\"instance\":\"n2\",\"state\":\"MASTER\"}]]}],\"failures\":[{\"instance\":\"n2\",\"resource\":\"db\",\"part\":0,\"make\":4}]}\n---\nview\n";
 
 #[test]
-fn descriptions_are_read(rt: HostRuntime) -> Result<(), Fail> {
+fn the_demo_is_read(rt: HostRuntime) -> Result<(), Fail> {
     let demo = read(rt.alloc(), b"builtin demo\r\n---\n".as_slice())?;
-    assert_eq!(rt; demo.resources.len(), 1);
+    expect(&rt, &demo.resources.len(), &1);
+    Ok(())
+}
+
+#[test]
+fn each_part_of_a_description_is_read(rt: HostRuntime) -> Result<(), Fail> {
     let spec = read(rt.alloc(), WHOLE.as_bytes())?;
-    assert_eq!(rt; spec.instances.find("n10"), Some(1));
-    assert_eq!(rt; spec.failures.len(), 1);
+    expect(&rt, &spec.instances.find("n10"), &Some(1));
+    expect(&rt, &spec.failures.len(), &1);
     Ok(())
 }

@@ -1,6 +1,6 @@
 ghost use Rattle.std.specs.Prelude.{◌<◌, length};
 
-use super::small_spec;
+use super::{expect_page, small_spec};
 use hx_cluster::{Admin, Did, Event, Spec};
 use hx_history::{Entries, History};
 use hx_ids::{InstanceId, SessionId};
@@ -37,6 +37,6 @@ fn an_entry_is_printed_behind_a_history(rt: HostRuntime) -> Result<(), Fail> {
         return Err("no instance".into());
     }
     let page = joined_and_ended(rt.alloc(), &spec)?;
-    assert_eq!(rt; page.as_bytes(), "join n1 s1\nend n1 s1\n".as_bytes());
+    expect_page(&rt, &page, "join n1 s1\nend n1 s1\n");
     Ok(())
 }

@@ -1,5 +1,7 @@
+use super::expect;
 use hx_text::{Lines, TextFault, cut, split_lines};
-use std::test::Fail;
+use std::alloc::Global;
+use std::process::Abort;
 
 /// Whether these are the lines.
 fn are_lines(lines: &Lines, want: &[&str]) -> bool {
@@ -11,69 +13,67 @@ fn are_lines(lines: &Lines, want: &[&str]) -> bool {
     lines.len() as usize == want.len() && lines.is_empty() == want.is_empty()
 }
 
-#[test]
-fn lines_end_at_line_feeds(rt: HostRuntime) -> Result<(), Fail> {
-    let line_end = b"a\r\n\n  b c\r\r\nlast\r".as_slice();
-    for (bytes, want) in [
-        (b"".as_slice(), [].as_slice()),
-        (b"\n".as_slice(), [""].as_slice()),
-        (b"one".as_slice(), ["one"].as_slice()),
-        (b"one\ntwo\n".as_slice(), ["one", "two"].as_slice()),
-        (line_end, ["a", "", "  b c\r", "last\r"].as_slice()),
-        ("é\n".as_bytes(), ["é"].as_slice()),
-    ] {
-        assert!(rt; bytes.len() < 100);
-        let lines = split_lines(rt.alloc(), bytes, 6).map_err(|_| "no lines")?;
-        assert!(rt; are_lines(&lines, want), "of {bytes:?}");
-    }
-    Ok(())
+fn expect_lines(rt: &impl Abort, alloc: Global, bytes: &[u8], wanted: &[&str]) {
+    assert!(rt; bytes.len() < 100);
+    let Ok(lines) = split_lines(alloc, bytes, 6) else {
+        panic!(rt; "no lines in {bytes:?}");
+    };
+    assert!(rt; are_lines(&lines, wanted), "of {bytes:?}");
 }
 
-#[test]
-fn the_first_line_with_a_fault_is_named(rt: HostRuntime) -> Result<(), Fail> {
-    for (bytes, fault) in [
-        (
-            b"abc\nabcd\n\xff\n".as_slice(),
-            TextFault::LineTooLong { line: 2 },
-        ),
-        (b"\xff\nabcd".as_slice(), TextFault::NotUtf8 { line: 1 }),
-        (
-            b"a\nb\nc\xffabcd".as_slice(),
-            TextFault::NotUtf8 { line: 3 },
-        ),
-        (
-            b"abc\r\nabc\r".as_slice(),
-            TextFault::LineTooLong { line: 2 },
-        ),
-    ] {
-        assert!(rt; bytes.len() < 100);
-        let found = split_lines(rt.alloc(), bytes, 3).err().ok_or("no fault")?;
-        assert_eq!(rt; found, fault, "of {bytes:?}");
-    }
-    Ok(())
-}
+static LINES: &[(&[u8], &[&str])] = &[
+    (b"", &[]),
+    (b"\n", &[""]),
+    (b"one", &["one"]),
+    (b"one\ntwo\n", &["one", "two"]),
+    (b"a\r\n\n  b c\r\r\nlast\r", &["a", "", "  b c\r", "last\r"]),
+    (b"\xc3\xa9\n", &["é"]),
+];
 
 #[test]
-fn an_input_is_cut_at_its_first_separator(rt: HostRuntime) -> Result<(), Fail> {
-    for (bytes, want) in [
-        (
-            b"{}\n---\ntick\n---\n".as_slice(),
-            Some((b"{}\n".as_slice(), b"tick\n---\n".as_slice())),
-        ),
-        (
-            b"{}\r\n---\r\n\n".as_slice(),
-            Some((b"{}\r\n".as_slice(), b"\n".as_slice())),
-        ),
-        (b"---".as_slice(), Some((b"".as_slice(), b"".as_slice()))),
-        (b"a\n---\r".as_slice(), None),
-        (b"---\r\r\n----\n --\n- --".as_slice(), None),
-        (b"".as_slice(), None),
-    ] {
-        assert_eq!(rt;
-            cut(bytes).map(|i| (i.description, i.script)),
-            want,
-            "of {bytes:?}"
-        );
+fn lines_end_at_line_feeds(rt: HostRuntime) {
+    for (bytes, wanted) in LINES {
+        expect_lines(&rt, rt.alloc(), *bytes, *wanted);
     }
-    Ok(())
+}
+
+fn expect_fault(rt: &impl Abort, alloc: Global, bytes: &[u8], fault: TextFault) {
+    assert!(rt; bytes.len() < 100);
+    expect(rt, &split_lines(alloc, bytes, 3).err(), &Some(fault));
+}
+
+static FAULTS: &[(&[u8], TextFault)] = &[
+    (b"abc\nabcd\n\xff\n", TextFault::LineTooLong { line: 2 }),
+    (b"\xff\nabcd", TextFault::NotUtf8 { line: 1 }),
+    (b"a\nb\nc\xffabcd", TextFault::NotUtf8 { line: 3 }),
+    (b"abc\r\nabc\r", TextFault::LineTooLong { line: 2 }),
+];
+
+#[test]
+fn the_first_line_with_a_fault_is_named(rt: HostRuntime) {
+    for (bytes, fault) in FAULTS {
+        expect_fault(&rt, rt.alloc(), *bytes, *fault);
+    }
+}
+
+/// The description and the script of an input.
+fn parts(bytes: &[u8]) -> Option<(&[u8], &[u8])> {
+    let input = cut(bytes)?;
+    Some((input.description, input.script))
+}
+
+static INPUTS: &[(&[u8], Option<(&[u8], &[u8])>)] = &[
+    (b"{}\n---\ntick\n---\n", Some((b"{}\n", b"tick\n---\n"))),
+    (b"{}\r\n---\r\n\n", Some((b"{}\r\n", b"\n"))),
+    (b"---", Some((b"", b""))),
+    (b"a\n---\r", None),
+    (b"---\r\r\n----\n --\n- --", None),
+    (b"", None),
+];
+
+#[test]
+fn an_input_is_cut_at_its_first_separator(rt: HostRuntime) {
+    for (bytes, wanted) in INPUTS {
+        expect(&rt, &parts(*bytes), wanted);
+    }
 }

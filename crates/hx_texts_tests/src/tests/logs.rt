@@ -1,4 +1,4 @@
-use super::{short_lines, small_spec};
+use super::{expect, short_lines, small_spec};
 use hx_cluster::Spec;
 use hx_logs::read_log;
 use hx_script::LogLine;
@@ -26,29 +26,31 @@ drop log#2
 leads c1 e1
 ";
 
+/// The lines of LOG that tell something, each with whether it has an entry.
+static TOLD: &[(u32, bool)] = &[
+    (2, true),
+    (3, true),
+    (5, true),
+    (7, false),
+    (8, true),
+    (9, true),
+    (11, false),
+];
+
 /// The lines of a log, each with whether it has an entry.
 fn told(alloc: Global, log: &[LogLine]) -> Result<Vec<(u32, bool)>, AllocError> {
-    log.iter()
-        .map(|told| (told.line, told.entry.is_some()))
-        .collect(alloc)
+    let mut told = Vec::new(alloc);
+    for line in log {
+        told.push((line.line, line.entry.is_some()))?;
+    }
+    Ok(told)
 }
 
 #[test]
 fn lines_are_entries_or_none(rt: HostRuntime) -> Result<(), Fail> {
     let mut spec = small_spec(rt.alloc())?;
     let log = read(rt.alloc(), &mut spec, LOG)?;
-    let want = [
-        (2, true),
-        (3, true),
-        (5, true),
-        (7, false),
-        (8, true),
-        (9, true),
-        (11, false),
-    ];
-    assert_eq!(rt;
-        told(rt.alloc(), log.as_slice())?.as_slice(),
-        want.as_slice()
-    );
+    let told = told(rt.alloc(), log.as_slice())?;
+    expect(&rt, &told.as_slice(), &TOLD);
     Ok(())
 }

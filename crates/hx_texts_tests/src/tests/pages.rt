@@ -1,12 +1,17 @@
+use super::{expect, expect_page};
 use hx_text::{Page, Piece};
 use std::alloc::AllocError;
 use std::test::Fail;
 
-/// Puts two lines at the end of a page.
-fn print_lines(page: &mut Page) -> Result<(), AllocError> {
+fn print_place(page: &mut Page) -> Result<(), AllocError> {
     page.push_str("line ")?;
     page.push_u64(u64::MAX)?;
-    page.push(&Piece::Text(":"))?;
+    page.push(&Piece::Text(":"))
+}
+
+/// Puts two lines at the end of a page.
+fn print_lines(page: &mut Page) -> Result<(), AllocError> {
+    print_place(page)?;
     page.push_all(&[Piece::Text(" join s"), Piece::Number(0), Piece::Text("\n")])?;
     page.push_numbered(b'#', 1203)?;
     page.push_byte(b'\n')
@@ -17,12 +22,9 @@ fn pages_grow_at_their_end(rt: HostRuntime) -> Result<(), Fail> {
     let mut page = Page::new(rt.alloc());
     assert!(rt; page.is_empty());
     print_lines(&mut page)?;
-    assert_eq!(rt;
-        page.as_bytes(),
-        b"line 18446744073709551615: join s0\n#1203\n".as_slice()
-    );
-    assert_eq!(rt; page.len(), 41);
+    expect_page(&rt, &page, "line 18446744073709551615: join s0\n#1203\n");
+    expect(&rt, &page.len(), &41);
     page.cut_to(5);
-    assert_eq!(rt; page.as_bytes(), b"line ".as_slice());
+    expect_page(&rt, &page, "line ");
     Ok(())
 }

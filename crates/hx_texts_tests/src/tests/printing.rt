@@ -1,4 +1,4 @@
-use super::small_spec;
+use super::{expect_page, small_spec};
 use hx_cluster::{
     Admin, Begun, Candidate, Did, Dispatched, Event, Full, Outcome, Placed, Proposal, Spec,
     StepFault,
@@ -34,9 +34,14 @@ fn small_roll(alloc: Global) -> Result<Roll, AllocError> {
     })
 }
 
-/// Prints an event of the log.
-fn print(event: Event, roll: &Roll, spec: &Spec, page: &mut Page) -> Result<(), AllocError> {
-    print_event(&event, roll, spec, page)
+/// A page of events.
+fn printed(alloc: Global, events: &[Event], spec: &Spec) -> Result<Page, AllocError> {
+    let roll = small_roll(alloc)?;
+    let mut page = Page::new(alloc);
+    for event in events {
+        print_event(event, &roll, spec, &mut page)?;
+    }
+    Ok(page)
 }
 
 const LOG: &str = "line 7
@@ -50,35 +55,40 @@ fetch n1 - 0
 write s1 m1 failed
 ";
 
-#[test]
-fn log_lines(rt: HostRuntime) -> Result<(), Fail> {
-    let spec = small_spec(rt.alloc())?;
-    let n1 = InstanceId(0);
+/// The events of LOG.
+fn events(alloc: Global) -> Result<[Event; 7], AllocError> {
+    let instance = InstanceId(0);
+    let ended = Seq::from_slice(alloc, &[SessionId(2), SessionId(1)])?;
     let begun = Begun {
         epoch: Epoch(1),
         pass: PassNo(1),
         change: 9,
     };
-    let ended = Seq::from_slice(rt.alloc(), &[SessionId(2), SessionId(1)])?;
-    let roll = small_roll(rt.alloc())?;
-    let mut page = Page::new(rt.alloc());
-    print(Event::Line(7), &roll, &spec, &mut page)?;
-    let join = Event::Admin(Admin::Join { instance: n1 }, Did::Joined(SessionId(3)));
-    print(join, &roll, &spec, &mut page)?;
-    let end = Event::Admin(Admin::End { instance: n1 }, Did::Done);
-    print(end, &roll, &spec, &mut page)?;
-    let tick = Event::Admin(Admin::Tick { n: 5 }, Did::Ended(ended));
-    print(tick, &roll, &spec, &mut page)?;
-    print(Event::Begin(CONTROLLER, begun), &roll, &spec, &mut page)?;
-    let fetch = Event::Fetch {
-        instance: n1,
-        session: None,
-        count: 0,
-    };
-    print(fetch, &roll, &spec, &mut page)?;
-    let write = Event::Write(SessionId(1), MsgId(1), Outcome::Failed);
-    print(write, &roll, &spec, &mut page)?;
-    assert_eq!(rt; page.as_bytes(), LOG.as_bytes());
+    Ok([
+        Event::Line(7),
+        Event::Admin(Admin::Join { instance }, Did::Joined(SessionId(3))),
+        Event::Admin(Admin::End { instance }, Did::Done),
+        Event::Admin(Admin::Tick { n: 5 }, Did::Ended(ended)),
+        Event::Begin(CONTROLLER, begun),
+        Event::Fetch {
+            instance,
+            session: None,
+            count: 0,
+        },
+        Event::Write(SessionId(1), MsgId(1), Outcome::Failed),
+    ])
+}
+
+fn log(alloc: Global, spec: &Spec) -> Result<Page, AllocError> {
+    let events = events(alloc)?;
+    printed(alloc, &events, spec)
+}
+
+#[test]
+fn log_lines(rt: HostRuntime) -> Result<(), Fail> {
+    let spec = small_spec(rt.alloc())?;
+    let page = log(rt.alloc(), &spec)?;
+    expect_page(&rt, &page, LOG);
     Ok(())
 }
 
@@ -131,14 +141,16 @@ const ANSWERS: &str = "send c1 e1 p1
   throttle 0 4 of 4 s1 db#1/3 OFFLINE>SLAVE
 ";
 
+fn answers(alloc: Global, spec: &Spec) -> Result<Page, AllocError> {
+    let events = [dispatch(alloc)?];
+    printed(alloc, &events, spec)
+}
+
 #[test]
 fn answers_to_proposals(rt: HostRuntime) -> Result<(), Fail> {
     let spec = small_spec(rt.alloc())?;
-    let event = dispatch(rt.alloc())?;
-    let roll = small_roll(rt.alloc())?;
-    let mut page = Page::new(rt.alloc());
-    print_event(&event, &roll, &spec, &mut page)?;
-    assert_eq!(rt; page.as_bytes(), ANSWERS.as_bytes());
+    let page = answers(rt.alloc(), &spec)?;
+    expect_page(&rt, &page, ANSWERS);
     Ok(())
 }
 
@@ -174,7 +186,7 @@ fn notes(rt: HostRuntime) -> Result<(), Fail> {
     ];
     let mut page = Page::new(rt.alloc());
     print_notes(&spec, &notes, &mut page)?;
-    assert_eq!(rt; page.as_bytes(), NOTES.as_bytes());
+    expect_page(&rt, &page, NOTES);
     Ok(())
 }
 
@@ -196,22 +208,30 @@ fn small_full(alloc: Global) -> Result<Full, AllocError> {
     })
 }
 
-fn print_outcomes(full: &Full, spec: &Spec, page: &mut Page) -> Result<(), AllocError> {
+fn print_passes(page: &mut Page) -> Result<(), AllocError> {
     print_sent(CONTROLLER, 2, page)?;
     print_waiting(CONTROLLER, 1, page)?;
     print_moved(CONTROLLER, 14, 15, page)?;
     print_settled(CONTROLLER, page)?;
-    print_settle(CONTROLLER, 3, page)?;
+    print_settle(CONTROLLER, 3, page)
+}
+
+fn print_outcomes(full: &Full, spec: &Spec, page: &mut Page) -> Result<(), AllocError> {
+    print_passes(page)?;
     print_accept(InstanceId(0), MsgId(4), spec, page)?;
     print_failed(InstanceId(0), "db", PART, spec, page)?;
     let shown = [(SessionId(1), InstanceId(0))];
     print_full(full, "db", &shown, spec, page)
 }
 
-fn print_views(spec: &Spec, page: &mut Page) -> Result<(), AllocError> {
+fn print_holders(spec: &Spec, page: &mut Page) -> Result<(), AllocError> {
     let rows = [(InstanceId(0), StateId(2)), (InstanceId(1), StateId(3))];
     print_seen("db", PART, &rows, spec, page)?;
-    print_seen("db", PART, &[], spec, page)?;
+    print_seen("db", PART, &[], spec, page)
+}
+
+fn print_views(spec: &Spec, page: &mut Page) -> Result<(), AllocError> {
+    print_holders(spec, page)?;
     print_route("db", PART, StateId(2), &[InstanceId(0)], spec, page)?;
     print_route("db", PART, StateId(2), &[], spec, page)?;
     print_summary(5, 4, 1, 3, 2, page)?;
@@ -234,13 +254,18 @@ const SHOWN: &str = "? c1 sent 2
 history full 4000000
 ";
 
+fn shown(alloc: Global, spec: &Spec) -> Result<Page, AllocError> {
+    let full = small_full(alloc)?;
+    let mut page = Page::new(alloc);
+    print_outcomes(&full, spec, &mut page)?;
+    print_views(spec, &mut page)?;
+    Ok(page)
+}
+
 #[test]
 fn outcomes_and_views(rt: HostRuntime) -> Result<(), Fail> {
     let spec = small_spec(rt.alloc())?;
-    let full = small_full(rt.alloc())?;
-    let mut page = Page::new(rt.alloc());
-    print_outcomes(&full, &spec, &mut page)?;
-    print_views(&spec, &mut page)?;
-    assert_eq!(rt; page.as_bytes(), SHOWN.as_bytes());
+    let page = shown(rt.alloc(), &spec)?;
+    expect_page(&rt, &page, SHOWN);
     Ok(())
 }

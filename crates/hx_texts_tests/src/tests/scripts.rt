@@ -1,8 +1,9 @@
-use super::{short_lines, small_spec};
+use super::{expect, expect_page, short_lines, small_spec};
 use hx_cluster::Spec;
 use hx_script::{Line, ScriptFault, ScriptKind, ScriptRefusal, parse, print_line};
 use hx_text::Page;
 use std::alloc::{AllocError, Global};
+use std::process::Abort;
 use std::test::Fail;
 
 /// The lines of a short script, with the names that they bring.
@@ -63,48 +64,70 @@ summary
 
 const SPACED: &str = "# a comment\n   \n  join   n2 \n#join n9\nsummary";
 
+/// A script of so many lines is printed so.
+fn expect_printed(
+    rt: &impl Abort,
+    alloc: Global,
+    text: &str,
+    lines: usize,
+    wanted: &str,
+) -> Result<(), Fail> {
+    let mut spec = small_spec(alloc)?;
+    let script = parsed(alloc, &mut spec, text).ok().ok_or("no script")?;
+    expect(rt, &script.len(), &lines);
+    let page = printed(alloc, &script, &spec)?;
+    expect_page(rt, &page, wanted);
+    Ok(())
+}
+
 #[test]
 fn lines_are_printed_as_they_were_written(rt: HostRuntime) -> Result<(), Fail> {
-    for (text, lines, want) in [
-        (EACH_LINE, 37, EACH_LINE),
-        (SPACED, 2, "join n2\nsummary\n"),
-    ] {
-        let mut spec = small_spec(rt.alloc())?;
-        let script = parsed(rt.alloc(), &mut spec, text).map_err(|_| "no script")?;
-        assert_eq!(rt; script.len(), lines);
-        let page = printed(rt.alloc(), &script, &spec)?;
-        assert_eq!(rt; page.as_bytes(), want.as_bytes());
-    }
+    expect_printed(&rt, rt.alloc(), EACH_LINE, 37, EACH_LINE)?;
+    expect_printed(&rt, rt.alloc(), SPACED, 2, "join n2\nsummary\n")
+}
+
+static FAULTS: &[(&str, u32, ScriptKind)] = &[
+    ("Join n1", 1, ScriptKind::UnknownWord),
+    ("join n1\njoin", 2, ScriptKind::WordCount),
+    ("settle now", 1, ScriptKind::WordCount),
+    ("#\n\njoin n9\njoin", 3, ScriptKind::UnknownInstance),
+    ("join n1\t", 1, ScriptKind::UnknownInstance),
+    ("take n9 m0", 1, ScriptKind::UnknownInstance),
+    ("lead c0", 1, ScriptKind::UnknownController),
+    ("lead c01", 1, ScriptKind::UnknownController),
+    ("drop log", 1, ScriptKind::UnknownResource),
+    ("add log Swap 0 0 AUTO", 1, ScriptKind::UnknownModel),
+    ("map db 0 n1=MASTER=UP", 1, ScriptKind::UnknownState),
+    ("add 1og Swap 0 0 AUTO", 1, ScriptKind::BadName),
+    ("add log MasterSlave 65 1 AUTO", 1, ScriptKind::BadNumber),
+    ("tick 18446744073709551616", 1, ScriptKind::BadNumber),
+    ("list db 4294967296 n9", 1, ScriptKind::BadNumber),
+    ("ack n1 m0", 1, ScriptKind::BadMessage),
+    ("add log MasterSlave 1 1 AUTO", 1, ScriptKind::BadMode),
+    ("map db 0 n1", 1, ScriptKind::BadPair),
+    ("read c1 all", 1, ScriptKind::BadKind),
+];
+
+fn expect_fault(
+    rt: &impl Abort,
+    alloc: Global,
+    text: &str,
+    fault: ScriptFault,
+) -> Result<(), Fail> {
+    let mut spec = small_spec(alloc)?;
+    let found = parsed(alloc, &mut spec, text).err();
+    expect(rt, &found, &Some(ScriptRefusal::Fault(fault)));
     Ok(())
 }
 
 #[test]
 fn the_first_fault_is_named(rt: HostRuntime) -> Result<(), Fail> {
-    for (text, line, kind) in [
-        ("Join n1", 1, ScriptKind::UnknownWord),
-        ("join n1\njoin", 2, ScriptKind::WordCount),
-        ("settle now", 1, ScriptKind::WordCount),
-        ("#\n\njoin n9\njoin", 3, ScriptKind::UnknownInstance),
-        ("join n1\t", 1, ScriptKind::UnknownInstance),
-        ("take n9 m0", 1, ScriptKind::UnknownInstance),
-        ("lead c0", 1, ScriptKind::UnknownController),
-        ("lead c01", 1, ScriptKind::UnknownController),
-        ("drop log", 1, ScriptKind::UnknownResource),
-        ("add log Swap 0 0 AUTO", 1, ScriptKind::UnknownModel),
-        ("map db 0 n1=MASTER=UP", 1, ScriptKind::UnknownState),
-        ("add 1og Swap 0 0 AUTO", 1, ScriptKind::BadName),
-        ("add log MasterSlave 65 1 AUTO", 1, ScriptKind::BadNumber),
-        ("tick 18446744073709551616", 1, ScriptKind::BadNumber),
-        ("list db 4294967296 n9", 1, ScriptKind::BadNumber),
-        ("ack n1 m0", 1, ScriptKind::BadMessage),
-        ("add log MasterSlave 1 1 AUTO", 1, ScriptKind::BadMode),
-        ("map db 0 n1", 1, ScriptKind::BadPair),
-        ("read c1 all", 1, ScriptKind::BadKind),
-    ] {
-        let mut spec = small_spec(rt.alloc())?;
-        let found = parsed(rt.alloc(), &mut spec, text).err();
-        let want = ScriptRefusal::Fault(ScriptFault { line, kind });
-        assert_eq!(rt; found, Some(want), "of {text}");
+    for (text, line, kind) in FAULTS {
+        let fault = ScriptFault {
+            line: *line,
+            kind: *kind,
+        };
+        expect_fault(&rt, rt.alloc(), *text, fault)?;
     }
     Ok(())
 }

@@ -1,5 +1,7 @@
+use super::expect;
 use hx_words::{RunMode, Task, Words, WordsFault, read_words, usage, version};
 use std::alloc::{AllocError, Global};
+use std::process::Abort;
 use std::test::Fail;
 
 /// What words behind the program's name ask for.
@@ -20,20 +22,38 @@ const DEFAULTS: Task = Task {
     size: 64,
 };
 
+type Answer = Result<Words, WordsFault>;
+
+/// Each list of words is answered so.
+fn expect_answers(
+    rt: &impl Abort,
+    alloc: Global,
+    table: &[(&[&str], Answer)],
+) -> Result<(), AllocError> {
+    for (words, answer) in table {
+        expect(rt, &asked(alloc, *words)?, answer);
+    }
+    Ok(())
+}
+
+static LANES: &[(&[&str], u32)] = &[
+    (&[], 4),
+    (&["--mode", "sim"], 4),
+    (&["--lanes", "16"], 16),
+    (&["--lanes=1"], 1),
+    (&["--lanes", "04"], 4),
+    (&["--lanes", "+7"], 7),
+    (&["--lanes", "2", "--"], 2),
+];
+
 #[test]
 fn lanes_have_a_range_and_a_default(rt: HostRuntime) -> Result<(), Fail> {
-    let alloc = rt.alloc();
-    for (words, lanes) in [
-        ([].as_slice(), 4),
-        (["--mode", "sim"].as_slice(), 4),
-        (["--lanes", "16"].as_slice(), 16),
-        (["--lanes=1"].as_slice(), 1),
-        (["--lanes", "04"].as_slice(), 4),
-        (["--lanes", "+7"].as_slice(), 7),
-        (["--lanes", "2", "--"].as_slice(), 2),
-    ] {
-        let want = Words::Run(Task { lanes, ..DEFAULTS });
-        assert_eq!(rt; asked(alloc, words)?, Ok(want), "of {words:?}");
+    for (words, lanes) in LANES {
+        let task = Task {
+            lanes: *lanes,
+            ..DEFAULTS
+        };
+        expect_answers(&rt, rt.alloc(), &[(*words, Ok(Words::Run(task)))])?;
     }
     Ok(())
 }
@@ -50,7 +70,6 @@ const NUMBERS: [&str; 6] = [
 
 #[test]
 fn other_options_have_ranges_and_defaults(rt: HostRuntime) -> Result<(), Fail> {
-    let alloc = rt.alloc();
     let numbers = Task {
         rounds: 0,
         seed: u64::MAX,
@@ -66,61 +85,58 @@ fn other_options_have_ranges_and_defaults(rt: HostRuntime) -> Result<(), Fail> {
         mode: RunMode::Check,
         ..DEFAULTS
     };
-    for (words, want) in [
-        (NUMBERS.as_slice(), numbers),
-        (["--mode", "gen", "--size", "8"].as_slice(), generated),
-        (["--mode", "check"].as_slice(), checked),
-    ] {
-        assert_eq!(rt; asked(alloc, words)?, Ok(Words::Run(want)), "of {words:?}");
-    }
+    let table: [(&[&str], Answer); 3] = [
+        (&NUMBERS, Ok(Words::Run(numbers))),
+        (&["--mode", "gen", "--size", "8"], Ok(Words::Run(generated))),
+        (&["--mode", "check"], Ok(Words::Run(checked))),
+    ];
+    expect_answers(&rt, rt.alloc(), &table)?;
     Ok(())
 }
 
+static REQUESTS: &[(&[&str], Answer)] = &[
+    (&["--help"], Ok(Words::Help)),
+    (&["-h"], Ok(Words::Help)),
+    (&["--lanes", "3", "--help"], Ok(Words::Help)),
+    (&["--version"], Ok(Words::Version)),
+    (&["-V"], Ok(Words::Version)),
+];
+
 #[test]
-fn requests_are_answered_and_other_words_refused(rt: HostRuntime) -> Result<(), Fail> {
-    let alloc = rt.alloc();
-    for (words, want) in [
-        (["--help"].as_slice(), Ok(Words::Help)),
-        (["-h"].as_slice(), Ok(Words::Help)),
-        (["--lanes", "3", "--help"].as_slice(), Ok(Words::Help)),
-        (["--version"].as_slice(), Ok(Words::Version)),
-        (["-V"].as_slice(), Ok(Words::Version)),
-        (["--mode", "fast"].as_slice(), Err(WordsFault::Refused)),
-        (["--mode", ""].as_slice(), Err(WordsFault::Refused)),
-        (
-            ["--mode", "fast", "--help"].as_slice(),
-            Err(WordsFault::Refused),
-        ),
-        (["--lanes", "0"].as_slice(), Err(WordsFault::Refused)),
-        (["--lanes", "17"].as_slice(), Err(WordsFault::Refused)),
-        (["--lanes", ""].as_slice(), Err(WordsFault::Refused)),
-        (["--lanes"].as_slice(), Err(WordsFault::Refused)),
-        (["--lane", "4"].as_slice(), Err(WordsFault::Refused)),
-        (
-            ["--lanes=4", "--lanes=4"].as_slice(),
-            Err(WordsFault::Refused),
-        ),
-        (["--rounds", "1001"].as_slice(), Err(WordsFault::Refused)),
-        (
-            ["--seed", "18446744073709551616"].as_slice(),
-            Err(WordsFault::Refused),
-        ),
-        (["--size", "0"].as_slice(), Err(WordsFault::Refused)),
-        (["--size", "257"].as_slice(), Err(WordsFault::Refused)),
-        (["sim"].as_slice(), Err(WordsFault::Refused)),
-        (
-            ["--lanes", "x", "--help"].as_slice(),
-            Err(WordsFault::Refused),
-        ),
-    ] {
-        assert_eq!(rt; asked(alloc, words)?, want, "of {words:?}");
+fn requests_are_answered(rt: HostRuntime) -> Result<(), Fail> {
+    expect_answers(&rt, rt.alloc(), REQUESTS)?;
+    Ok(())
+}
+
+static REFUSED: &[&[&str]] = &[
+    &["--mode", "fast"],
+    &["--mode", ""],
+    &["--mode", "fast", "--help"],
+    &["--lanes", "0"],
+    &["--lanes", "17"],
+    &["--lanes", ""],
+    &["--lanes"],
+    &["--lane", "4"],
+    &["--lanes=4", "--lanes=4"],
+    &["--rounds", "1001"],
+    &["--seed", "18446744073709551616"],
+    &["--size", "0"],
+    &["--size", "257"],
+    &["sim"],
+    &["--lanes", "x", "--help"],
+];
+
+#[test]
+fn other_words_are_refused(rt: HostRuntime) -> Result<(), Fail> {
+    for words in REFUSED {
+        expect_answers(&rt, rt.alloc(), &[(*words, Err(WordsFault::Refused))])?;
     }
     Ok(())
 }
 
 #[test]
 fn texts_end_with_a_line_feed(rt: HostRuntime) -> Result<(), Fail> {
-    assert_eq!(rt; version(), "fodderca 0.1.0\n");
+    expect(&rt, &version(), &"fodderca 0.1.0\n");
     assert!(rt; usage().starts_with("fodderca runs"));
     assert!(rt; usage().ends_with("| fodderca\n"));
     Ok(())
