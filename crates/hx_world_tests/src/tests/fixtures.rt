@@ -6,6 +6,7 @@ use hx_cluster::Spec;
 use hx_desc::read;
 use hx_ids::{InstanceId, PartId, ResourceId, SessionId, StateId};
 use std::alloc::Global;
+use std::fmt::Debug;
 use std::process::Abort;
 
 pub const N1: InstanceId = InstanceId(0);
@@ -34,6 +35,11 @@ pub const DB0: PartId = PartId {
     resource: DB,
     index: 0,
 };
+
+/// What is found is what is wanted. Inline, an `assert_eq!` takes longer to prove.
+pub fn expect<T: PartialEq + Debug>(rt: &impl Abort, found: &T, wanted: &T) {
+    assert_eq!(rt; found, wanted);
+}
 
 pub fn part(resource: ResourceId, index: u32) -> PartId {
     PartId { resource, index }

@@ -1,7 +1,7 @@
 //! Makings and runs that fail as a list says.
 ghost use Rattle.std.specs.Prelude.{◌≡◌};
 
-use crate::tests::fixtures::{DB0, N1, OFFLINE, ONLINE, db};
+use crate::tests::fixtures::{DB0, N1, OFFLINE, ONLINE, db, expect};
 use hx_cluster::Failure;
 use hx_handler::{Factory, Handler, Kept, MakeFault, ScriptedFactory, ScriptedHandler};
 use hx_ids::PartId;
@@ -39,10 +39,8 @@ fn making_fails(rt: &impl Abort, factory: &mut ScriptedFactory, part: PartId) ->
 fn the_makings_that_are_listed_fail(rt: HostRuntime) -> Result<(), Fail> {
     let failures = failures(rt.alloc(), &[(0, true, 1), (1, true, 2), (1, false, 1)])?;
     let mut factory = ScriptedFactory::new(failures);
-    let makings = [(0, true), (0, false), (1, false), (1, true), (2, false)];
-    for (place, (index, fails)) in makings.iter().enumerate() {
-        let failed = making_fails(&rt, &mut factory, db(*index));
-        assert_eq!(rt; failed, *fails, "the making at {place}");
+    for (index, fails) in [(0, true), (0, false), (1, false), (1, true), (2, false)] {
+        expect(&rt, &making_fails(&rt, &mut factory, db(index)), &fails);
     }
     Ok(())
 }
@@ -72,7 +70,7 @@ fn the_run_that_is_listed_fails(rt: HostRuntime) -> Result<(), Fail> {
     let third = run_fails(&mut handler);
     let retired = handler.retire();
     factory.take_back(retired);
-    assert_eq!(rt; (first, second, third), (false, true, false));
-    assert_eq!(rt; retired.part, DB0);
+    expect(&rt, &(first, second, third), &(false, true, false));
+    expect(&rt, &retired.part, &DB0);
     Ok(())
 }

@@ -2,7 +2,7 @@
 ghost use Rattle.std.specs.Prelude.{◌≡◌, true};
 ghost use Rattle.hx_replicas.specs.Participants.{all_idle};
 
-use crate::tests::fixtures::{N1, OFFLINE, ONLINE, S1, S2, db};
+use crate::tests::fixtures::{N1, OFFLINE, ONLINE, S1, S2, db, expect};
 use hx_cluster::{Failure, Message, Outcome};
 use hx_handler::{Factory, MakeFault, Retired, ScriptedFactory, ScriptedHandler};
 use hx_ids::{Epoch, MsgId, PartId, StateId};
@@ -35,11 +35,8 @@ fn deliver<F: Factory>(
     if message.to == ERROR {
         panic!(rt; "to ERROR");
     }
-    if message.initial == ERROR {
-        panic!(rt; "ERROR is the initial state");
-    }
-    if message.initial == DROPPED {
-        panic!(rt; "DROPPED is the initial state");
+    if message.initial == ERROR || message.initial == DROPPED {
+        panic!(rt; "no initial state");
     }
     if message.from == ERROR && message.to != message.initial {
         panic!(rt; "from ERROR to another state than the initial one");
@@ -110,6 +107,18 @@ fn participant(rt: &impl Abort, failures: Vec<Failure>) -> Participant<ScriptedF
     adopted(p)
 }
 
+/// Each message is accepted, and its job ends so.
+fn expect_outcomes<F: Factory>(
+    rt: &impl Abort,
+    p: &mut Participant<F>,
+    steps: &[(Message, Outcome)],
+) {
+    for (message, outcome) in steps {
+        expect(rt, &deliver(rt, p, message), &Ok(()));
+        expect(rt, &carry(rt, p, message.id.0), outcome);
+    }
+}
+
 #[test]
 fn a_making_that_failed_is_tried_again_after_a_reset(rt: HostRuntime) -> Result<(), Fail> {
     let failures = vec![in rt.alloc();
@@ -128,24 +137,23 @@ fn a_making_that_failed_is_tried_again_after_a_reset(rt: HostRuntime) -> Result<
         (message(4, 7, ONLINE, OFFLINE), Outcome::Ok),
         (message(5, 7, OFFLINE, DROPPED), Outcome::Ok),
     ];
-    for (message, outcome) in steps.iter() {
-        assert_eq!(rt;
-            deliver(&rt, &mut p, message),
-            Ok(()),
-            "at {}",
-            message.id.0
-        );
-        assert_eq!(rt;
-            carry(&rt, &mut p, message.id.0),
-            *outcome,
-            "at {}",
-            message.id.0
-        );
-    }
-    assert_eq!(rt; (p.slot(db(7), OFFLINE), p.used()), ((OFFLINE, 5), 1));
+    expect_outcomes(&rt, &mut p, &steps);
+    expect(&rt, &p.slot(db(7), OFFLINE), &(OFFLINE, 5));
+    expect(&rt, &p.used(), &1);
     assert!(rt; p.idle());
     let _ = close(p);
     Ok(())
+}
+
+/// Each delivery is answered so.
+fn expect_answers<F: Factory>(
+    rt: &impl Abort,
+    p: &mut Participant<F>,
+    deliveries: &[(Message, Result<(), DeliverFault>)],
+) {
+    for (message, answer) in deliveries {
+        expect(rt, &deliver(rt, p, message), answer);
+    }
 }
 
 #[test]
@@ -167,21 +175,13 @@ fn deliveries_are_refused(rt: HostRuntime) -> Result<(), Fail> {
             Err(DeliverFault::WrongFrom { has: OFFLINE }),
         ),
     ];
-    for (message, answer) in deliveries.iter() {
-        assert_eq!(rt;
-            deliver(&rt, &mut p, message),
-            *answer,
-            "at {}",
-            message.id.0
-        );
-    }
-    assert_eq!(rt; carry(&rt, &mut p, 3), Outcome::Ok);
+    expect_answers(&rt, &mut p, &deliveries);
+    expect(&rt, &carry(&rt, &mut p, 3), &Outcome::Ok);
     let repeat = message(3, 0, ONLINE, OFFLINE);
-    assert_eq!(rt;
-        deliver(&rt, &mut p, &repeat),
-        Err(DeliverFault::Repeat { last: MsgId(3) })
-    );
-    assert_eq!(rt; (p.session(), p.instance()), (Some(S1), N1));
+    let fault = DeliverFault::Repeat { last: MsgId(3) };
+    expect(&rt, &deliver(&rt, &mut p, &repeat), &Err(fault));
+    expect(&rt, &p.session(), &Some(S1));
+    expect(&rt, &p.instance(), &N1);
     assert!(rt; p.idle());
     let _ = close(p);
     Ok(())
@@ -223,6 +223,21 @@ impl Factory for Wanting {
     }
 }
 
+/// Delivers a message about each of three partitions.
+fn deliver_three<F: Factory>(rt: &impl Abort, p: &mut Participant<F>) {
+    for id in 1..4 {
+        let message = message(u64::from(id), id, OFFLINE, ONLINE);
+        expect(rt, &deliver(rt, p, &message), &Ok(()));
+    }
+}
+
+/// The jobs of the three messages end well.
+fn carry_three<F: Factory>(rt: &impl Abort, p: &mut Participant<F>) {
+    expect(rt, &carry(rt, p, 1), &Outcome::Ok);
+    expect(rt, &carry(rt, p, 2), &Outcome::Ok);
+    expect(rt, &carry_only(rt, p), &Outcome::Ok);
+}
+
 #[test]
 fn handlers_stay_when_a_later_making_wants_memory(rt: HostRuntime) {
     let factory = Wanting {
@@ -233,18 +248,11 @@ fn handlers_stay_when_a_later_making_wants_memory(rt: HostRuntime) {
     let p = Participant::new(rt.alloc(), N1, factory);
     assert!(rt; p.idle());
     let mut p = adopted(p);
-    for id in 1..4 {
-        let message = message(u64::from(id), id, OFFLINE, ONLINE);
-        assert_eq!(rt; deliver(&rt, &mut p, &message), Ok(()));
-    }
+    deliver_three(&rt, &mut p);
     if let Ok(_jobs) = p.jobs() {
         panic!(&rt; "no want of memory");
     }
-    assert_eq!(rt;
-        (carry(&rt, &mut p, 1), carry(&rt, &mut p, 2)),
-        (Outcome::Ok, Outcome::Ok)
-    );
-    assert_eq!(rt; carry_only(&rt, &mut p), Outcome::Ok);
+    carry_three(&rt, &mut p);
     assert!(rt; p.idle());
-    assert_eq!(rt; close(p).calls, 4);
+    expect(&rt, &close(p).calls, &4);
 }

@@ -1,6 +1,6 @@
 //! The calls of controllers and instances, and why they are refused.
 use crate::tests::boards::fixtures::{C1, C2, E1, M1, M2, M9, OLD, P1, S9, SMALL, WEB};
-use crate::tests::boards::reads::{Read, Stands};
+use crate::tests::boards::reads::Read;
 use crate::tests::boards::scripts::{Act, play};
 use crate::tests::boards::tables::{Call, Move, Step, Told};
 use crate::tests::fixtures::{
@@ -53,12 +53,9 @@ static PASSES: &[(Call, Told)] = &[
     (Call::Post(E1, SEEN), Told::Items(1)),
 ];
 
-static LED: &[(Read, Stands)] = &[
-    (Read::Leader, Stands::Leader(Some(C1))),
-    (Read::Weight, Stands::Weight(8)),
-];
+static LED: &[Read] = &[Read::Leader(Some(C1)), Read::Weight(8)];
 
-static UNPOSTED: &[(Read, Stands)] = &[(Read::Posted, Stands::Items(0))];
+static UNPOSTED: &[Read] = &[Read::Posted(0)];
 
 #[test]
 fn passes_and_epochs_are_fenced(rt: HostRuntime) {
@@ -66,7 +63,7 @@ fn passes_and_epochs_are_fenced(rt: HostRuntime) {
     play(&rt, rt.alloc(), (0, 1000), &acts);
 }
 
-static ENTERED: &[(Read, Stands)] = &[(Read::Entries, Stands::Items(7))];
+static ENTERED: &[Read] = &[Read::Entries(7)];
 
 #[test]
 fn histories_have_the_calls_that_were_answered(rt: HostRuntime) {
@@ -92,7 +89,7 @@ fn ideals_are_the_same_again(rt: HostRuntime) {
     play(&rt, rt.alloc(), (0, 1000), &[Act::Calls(AGAIN)]);
 }
 
-static FULL: &[(Read, Stands)] = &[(Read::Room, Stands::Room(3, 0))];
+static FULL: &[Read] = &[Read::Weight(3), Read::Charged(0)];
 
 static LITTLE_ROOM: &[(Call, Told)] = &[
     (Call::Step(Step::Join(N1)), Told::Joined(S1)),
@@ -128,7 +125,7 @@ static LINES: &[(Call, Told)] = &[
     (Call::Charge(1), Told::Full(2)),
 ];
 
-static TAKEN: &[(Read, Stands)] = &[(Read::Room, Stands::Room(2, 1))];
+static TAKEN: &[Read] = &[Read::Weight(2), Read::Charged(1)];
 
 #[test]
 fn lines_are_taken_to_their_end(rt: HostRuntime) {
@@ -156,13 +153,9 @@ fn boards_tell_what_they_were_made_with(rt: HostRuntime) {
     play(&rt, rt.alloc(), (1, 2), &[Act::MadeSmall]);
 }
 
-fn of_spec(board: &Board, spec: &Spec) -> bool {
-    board.of_spec(spec)
-}
-
 pub fn expect_not_demo(rt: &impl Abort, board: &Board, alloc: Global) {
     let demo = described(rt, alloc, "builtin demo\n---\n");
-    assert!(rt; !of_spec(board, &demo));
+    assert!(rt; !board.of_spec(&demo));
 }
 
 #[test]
@@ -224,9 +217,9 @@ static PROPOSED: &[(Call, Told)] = &[
     (Call::Fetch(N2), Told::Items(2)),
 ];
 
-static SENT: &[(Read, Stands)] = &[
-    (Read::Message(S1, DB0), Stands::Message(Some(M1))),
-    (Read::Message(S3, DB0), Stands::Message(None)),
+static SENT: &[Read] = &[
+    Read::Message(S1, DB0, Some(M1)),
+    Read::Message(S3, DB0, None),
 ];
 
 /// Of the first session, which has a message; of another one; and of one that isn't live.
@@ -274,15 +267,15 @@ static WRITTEN: &[(Call, Told)] = &[
     ),
 ];
 
-static RAN: &[(Read, Stands)] = &[
-    (Read::Message(S1, DB0), Stands::Message(None)),
-    (Read::Row(S1, DB0), Stands::Row(Some(ERROR))),
-    (Read::Row(S2, DB0), Stands::Row(None)),
-    (Read::Rows(S1), Stands::Items(1)),
-    (Read::Rows(S2), Stands::Items(0)),
-    (Read::Resource(WEB), Stands::Name(Some(1))),
-    (Read::Resource(ResourceId(3)), Stands::Name(None)),
-    (Read::Weight, Stands::Weight(60)),
+static RAN: &[Read] = &[
+    Read::Message(S1, DB0, None),
+    Read::Row(S1, DB0, Some(ERROR)),
+    Read::Row(S2, DB0, None),
+    Read::Rows(S1, 1),
+    Read::Rows(S2, 0),
+    Read::Resource(WEB, Some(1)),
+    Read::Resource(ResourceId(3), None),
+    Read::Weight(60),
 ];
 
 #[test]

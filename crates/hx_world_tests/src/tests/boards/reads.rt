@@ -1,45 +1,35 @@
 //! What stands on a board, as values.
+use crate::tests::fixtures::expect;
 use hx_board::Board;
 use hx_ids::{ControllerId, InstanceId, MsgId, PartId, ResourceId, SessionId, StateId};
 use hx_lists::Seq;
+use std::alloc::AllocError;
 use std::process::Abort;
 
-#[derive(Clone, Copy, Debug)]
-pub enum Read {
-    Roster,
-    Shown,
-    Session(InstanceId),
-    Drained(InstanceId),
-    Row(SessionId, PartId),
-    Rows(SessionId),
-    Message(SessionId, PartId),
-    Resource(ResourceId),
-    Newest(u32),
-    Leader,
-    Weight,
-    Room,
-    Posted,
-    Entries,
-}
+/// The first two of the live sessions.
+type Two = (Option<SessionId>, Option<SessionId>);
 
-#[derive(Clone, Copy, Debug, PartialEq)]
-pub enum Stands {
-    /// The first two of the live sessions.
-    Live(Option<SessionId>, Option<SessionId>),
-    Session(Option<SessionId>),
-    Drained(bool),
-    Row(Option<StateId>),
-    Message(Option<MsgId>),
+/// A read, and behind what it is asked what it shows.
+#[derive(Clone, Copy)]
+pub enum Read {
+    Roster(Two),
+    Shown(Two),
+    Session(InstanceId, Option<SessionId>),
+    Drained(InstanceId, bool),
+    Row(SessionId, PartId, Option<StateId>),
+    /// How many rows a session has.
+    Rows(SessionId, usize),
+    Message(SessionId, PartId, Option<MsgId>),
     /// The place of a resource's name.
-    Name(Option<u32>),
-    Resource(Option<ResourceId>),
+    Resource(ResourceId, Option<u32>),
+    Newest(u32, Option<ResourceId>),
     Leader(Option<ControllerId>),
     Weight(u64),
-    /// The weight of the history, and what is charged.
-    Room(u64, u64),
-    /// So many items.
-    Items(usize),
-    NoMemory,
+    Charged(u64),
+    /// How many rows are posted.
+    Posted(usize),
+    /// How many entries the history has.
+    Entries(usize),
 }
 
 fn session_at(live: &[(SessionId, InstanceId)], place: usize) -> Option<SessionId> {
@@ -49,71 +39,55 @@ fn session_at(live: &[(SessionId, InstanceId)], place: usize) -> Option<SessionI
     }
 }
 
-fn first_two(live: &[(SessionId, InstanceId)]) -> Stands {
-    Stands::Live(session_at(live, 0), session_at(live, 1))
-}
-
-fn roster(board: &Board) -> Stands {
-    match board.roster() {
-        Ok(live) => first_two(live.as_slice()),
-        Err(_) => Stands::NoMemory,
-    }
-}
-
-fn shown(board: &Board) -> Stands {
-    match board.shown() {
-        Ok(live) => first_two(live.as_slice()),
-        Err(_) => Stands::NoMemory,
-    }
-}
-
-fn rows(board: &Board, session: SessionId) -> Stands {
-    let Ok(live) = board.roster() else {
-        return Stands::NoMemory;
+fn first_two(rt: &impl Abort, read: Result<Vec<(SessionId, InstanceId)>, AllocError>) -> Two {
+    let Ok(live) = read else {
+        panic!(rt; "no memory");
     };
+    (
+        session_at(live.as_slice(), 0),
+        session_at(live.as_slice(), 1),
+    )
+}
+
+fn rows(board: &Board, session: SessionId) -> Result<usize, AllocError> {
+    let live = board.roster()?;
     let mut rows = Seq::new(*live.allocator());
-    match board.push_rows_of(session, &mut rows) {
-        Ok(()) => Stands::Items(rows.len()),
-        Err(_) => Stands::NoMemory,
-    }
+    board.push_rows_of(session, &mut rows)?;
+    Ok(rows.len())
 }
 
-fn message(board: &Board, session: SessionId, part: PartId) -> Stands {
-    match board.message(session, part) {
-        Some(message) => Stands::Message(Some(message.id)),
-        None => Stands::Message(None),
-    }
+fn message(board: &Board, session: SessionId, part: PartId) -> Option<MsgId> {
+    let message = board.message(session, part)?;
+    Some(message.id)
 }
 
-fn name(board: &Board, resource: ResourceId) -> Stands {
-    match board.resource(resource) {
-        Some(resource) => Stands::Name(Some(resource.name)),
-        None => Stands::Name(None),
-    }
+fn name(board: &Board, resource: ResourceId) -> Option<u32> {
+    let resource = board.resource(resource)?;
+    Some(resource.name)
 }
 
-fn look(board: &Board, read: Read) -> Stands {
+fn expect_read(rt: &impl Abort, board: &Board, read: Read) {
     match read {
-        Read::Roster => roster(board),
-        Read::Shown => shown(board),
-        Read::Session(instance) => Stands::Session(board.session_of(instance)),
-        Read::Drained(instance) => Stands::Drained(board.drained(instance)),
-        Read::Row(session, part) => Stands::Row(board.row(session, part)),
-        Read::Rows(session) => rows(board, session),
-        Read::Message(session, part) => message(board, session, part),
-        Read::Resource(resource) => name(board, resource),
-        Read::Newest(name) => Stands::Resource(board.newest(name)),
-        Read::Leader => Stands::Leader(board.leader()),
-        Read::Weight => Stands::Weight(board.weight()),
-        Read::Room => Stands::Room(board.weight(), board.charged()),
-        Read::Posted => Stands::Items(board.posted().len()),
-        Read::Entries => Stands::Items(board.history().entries.len()),
+        Read::Roster(two) => expect(rt, &first_two(rt, board.roster()), &two),
+        Read::Shown(two) => expect(rt, &first_two(rt, board.shown()), &two),
+        Read::Session(instance, session) => expect(rt, &board.session_of(instance), &session),
+        Read::Drained(instance, drained) => expect(rt, &board.drained(instance), &drained),
+        Read::Row(session, part, state) => expect(rt, &board.row(session, part), &state),
+        Read::Rows(session, count) => expect(rt, &rows(board, session), &Ok(count)),
+        Read::Message(session, part, id) => expect(rt, &message(board, session, part), &id),
+        Read::Resource(resource, place) => expect(rt, &name(board, resource), &place),
+        Read::Newest(name, resource) => expect(rt, &board.newest(name), &resource),
+        Read::Leader(leader) => expect(rt, &board.leader(), &leader),
+        Read::Weight(weight) => expect(rt, &board.weight(), &weight),
+        Read::Charged(charged) => expect(rt, &board.charged(), &charged),
+        Read::Posted(count) => expect(rt, &board.posted().len(), &count),
+        Read::Entries(count) => expect(rt, &board.history().entries.len(), &count),
     }
 }
 
 /// Each read shows this.
-pub fn expect_reads(rt: &impl Abort, board: &Board, rows: &[(Read, Stands)]) {
-    for (read, stands) in rows.iter() {
-        assert_eq!(rt; look(board, *read), *stands, "of {read:?}");
+pub fn expect_reads(rt: &impl Abort, board: &Board, reads: &[Read]) {
+    for read in reads {
+        expect_read(rt, board, *read);
     }
 }

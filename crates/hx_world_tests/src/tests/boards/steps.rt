@@ -1,6 +1,6 @@
 //! Steps on a board, and why they are refused.
 use crate::tests::boards::fixtures::{C1, C2, E1, OLD, WEB};
-use crate::tests::boards::reads::{Read, Stands};
+use crate::tests::boards::reads::Read;
 use crate::tests::boards::scripts::{Act, play};
 use crate::tests::boards::tables::{Step, Told, expect_step};
 use crate::tests::fixtures::{DB, N1, N2, N3, ONLINE, S1, S2, S3, SLAVE};
@@ -25,10 +25,7 @@ static EXPIRY: &[(Step, Told)] = &[
     (Step::Tick(30), Told::Ended(Some(SessionId(4)), Some(S3))),
 ];
 
-static EXPIRED: &[(Read, Stands)] = &[
-    (Read::Session(N1), Stands::Session(None)),
-    (Read::Weight, Stands::Weight(15)),
-];
+static EXPIRED: &[Read] = &[Read::Session(N1, None), Read::Weight(15)];
 
 #[test]
 fn sessions_end_in_order_of_their_last_beat(rt: HostRuntime) {
@@ -66,10 +63,7 @@ static NODES: &[(Step, Told)] = &[
     (Step::Tick(u64::MAX), Told::Fault(StepFault::ClockEnd)),
 ];
 
-static LED_BY: &[(Read, Stands)] = &[
-    (Read::Leader, Stands::Leader(Some(C1))),
-    (Read::Drained(N3), Stands::Drained(false)),
-];
+static LED_BY: &[Read] = &[Read::Leader(Some(C1)), Read::Drained(N3, false)];
 
 #[test]
 fn steps_of_instances_and_controllers_are_refused(rt: HostRuntime) {
@@ -106,9 +100,9 @@ static RESOURCES: &[(Step, Told)] = &[
     (Step::Drop(ResourceId(3)), Told::Done),
 ];
 
-static NEWEST: &[(Read, Stands)] = &[
-    (Read::Newest(2), Stands::Resource(Some(ResourceId(3)))),
-    (Read::Newest(1), Stands::Resource(Some(WEB))),
+static NEWEST: &[Read] = &[
+    Read::Newest(2, Some(ResourceId(3))),
+    Read::Newest(1, Some(WEB)),
 ];
 
 #[test]
@@ -147,9 +141,9 @@ static BEATS: &[(Step, Told)] = &[
     (Step::Beat(N1), Told::Done),
 ];
 
-static LIVE: &[(Read, Stands)] = &[
-    (Read::Roster, Stands::Live(Some(S2), Some(S1))),
-    (Read::Shown, Stands::Live(Some(S1), Some(S2))),
+static LIVE: &[Read] = &[
+    Read::Roster((Some(S2), Some(S1))),
+    Read::Shown((Some(S1), Some(S2))),
 ];
 
 #[test]

@@ -1,12 +1,13 @@
 //! Calls of a board as values, and what they answer.
 use crate::tests::boards::fixtures::C1;
-use crate::tests::fixtures::{DB, N2, part};
+use crate::tests::fixtures::{DB, N2, expect, part};
 use hx_board::{
-    BeginFault, Board, BoardFault, DispatchRefusal, PostRefusal, ReadRefusal, RoomFault,
+    BeginFault, Board, BoardFault, DispatchRefusal, HistoryFull, PostRefusal, ReadRefusal,
+    RoomFault,
 };
 use hx_cluster::{
-    AckFault, Admin, Begun, Did, Outcome, Placed, Proposal, Seen, StepFault, TakeFault,
-    WriteRefusal,
+    AckFault, Admin, Begun, Did, Dispatched, Ideals, Outcome, Placed, Proposal, Seen, StepFault,
+    TakeFault, WriteRefusal,
 };
 use hx_ideal::{Ideal, Mode};
 use hx_ids::{
@@ -18,7 +19,7 @@ use std::process::Abort;
 
 /// A step by what it tells. A list has the second instance twice, a map has it once, and an added
 /// resource has the name of the third and two partitions.
-#[derive(Clone, Copy, Debug)]
+#[derive(Clone, Copy)]
 pub enum Step {
     Join(InstanceId),
     End(InstanceId),
@@ -39,7 +40,7 @@ pub enum Step {
 /// A proposal to a session about a partition of a resource, and its transition.
 pub type Move = (SessionId, ResourceId, u32, StateId, StateId);
 
-#[derive(Clone, Copy, Debug)]
+#[derive(Clone, Copy)]
 pub enum Call {
     Step(Step),
     Line,
@@ -141,6 +142,17 @@ fn answered(did: &Did) -> Told {
 }
 
 /// A fault is the one that was told before.
+fn unmade(rt: &impl Abort, told: Option<StepFault>, refusal: BoardFault) -> Told {
+    match refusal {
+        BoardFault::Step(fault) => {
+            expect(rt, &told, &Some(fault));
+            Told::Fault(fault)
+        }
+        BoardFault::HistoryFull { weight } => Told::Full(weight),
+        BoardFault::OutOfMemory => Told::NoMemory,
+    }
+}
+
 fn make_step(rt: &impl Abort, board: &mut Board, alloc: Global, asked: Step) -> Told {
     let Ok(admin) = admin_of(alloc, asked) else {
         panic!(rt; "no step");
@@ -151,12 +163,7 @@ fn make_step(rt: &impl Abort, board: &mut Board, alloc: Global, asked: Step) -> 
     let fault = board.refuses(&admin);
     match board.admin(&admin) {
         Ok(answer) => answered(&answer),
-        Err(BoardFault::Step(refusal)) => {
-            assert_eq!(rt; fault, Some(refusal));
-            Told::Fault(refusal)
-        }
-        Err(BoardFault::HistoryFull { weight }) => Told::Full(weight),
-        Err(BoardFault::OutOfMemory) => Told::NoMemory,
+        Err(refusal) => unmade(rt, fault, refusal),
     }
 }
 
@@ -167,17 +174,25 @@ fn room(fault: RoomFault) -> Told {
     }
 }
 
-fn line(board: &mut Board) -> Told {
-    match board.next_line() {
+fn line(answer: Result<Option<u32>, RoomFault>) -> Told {
+    match answer {
         Ok(line) => Told::Line(line),
         Err(fault) => room(fault),
     }
 }
 
-fn charge(board: &mut Board, n: u64) -> Told {
-    match board.charge(n) {
+fn charged(answer: Result<(), HistoryFull>) -> Told {
+    match answer {
         Ok(()) => Told::Done,
         Err(full) => Told::Full(full.weight),
+    }
+}
+
+fn not_begun(fault: BeginFault) -> Told {
+    match fault {
+        BeginFault::NotLeader { led_by } => Told::NotLeader(led_by),
+        BeginFault::HistoryFull { weight } => Told::Full(weight),
+        BeginFault::OutOfMemory => Told::NoMemory,
     }
 }
 
@@ -187,9 +202,7 @@ fn begin(rt: &impl Abort, board: &mut Board, c: ControllerId) -> Told {
     }
     match board.begin(c) {
         Ok(begun) => Told::Begun(begun),
-        Err(BeginFault::NotLeader { led_by }) => Told::NotLeader(led_by),
-        Err(BeginFault::HistoryFull { weight }) => Told::Full(weight),
-        Err(BeginFault::OutOfMemory) => Told::NoMemory,
+        Err(fault) => not_begun(fault),
     }
 }
 
@@ -209,46 +222,15 @@ fn items<T: Drop>(read: Result<Vec<T>, ReadRefusal>) -> Told {
     }
 }
 
-fn live(rt: &impl Abort, board: &mut Board, pass: PassNo) -> Told {
-    if !board.has_controller(C1) {
-        panic!(rt; "no such controller");
-    }
-    items(board.read_live(C1, pass))
-}
-
-fn mail(rt: &impl Abort, board: &mut Board, pass: PassNo, session: SessionId) -> Told {
-    if !board.has_controller(C1) {
-        panic!(rt; "no such controller");
-    }
-    items(board.read_mail(C1, pass, session))
-}
-
-fn states(rt: &impl Abort, board: &mut Board, pass: PassNo, session: SessionId) -> Told {
-    if !board.has_controller(C1) {
-        panic!(rt; "no such controller");
-    }
-    items(board.read_states(C1, pass, session))
-}
-
-fn ideals(rt: &impl Abort, board: &mut Board, pass: PassNo) -> Told {
-    if !board.has_controller(C1) {
-        panic!(rt; "no such controller");
-    }
-    match board.read_ideals(C1, pass) {
+fn ideals(read: Result<Ideals, ReadRefusal>) -> Told {
+    match read {
         Ok(ideals) => Told::Items(ideals.resources.len()),
         Err(refusal) => refused(refusal),
     }
 }
 
-/// Reads the ideals, and again over these.
-fn ideals_again(rt: &impl Abort, board: &mut Board, pass: PassNo) -> Told {
-    if !board.has_controller(C1) {
-        panic!(rt; "no such controller");
-    }
-    let mut kept = match board.read_ideals(C1, pass) {
-        Ok(ideals) => ideals,
-        Err(refusal) => return refused(refusal),
-    };
+/// Reads the ideals over these, which are the same.
+fn reread(rt: &impl Abort, board: &mut Board, pass: PassNo, mut kept: Ideals) -> Told {
     if !board.has_controller(C1) {
         panic!(rt; "no such controller");
     }
@@ -259,12 +241,33 @@ fn ideals_again(rt: &impl Abort, board: &mut Board, pass: PassNo) -> Told {
     }
 }
 
+/// Reads the ideals, and again over these.
+fn ideals_again(rt: &impl Abort, board: &mut Board, pass: PassNo) -> Told {
+    if !board.has_controller(C1) {
+        panic!(rt; "no such controller");
+    }
+    match board.read_ideals(C1, pass) {
+        Ok(kept) => reread(rt, board, pass, kept),
+        Err(refusal) => refused(refusal),
+    }
+}
+
 fn proposal(moved: Move) -> Proposal {
     Proposal {
         session: moved.0,
         part: part(moved.1, moved.2),
         from: moved.3,
         to: moved.4,
+    }
+}
+
+fn sent(answer: Result<Dispatched, DispatchRefusal>) -> Told {
+    match answer {
+        Ok(sent) => Told::Placed(sent.placed.first().copied()),
+        Err(DispatchRefusal::Fenced { now }) => Told::Fenced(now),
+        Err(DispatchRefusal::OldPass { now }) => Told::OldPass(now),
+        Err(DispatchRefusal::HistoryFull { weight }) => Told::Full(weight),
+        Err(DispatchRefusal::OutOfMemory) => Told::NoMemory,
     }
 }
 
@@ -281,12 +284,14 @@ fn send(
     if !board.are_proposable(proposals) {
         panic!(rt; "an id out of range");
     }
-    match board.dispatch(C1, epoch, pass, proposals) {
-        Ok(sent) => Told::Placed(sent.placed.first().copied()),
-        Err(DispatchRefusal::Fenced { now }) => Told::Fenced(now),
-        Err(DispatchRefusal::OldPass { now }) => Told::OldPass(now),
-        Err(DispatchRefusal::HistoryFull { weight }) => Told::Full(weight),
-        Err(DispatchRefusal::OutOfMemory) => Told::NoMemory,
+    sent(board.dispatch(C1, epoch, pass, proposals))
+}
+
+fn unposted(refusal: PostRefusal) -> Told {
+    match refusal {
+        PostRefusal::Fenced { now } => Told::Fenced(now),
+        PostRefusal::HistoryFull { weight } => Told::Full(weight),
+        PostRefusal::OutOfMemory => Told::NoMemory,
     }
 }
 
@@ -299,9 +304,7 @@ fn post(rt: &impl Abort, board: &mut Board, epoch: Epoch, rows: &[Seen]) -> Told
     }
     match board.publish(C1, epoch, rows) {
         Ok(()) => Told::Items(board.posted().len()),
-        Err(PostRefusal::Fenced { now }) => Told::Fenced(now),
-        Err(PostRefusal::HistoryFull { weight }) => Told::Full(weight),
-        Err(PostRefusal::OutOfMemory) => Told::NoMemory,
+        Err(refusal) => unposted(refusal),
     }
 }
 
@@ -315,58 +318,61 @@ fn fetch(rt: &impl Abort, board: &mut Board, instance: InstanceId) -> Told {
     }
 }
 
-fn take(board: &mut Board, session: SessionId, id: MsgId) -> Told {
-    match board.take(session, id) {
+fn taken(answer: Result<(), TakeFault>) -> Told {
+    match answer {
         Ok(()) => Told::Done,
         Err(fault) => Told::Untaken(fault),
     }
 }
 
-fn write(board: &mut Board, session: SessionId, id: MsgId, outcome: Outcome) -> Told {
-    match board.write(session, id, outcome) {
+fn written(answer: Result<(), WriteRefusal>) -> Told {
+    match answer {
         Ok(()) => Told::Done,
         Err(refusal) => Told::Unwritten(refusal),
     }
 }
 
-fn ack(board: &mut Board, session: SessionId, id: MsgId) -> Told {
-    match board.ack(session, id) {
+fn acknowledged(answer: Result<(), AckFault>) -> Told {
+    match answer {
         Ok(()) => Told::Done,
         Err(fault) => Told::Unacknowledged(fault),
     }
 }
 
-/// What a call answers.
+/// What a call answers. Reads are the first controller's.
 pub fn ask(rt: &impl Abort, board: &mut Board, alloc: Global, call: Call) -> Told {
+    if !board.has_controller(C1) {
+        panic!(rt; "no such controller");
+    }
     match call {
         Call::Step(asked) => make_step(rt, board, alloc, asked),
-        Call::Line => line(board),
-        Call::Charge(n) => charge(board, n),
+        Call::Line => line(board.next_line()),
+        Call::Charge(n) => charged(board.charge(n)),
         Call::Begin(c) => begin(rt, board, c),
-        Call::Live(pass) => live(rt, board, pass),
-        Call::Mail(pass, session) => mail(rt, board, pass, session),
-        Call::States(pass, session) => states(rt, board, pass, session),
-        Call::Ideals(pass) => ideals(rt, board, pass),
+        Call::Live(pass) => items(board.read_live(C1, pass)),
+        Call::Mail(pass, session) => items(board.read_mail(C1, pass, session)),
+        Call::States(pass, session) => items(board.read_states(C1, pass, session)),
+        Call::Ideals(pass) => ideals(board.read_ideals(C1, pass)),
         Call::IdealsAgain(pass) => ideals_again(rt, board, pass),
         Call::Send(epoch, pass, moved) => send(rt, board, epoch, pass, &[proposal(moved)]),
         Call::Post(epoch, seen) => post(rt, board, epoch, &[seen]),
         Call::Fetch(instance) => fetch(rt, board, instance),
-        Call::Take(session, id) => take(board, session, id),
-        Call::Write(session, id, outcome) => write(board, session, id, outcome),
-        Call::Ack(session, id) => ack(board, session, id),
+        Call::Take(session, id) => taken(board.take(session, id)),
+        Call::Write(session, id, outcome) => written(board.write(session, id, outcome)),
+        Call::Ack(session, id) => acknowledged(board.ack(session, id)),
     }
 }
 
 /// Each call answers so, in order.
-pub fn expect(rt: &impl Abort, board: &mut Board, alloc: Global, rows: &[(Call, Told)]) {
+pub fn expect_calls(rt: &impl Abort, board: &mut Board, alloc: Global, rows: &[(Call, Told)]) {
     for (call, told) in rows.iter() {
-        assert_eq!(rt; ask(rt, board, alloc, *call), *told, "of {call:?}");
+        expect(rt, &ask(rt, board, alloc, *call), told);
     }
 }
 
 /// A step answers so.
 pub fn expect_step(rt: &impl Abort, board: &mut Board, alloc: Global, asked: Step, told: Told) {
-    assert_eq!(rt; make_step(rt, board, alloc, asked), told, "of {asked:?}");
+    expect(rt, &make_step(rt, board, alloc, asked), &told);
 }
 
 /// Each step answers so, in order.

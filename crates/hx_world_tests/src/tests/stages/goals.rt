@@ -1,5 +1,5 @@
 //! Each rule of the goal has a case with another answer by the rule before or after it.
-use crate::tests::fixtures::{MASTER, N1, N2, N3, OFFLINE, S1, S2, S3, SLAVE};
+use crate::tests::fixtures::{MASTER, N1, N2, N3, OFFLINE, S1, S2, S3, SLAVE, expect};
 use crate::tests::stages::fixtures::{Case, EMPTY, described, targets_of, view};
 use crate::tests::stages::texts::{ANYWHERE, FEW, LISTED, MAPPED, THIRD, TWO_MASTERS};
 use hx_cluster::Target;
@@ -113,13 +113,13 @@ static BEST: &[(Case, &[Goal])] = &[
 ];
 
 fn expect_goals(rt: &impl Abort, found: &[Target], goals: &[Goal]) {
-    assert_eq!(rt; found.len(), goals.len());
+    expect(rt, &found.len(), &goals.len());
     for (target, goal) in found.iter().zip(goals) {
-        assert_eq!(rt; (target.instance, target.goal, target.place), *goal);
+        expect(rt, &(target.instance, target.goal, target.place), goal);
     }
 }
 
-fn expect(rt: &impl Abort, alloc: Global, case: &Case, goals: &[Goal]) {
+fn expect_case(rt: &impl Abort, alloc: Global, case: &Case, goals: &[Goal]) {
     let spec = described(rt, alloc, case.text);
     let view = view(rt, alloc, &spec, case);
     let found = targets_of(rt, alloc, &spec, &view);
@@ -129,13 +129,13 @@ fn expect(rt: &impl Abort, alloc: Global, case: &Case, goals: &[Goal]) {
 #[test]
 fn goals_are_the_first_rules_that_fit(rt: HostRuntime) {
     for (case, goals) in EXCEPTIONS {
-        expect(&rt, rt.alloc(), case, *goals);
+        expect_case(&rt, rt.alloc(), case, *goals);
     }
 }
 
 #[test]
 fn goals_are_best_by_place(rt: HostRuntime) {
     for (case, goals) in BEST {
-        expect(&rt, rt.alloc(), case, *goals);
+        expect_case(&rt, rt.alloc(), case, *goals);
     }
 }

@@ -1,7 +1,7 @@
 //! The order of candidates: by partition, rank, place and instance.
 ghost use Rattle.hx_parts.specs.Parts.{IsByPart};
 
-use crate::tests::fixtures::{MASTER, N1, N2, N3, OFFLINE, ONLINE, S1, S2, S3, SLAVE};
+use crate::tests::fixtures::{MASTER, N1, N2, N3, OFFLINE, ONLINE, S1, S2, S3, SLAVE, expect};
 use crate::tests::stages::fixtures::{Case, EMPTY, described, hops, targets_of, view};
 use crate::tests::stages::texts::{LISTED, NO_RULES, SECOND_FIRST};
 use hx_cluster::{Candidate, Spec, Target, View};
@@ -122,7 +122,7 @@ pub fn candidates_of(
 }
 
 fn expect_moves(rt: &impl Abort, found: &[Candidate], moves: &[Move]) {
-    assert_eq!(rt; found.len(), moves.len());
+    expect(rt, &found.len(), &moves.len());
     for (candidate, wanted) in found.iter().zip(moves) {
         let found = (
             candidate.part.index,
@@ -130,11 +130,11 @@ fn expect_moves(rt: &impl Abort, found: &[Candidate], moves: &[Move]) {
             candidate.from,
             candidate.to,
         );
-        assert_eq!(rt; found, *wanted);
+        expect(rt, &found, wanted);
     }
 }
 
-fn expect(rt: &impl Abort, alloc: Global, case: &Case, moves: &[Move]) {
+fn expect_case(rt: &impl Abort, alloc: Global, case: &Case, moves: &[Move]) {
     let spec = described(rt, alloc, case.text);
     let view = view(rt, alloc, &spec, case);
     let targets = targets_of(rt, alloc, &spec, &view);
@@ -145,6 +145,6 @@ fn expect(rt: &impl Abort, alloc: Global, case: &Case, moves: &[Move]) {
 #[test]
 fn candidates_come_in_order(rt: HostRuntime) {
     for (case, moves) in MOVES {
-        expect(&rt, rt.alloc(), case, *moves);
+        expect_case(&rt, rt.alloc(), case, *moves);
     }
 }

@@ -4,14 +4,14 @@ ghost use Rattle.std.specs.Prelude.{◌≡◌, length};
 ghost use Rattle.hx_cluster.specs.Views.{is_well_formed};
 ghost use Rattle.hx_parts.specs.Parts.{IsByPart};
 
-use crate::tests::fixtures::{MASTER, N1, N2, N3, OFFLINE, ONLINE, S1, S2, S3, SLAVE};
+use crate::tests::fixtures::{MASTER, N1, N2, N3, OFFLINE, ONLINE, S1, S2, S3, SLAVE, expect};
 use crate::tests::stages::fixtures::{Case, EMPTY, described, hops, targets_of, view};
 use crate::tests::stages::moves::candidates_of;
 use crate::tests::stages::texts::{
     MIXED, NO_RULES, RULES, SECOND_FIRST, SWAP, SWAPPED, THREE_REPLICAS, THROTTLED, TWO_MASTERS,
 };
 use hx_cluster::{
-    Candidate, Finding, Plan, Proposal, Report, Selection, Spec, Target, Throttled, View,
+    Candidate, Entry, Finding, Plan, Proposal, Report, Selection, Spec, Target, Throttled, View,
 };
 use hx_formed::is_well_formed;
 use hx_ids::{InstanceId, MsgId, SessionId, StateId};
@@ -514,7 +514,7 @@ fn planned_again(
     let Ok(proposals) = draft.proposals(alloc) else {
         panic!(rt; "no memory");
     };
-    assert_eq!(rt; planner.posted().len(), view.rows.len());
+    expect(rt, &planner.posted().len(), &view.rows.len());
     planner.hold(view);
     proposals
 }
@@ -536,14 +536,17 @@ fn planned_twice(rt: &impl Abort, alloc: Global, spec: &Spec, view: &View) -> Se
 }
 
 fn expect_move(rt: &impl Abort, proposal: &Proposal, wanted: &Move) {
-    assert_eq!(rt; proposal.session, wanted.0);
-    assert_eq!(rt; proposal.part.index, wanted.1);
-    assert_eq!(rt; proposal.from, wanted.2);
-    assert_eq!(rt; proposal.to, wanted.3);
+    let found = (
+        proposal.session,
+        proposal.part.index,
+        proposal.from,
+        proposal.to,
+    );
+    expect(rt, &found, wanted);
 }
 
 fn expect_moves(rt: &impl Abort, proposals: &[Proposal], moves: &[Move]) {
-    assert_eq!(rt; proposals.len(), moves.len());
+    expect(rt, &proposals.len(), &moves.len());
     for (proposal, wanted) in proposals.iter().zip(moves) {
         expect_move(rt, proposal, wanted);
     }
@@ -566,9 +569,10 @@ fn finding_of(finding: &Finding) -> Found<'_> {
     }
 }
 
-fn expect_target(rt: &impl Abort, target: &Target, wanted: &(u32, InstanceId, Found<'_>)) {
-    assert_eq!(rt; target.part.index, wanted.0);
-    assert_eq!(rt; target.instance, wanted.1);
+fn expect_entry(rt: &impl Abort, entry: &Entry, wanted: &(u32, InstanceId, Found<'_>)) {
+    let target = &entry.target;
+    let found = finding_of(&entry.finding);
+    expect(rt, &(target.part.index, target.instance, found), wanted);
 }
 
 fn expect_found(rt: &impl Abort, report: &Report, wanted: &[(u32, InstanceId, Found<'_>)]) {
@@ -576,11 +580,10 @@ fn expect_found(rt: &impl Abort, report: &Report, wanted: &[(u32, InstanceId, Fo
     assert!(rt; rest.len() <= wanted.len());
     let (front, back) = wanted.split_at(wanted.len() - rest.len());
     for (_, _, found) in front {
-        assert_eq!(rt; Found::AtBest, *found);
+        expect(rt, &Found::AtBest, found);
     }
     for (entry, wanted) in rest.iter().zip(back) {
-        expect_target(rt, &entry.target, wanted);
-        assert_eq!(rt; finding_of(&entry.finding), wanted.2);
+        expect_entry(rt, entry, wanted);
     }
 }
 
@@ -594,16 +597,20 @@ fn expect_plan(rt: &impl Abort, plan: &Plan, worked: &Worked) {
     expect_moves(rt, plan.proposals.as_slice(), worked.moves);
 }
 
-fn expect(rt: &impl Abort, alloc: Global, table: &[Worked]) {
+fn expect_plans(rt: &impl Abort, alloc: Global, spec: &Spec, view: &View, worked: &Worked) {
+    expect_stages(rt, alloc, spec, view, worked);
+    expect_plan(rt, &planned(rt, alloc, spec, view), worked);
+    expect_plan(rt, &drafted(rt, alloc, spec, view), worked);
+    let twice = planned_twice(rt, alloc, spec, view);
+    expect_moves(rt, twice.as_slice(), worked.moves);
+}
+
+fn expect_all(rt: &impl Abort, alloc: Global, table: &[Worked]) {
     let mut planner = Planner::new();
     for worked in table {
         let spec = described(rt, alloc, worked.shown.text);
         let mut view = view(rt, alloc, &spec, &worked.shown);
-        expect_stages(rt, alloc, &spec, &view, worked);
-        expect_plan(rt, &planned(rt, alloc, &spec, &view), worked);
-        expect_plan(rt, &drafted(rt, alloc, &spec, &view), worked);
-        let twice = planned_twice(rt, alloc, &spec, &view);
-        expect_moves(rt, twice.as_slice(), worked.moves);
+        expect_plans(rt, alloc, &spec, &view, worked);
         let again = planned_again(rt, alloc, &spec, &mut view, &mut planner);
         expect_moves(rt, again.as_slice(), worked.moves);
     }
@@ -611,20 +618,20 @@ fn expect(rt: &impl Abort, alloc: Global, table: &[Worked]) {
 
 #[test]
 fn plans_settle(rt: HostRuntime) {
-    expect(&rt, rt.alloc(), SETTLES);
+    expect_all(&rt, rt.alloc(), SETTLES);
 }
 
 #[test]
 fn plans_wait_and_lead_back(rt: HostRuntime) {
-    expect(&rt, rt.alloc(), TURNS);
+    expect_all(&rt, rt.alloc(), TURNS);
 }
 
 #[test]
 fn plans_keep_the_bounds(rt: HostRuntime) {
-    expect(&rt, rt.alloc(), BOUNDS);
+    expect_all(&rt, rt.alloc(), BOUNDS);
 }
 
 #[test]
 fn plans_keep_the_throttles(rt: HostRuntime) {
-    expect(&rt, rt.alloc(), THROTTLES);
+    expect_all(&rt, rt.alloc(), THROTTLES);
 }

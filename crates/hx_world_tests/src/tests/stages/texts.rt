@@ -77,16 +77,20 @@ pub const NO_RULES: Text = ("OnlineOffline", 2, 3, PLACED, "");
 
 pub const MIXED: Text = ("MasterSlave", 3, 2, BOTH_IN_ORDER, ONE_EACH);
 
-/// The description as a text.
-pub fn written(alloc: Global, text: Text) -> Result<String, AllocError> {
-    let (model, replicas, partitions, mode, more) = text;
-    let mut json = String::from_str(alloc, r#"{"version":1,"instances":["n1","n2","n3"]"#)?;
-    json.push_str(more)?;
+fn push_resource(alloc: Global, json: &mut String, text: Text) -> Result<(), AllocError> {
+    let (model, replicas, partitions, mode, _more) = text;
     json.push_str(r#","resources":[{"name":"db","model":""#)?;
     json.push_str(model)?;
     json.push_str(&format!(in alloc; "\",\"replicas\":{replicas},\"partitions\":{partitions}")?)?;
     json.push_str(r#","mode":"#)?;
-    json.push_str(mode)?;
+    json.push_str(mode)
+}
+
+/// The description as a text.
+pub fn written(alloc: Global, text: Text) -> Result<String, AllocError> {
+    let mut json = String::from_str(alloc, r#"{"version":1,"instances":["n1","n2","n3"]"#)?;
+    json.push_str(text.4)?;
+    push_resource(alloc, &mut json, text)?;
     json.push_str("}]}\n---\n")?;
     Ok(json)
 }
