@@ -6,10 +6,17 @@ use hx_app::{RunMode, Status, Task, run_script, start};
 use hx_io::{MemSink, MemSource};
 use std::alloc::{AllocError, Global};
 use std::env::{Env, FillError};
+use std::fmt::Debug;
+use std::process::Abort;
 use std::sync::Wait;
 use std::test::Fail;
 use std::thread::Threads;
 use std::{env, io};
+
+/// What is found is what is wanted. Inline, an `assert_eq!` takes longer to prove.
+fn expect<T: PartialEq + Debug>(rt: &impl Abort, found: &T, wanted: &T) {
+    assert_eq!(rt; found, wanted);
+}
 
 /// How a run ended, and what it wrote.
 #[derive(Drop)]
@@ -49,6 +56,24 @@ fn run_bytes(alloc: Global, bytes: Vec<u8>, fails: &[u64], most: u64) -> Result<
     let status = run_script(alloc, TASK, &mut source, &mut sink);
     drop(source);
     ended(alloc, status, sink)
+}
+
+fn expect_ran(rt: &impl Abort, ran: &Ran, status: Status, output: &str) {
+    expect(rt, &ran.status, &status);
+    assert!(rt; ran.got.as_slice() == output.as_bytes(), "not {output}");
+}
+
+/// A run with plenty of room ends so and writes this.
+fn expect_answer(
+    rt: &impl Abort,
+    alloc: Global,
+    input: &str,
+    status: Status,
+    output: &str,
+) -> Result<(), AllocError> {
+    let ran = run_on(alloc, input, &[], PLENTY)?;
+    expect_ran(rt, &ran, status, output);
+    Ok(())
 }
 
 const PLENTY: u64 = 1 << 20;
@@ -152,66 +177,67 @@ const ZERO_BOUND: &str = r#"{"version":1,"controllers":2,"timeout":30,"instances
 ---
 "#;
 
+static INPUTS: &[(&str, Status, &str)] = &[
+    (EMPTY, Status::DONE, EMPTY_VIEW),
+    (ONE_INSTANCE, Status::DONE, ITS_OUTPUT),
+    (
+        "builtin demo\n---\npass c1\nwork n3\n",
+        Status::DONE,
+        "line 1\n! 1 not-leader -\nline 2\nfetch n3 - 0\n= db#0/0 -\n= db#0/1 -\n",
+    ),
+    (TICKS, Status::DONE, ITS_ENDS),
+    (
+        "builtin demo\n",
+        Status::DESCRIPTION_REFUSED,
+        "description no-separator $\n",
+    ),
+    (
+        "{\"a\":\"b\n---\n",
+        Status::DESCRIPTION_REFUSED,
+        "description bad-json $\n",
+    ),
+    (
+        UNKNOWN_INSTANCE,
+        Status::DESCRIPTION_REFUSED,
+        "description unknown-instance $.resources[0].lists[0][1]\n",
+    ),
+    (
+        ZERO_BOUND,
+        Status::DESCRIPTION_REFUSED,
+        "description zero-bound $.models[0].states[0].bound\n",
+    ),
+    (
+        "builtin demo\n---\njoin n1\nsettle\njion n1\n",
+        Status::SCRIPT_REFUSED,
+        "script 3 unknown-word\n",
+    ),
+    (
+        "builtin demo\n---\ntick 1\nwork n9\n",
+        Status::SCRIPT_REFUSED,
+        "script 2 unknown-instance\n",
+    ),
+];
+
 #[test]
 fn inputs_are_answered(rt: HostRuntime) -> Result<(), Fail> {
-    for (input, status, output) in [
-        (EMPTY, Status::DONE, EMPTY_VIEW),
-        (ONE_INSTANCE, Status::DONE, ITS_OUTPUT),
-        (
-            "builtin demo\n---\npass c1\nwork n3\n",
-            Status::DONE,
-            "line 1\n! 1 not-leader -\nline 2\nfetch n3 - 0\n= db#0/0 -\n= db#0/1 -\n",
-        ),
-        (TICKS, Status::DONE, ITS_ENDS),
-        (
-            "builtin demo\n",
-            Status::DESCRIPTION_REFUSED,
-            "description no-separator $\n",
-        ),
-        (
-            "{\"a\":\"b\n---\n",
-            Status::DESCRIPTION_REFUSED,
-            "description bad-json $\n",
-        ),
-        (
-            UNKNOWN_INSTANCE,
-            Status::DESCRIPTION_REFUSED,
-            "description unknown-instance $.resources[0].lists[0][1]\n",
-        ),
-        (
-            ZERO_BOUND,
-            Status::DESCRIPTION_REFUSED,
-            "description zero-bound $.models[0].states[0].bound\n",
-        ),
-        (
-            "builtin demo\n---\njoin n1\nsettle\njion n1\n",
-            Status::SCRIPT_REFUSED,
-            "script 3 unknown-word\n",
-        ),
-        (
-            "builtin demo\n---\ntick 1\nwork n9\n",
-            Status::SCRIPT_REFUSED,
-            "script 2 unknown-instance\n",
-        ),
-    ] {
-        let ran = run_on(rt.alloc(), input, &[], PLENTY)?;
-        assert_eq!(rt; ran.status, status, "of {input}");
-        assert!(rt; ran.got.as_slice() == output.as_bytes(), "of {input}");
+    for (input, status, output) in INPUTS {
+        expect_answer(&rt, rt.alloc(), *input, *status, *output)?;
     }
     Ok(())
 }
 
+/// Of the source these calls fail, and the sink takes so many bytes.
+static FAILING: &[(&[u64], u64, Status, &str)] = &[
+    (&[2], PLENTY, Status::READ_FAULT, "read fault\n"),
+    (&[2], 10, Status::WRITE_FAULT, "read fault"),
+    (&[], 10, Status::WRITE_FAULT, "line 1\njoi"),
+];
+
 #[test]
 fn sources_and_sinks_fail(rt: HostRuntime) -> Result<(), Fail> {
-    let second_call = [2].as_slice();
-    for (fails, most, status, output) in [
-        (second_call, PLENTY, Status::READ_FAULT, "read fault\n"),
-        (second_call, 10, Status::WRITE_FAULT, "read fault"),
-        ([].as_slice(), 10, Status::WRITE_FAULT, "line 1\njoi"),
-    ] {
-        let ran = run_on(rt.alloc(), ONE_INSTANCE, fails, most)?;
-        assert_eq!(rt; ran.status, status, "of {output}");
-        assert!(rt; ran.got.as_slice() == output.as_bytes(), "of {output}");
+    for (fails, most, status, output) in FAILING {
+        let ran = run_on(rt.alloc(), ONE_INSTANCE, *fails, *most)?;
+        expect_ran(&rt, &ran, *status, *output);
     }
     Ok(())
 }
@@ -243,6 +269,12 @@ impl Env for Told<'_> {
     }
 }
 
+/// The words as the program reads them.
+fn read_words(alloc: Global, words: &[&[u8]]) -> io::Result<Vec<String>> {
+    let told = env::args(&(Told { words }, alloc))?;
+    Ok(told.collect(alloc)?)
+}
+
 /// Runs the program on words that the system tells, and the empty script.
 fn run_told<R: Threads + Wait + Sync>(
     rt: &R,
@@ -250,8 +282,7 @@ fn run_told<R: Threads + Wait + Sync>(
     words: &[&[u8]],
 ) -> Result<Ran, AllocError> {
     let bytes = Vec::from_slice(alloc, EMPTY.as_bytes())?;
-    let told = env::args(&(Told { words }, alloc));
-    let words: io::Result<Vec<String>> = told.and_then(|words| Ok(words.collect(alloc)?));
+    let words = read_words(alloc, words);
     let mut source = MemSource::new(bytes, Vec::new(alloc));
     let mut sink = MemSink::new(alloc, Vec::new(alloc), PLENTY);
     let status = start(rt, alloc, words, &mut source, &mut sink);
@@ -259,47 +290,35 @@ fn run_told<R: Threads + Wait + Sync>(
     ended(alloc, status, sink)
 }
 
+const NAME: &[u8] = b"fodderca";
+
+static WORDS: &[(&[&[u8]], Status, &str)] = &[
+    (&[NAME], Status::DONE, EMPTY_VIEW),
+    (&[NAME, b"--mode=sim"], Status::DONE, EMPTY_VIEW),
+    (
+        &[NAME, b"--mode=gen", b"--seed=7", b"--size=64"],
+        Status::DONE,
+        "= summary sent 1472 ok 1472 failed 0 sessions 12 ended 0\n",
+    ),
+    (&[NAME, b"--version"], Status::DONE, "fodderca 0.1.0\n"),
+    (
+        &[NAME, b"--mode=fast"],
+        Status::WORDS_REFUSED,
+        "words refused\n",
+    ),
+    (
+        &[NAME, b"--mode=\xff"],
+        Status::WORDS_REFUSED,
+        "words refused\n",
+    ),
+    (&[], Status::WORDS_REFUSED, "words refused\n"),
+];
+
 #[test]
 fn words_are_answered(rt: HostRuntime) -> Result<(), Fail> {
-    let name = b"fodderca".as_slice();
-    for (words, status, output) in [
-        ([name].as_slice(), Status::DONE, EMPTY_VIEW),
-        (
-            [name, b"--mode=sim".as_slice()].as_slice(),
-            Status::DONE,
-            EMPTY_VIEW,
-        ),
-        (
-            [
-                name,
-                b"--mode=gen".as_slice(),
-                b"--seed=7".as_slice(),
-                b"--size=64".as_slice(),
-            ]
-            .as_slice(),
-            Status::DONE,
-            "= summary sent 1472 ok 1472 failed 0 sessions 12 ended 0\n",
-        ),
-        (
-            [name, b"--version".as_slice()].as_slice(),
-            Status::DONE,
-            "fodderca 0.1.0\n",
-        ),
-        (
-            [name, b"--mode=fast".as_slice()].as_slice(),
-            Status::WORDS_REFUSED,
-            "words refused\n",
-        ),
-        (
-            [name, b"--mode=\xff".as_slice()].as_slice(),
-            Status::WORDS_REFUSED,
-            "words refused\n",
-        ),
-        ([].as_slice(), Status::WORDS_REFUSED, "words refused\n"),
-    ] {
-        let ran = run_told(&rt, rt.alloc(), words)?;
-        assert_eq!(rt; ran.status, status, "of {words:?}");
-        assert!(rt; ran.got.as_slice() == output.as_bytes(), "of {words:?}");
+    for (words, status, output) in WORDS {
+        let ran = run_told(&rt, rt.alloc(), *words)?;
+        expect_ran(&rt, &ran, *status, *output);
     }
     Ok(())
 }

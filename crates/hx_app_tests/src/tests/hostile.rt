@@ -1,8 +1,13 @@
 //! Hostile use: sources and sinks that fail at any call, inputs at the limit, sessions that end in
 //! storms, and instances that go on after their sessions have ended.
-use crate::tests::{ITS_OUTPUT, ONE_INSTANCE, PLENTY, run_bytes, run_on};
+ghost use Rattle.std.specs.Prelude.{◌≤◌};
+
+use crate::tests::{
+    ITS_OUTPUT, ONE_INSTANCE, PLENTY, Ran, expect, expect_answer, expect_ran, run_bytes, run_on,
+};
 use hx_app::Status;
 use std::alloc::{AllocError, Global};
+use std::process::Abort;
 use std::test::Fail;
 
 const COMMENT: &[u8; 64] = b"###############################################################\n";
@@ -18,28 +23,47 @@ fn padded(alloc: Global, length: usize) -> Result<Vec<u8>, AllocError> {
     Ok(bytes)
 }
 
-/// A source gives up to 16,384 bytes at a call, and a last call finds its end.
+/// Of a source of so many bytes these calls fail.
+fn run_padded(alloc: Global, length: usize, fails: &[u64]) -> Result<Ran, AllocError> {
+    run_bytes(alloc, padded(alloc, length)?, fails, PLENTY)
+}
+
+/// How many bytes there are, and a call that fails. A source gives up to 16,384 bytes at a call, and
+/// a last call finds its end.
+static FAILING: &[(usize, u64)] = &[
+    (0, 1),
+    (0, 2),
+    (40_000, 1),
+    (40_000, 2),
+    (40_000, 3),
+    (40_000, 4),
+];
+
+static READ: &[(usize, u64)] = &[(0, 3), (40_000, 5)];
+
 #[test]
 fn sources_fail_at_each_call(rt: HostRuntime) -> Result<(), Fail> {
-    let (fault, fault_text) = (Status::READ_FAULT, "read fault\n");
-    for (length, call, status, output) in [
-        (0, 1, fault, fault_text),
-        (0, 2, fault, fault_text),
-        (0, 3, Status::DONE, ITS_OUTPUT),
-        (40_000, 1, fault, fault_text),
-        (40_000, 2, fault, fault_text),
-        (40_000, 3, fault, fault_text),
-        (40_000, 4, fault, fault_text),
-        (40_000, 5, Status::DONE, ITS_OUTPUT),
-    ] {
-        let input = padded(rt.alloc(), length)?;
-        let ran = run_bytes(rt.alloc(), input, &[call], PLENTY)?;
-        assert_eq!(rt; ran.status, status, "{length} bytes, call {call}");
-        assert!(rt;
-            ran.got.as_slice() == output.as_bytes(),
-            "{length} bytes, call {call}"
-        );
+    for (length, call) in FAILING {
+        let ran = run_padded(rt.alloc(), *length, &[*call])?;
+        expect_ran(&rt, &ran, Status::READ_FAULT, "read fault\n");
     }
+    for (length, call) in READ {
+        let ran = run_padded(rt.alloc(), *length, &[*call])?;
+        expect_ran(&rt, &ran, Status::DONE, ITS_OUTPUT);
+    }
+    Ok(())
+}
+
+/// A sink that takes as many bytes as these takes these.
+fn expect_taken(rt: &impl Abort, alloc: Global, taken: &[u8]) -> Result<(), AllocError> {
+    let ran = run_on(alloc, ONE_INSTANCE, &[], taken.len() as u64)?;
+    let status = if taken.len() < ITS_OUTPUT.len() {
+        Status::WRITE_FAULT
+    } else {
+        Status::DONE
+    };
+    expect(rt, &ran.status, &status);
+    expect(rt, &ran.got.as_slice(), &taken);
     Ok(())
 }
 
@@ -47,28 +71,22 @@ fn sources_fail_at_each_call(rt: HostRuntime) -> Result<(), Fail> {
 fn sinks_take_each_number_of_bytes(rt: HostRuntime) -> Result<(), Fail> {
     let whole = ITS_OUTPUT.as_bytes();
     for most in 0..=whole.len() {
-        let ran = run_on(rt.alloc(), ONE_INSTANCE, &[], most as u64)?;
-        let status = if most < whole.len() {
-            Status::WRITE_FAULT
-        } else {
-            Status::DONE
-        };
-        assert_eq!(rt; ran.status, status, "{most} bytes");
-        assert!(rt; ran.got.as_slice() == &whole[..most], "{most} bytes");
+        expect_taken(&rt, rt.alloc(), &whole[..most])?;
     }
     Ok(())
 }
 
 #[test]
-fn inputs_end_at_the_limit(rt: HostRuntime) -> Result<(), Fail> {
-    for (length, status, output) in [
-        (16_777_216, Status::DONE, ITS_OUTPUT),
-        (16_777_217, Status::TOO_LONG, "input too long\n"),
-    ] {
-        let ran = run_bytes(rt.alloc(), padded(rt.alloc(), length)?, &[], PLENTY)?;
-        assert_eq!(rt; ran.status, status, "{length} bytes");
-        assert!(rt; ran.got.as_slice() == output.as_bytes(), "{length} bytes");
-    }
+fn an_input_at_the_limit_is_read(rt: HostRuntime) -> Result<(), Fail> {
+    let ran = run_padded(rt.alloc(), 16_777_216, &[])?;
+    expect_ran(&rt, &ran, Status::DONE, ITS_OUTPUT);
+    Ok(())
+}
+
+#[test]
+fn an_input_past_the_limit_is_refused(rt: HostRuntime) -> Result<(), Fail> {
+    let ran = run_padded(rt.alloc(), 16_777_217, &[])?;
+    expect_ran(&rt, &ran, Status::TOO_LONG, "input too long\n");
     Ok(())
 }
 
@@ -247,62 +265,94 @@ line 20
 = db#0/0 -
 ";
 
-/// Sixty-four instances join. The even ones beat one tick later, so they end one tick later.
-fn crowd(alloc: Global) -> Result<String, AllocError> {
-    let mut input = String::from_str(alloc, "{\"version\":1,\"instances\":[\"i00\"")?;
+/// Describes sixty-four instances.
+fn push_instances(alloc: Global, input: &mut String) -> Result<(), AllocError> {
+    input.push_str("{\"version\":1,\"instances\":[\"i00\"")?;
     for n in 1..64 {
         input.push_str(&format!(in alloc; ",\"i{n:02}\"")?)?;
     }
-    input.push_str("]}\n---\n")?;
+    input.push_str("]}\n---\n")
+}
+
+fn push_joins(alloc: Global, input: &mut String) -> Result<(), AllocError> {
     for n in 0..64 {
         input.push_str(&format!(in alloc; "join i{n:02}\n")?)?;
     }
-    input.push_str("tick 1\n")?;
-    for n in 0..64 {
-        if n % 2 == 0 {
-            input.push_str(&format!(in alloc; "beat i{n:02}\n")?)?;
-        }
+    Ok(())
+}
+
+/// The even ones beat.
+fn push_beats(alloc: Global, input: &mut String) -> Result<(), AllocError> {
+    for n in 0u32..32 {
+        let instance = 2 * n;
+        input.push_str(&format!(in alloc; "beat i{instance:02}\n")?)?;
     }
+    Ok(())
+}
+
+/// Sixty-four instances join. The even ones beat one tick later, so they end one tick later.
+fn crowd(alloc: Global) -> Result<String, AllocError> {
+    let mut input = String::new(alloc);
+    push_instances(alloc, &mut input)?;
+    push_joins(alloc, &mut input)?;
+    input.push_str("tick 1\n")?;
+    push_beats(alloc, &mut input)?;
     input.push_str("tick 29\ntick 1\n")?;
     Ok(input)
 }
 
-fn its_ends(alloc: Global) -> Result<String, AllocError> {
-    let mut log = String::new(alloc);
+fn push_its_joins(alloc: Global, log: &mut String) -> Result<(), AllocError> {
     for n in 0..64 {
         let line = n + 1;
         log.push_str(&format!(in alloc; "line {line}\njoin i{n:02} s{line}\n")?)?;
     }
+    Ok(())
+}
+
+fn push_its_beats(alloc: Global, log: &mut String) -> Result<(), AllocError> {
+    for n in 0u32..32 {
+        let (line, instance, session) = (66 + n, 2 * n, 2 * n + 1);
+        log.push_str(&format!(in alloc; "line {line}\nbeat i{instance:02} s{session}\n")?)?;
+    }
+    Ok(())
+}
+
+/// Every other session ends, from this instance on.
+fn push_its_ends(alloc: Global, log: &mut String, first: u32) -> Result<(), AllocError>
+    requires { first ≤ 1 }
+{
+    for n in 0u32..32 {
+        let instance = 2 * n + first;
+        let session = instance + 1;
+        log.push_str(&format!(in alloc; "  end i{instance:02} s{session}\n")?)?;
+    }
+    Ok(())
+}
+
+/// What is written of the crowd.
+fn its_ends(alloc: Global) -> Result<String, AllocError> {
+    let mut log = String::new(alloc);
+    push_its_joins(alloc, &mut log)?;
     log.push_str("line 65\ntick 1\n")?;
-    for n in 0..64 {
-        if n % 2 == 0 {
-            let (line, session) = (66 + n / 2, n + 1);
-            log.push_str(&format!(in alloc; "line {line}\nbeat i{n:02} s{session}\n")?)?;
-        }
-    }
-    for (tick, odd) in [("line 98\ntick 29\n", 1), ("line 99\ntick 1\n", 0)] {
-        log.push_str(tick)?;
-        for n in 0..64 {
-            if n % 2 == odd {
-                let session = n + 1;
-                log.push_str(&format!(in alloc; "  end i{n:02} s{session}\n")?)?;
-            }
-        }
-    }
+    push_its_beats(alloc, &mut log)?;
+    log.push_str("line 98\ntick 29\n")?;
+    push_its_ends(alloc, &mut log, 1)?;
+    log.push_str("line 99\ntick 1\n")?;
+    push_its_ends(alloc, &mut log, 0)?;
     Ok(log)
 }
 
 #[test]
 fn sessions_end_in_storms(rt: HostRuntime) -> Result<(), Fail> {
-    let (crowd, its_ends) = (crowd(rt.alloc())?, its_ends(rt.alloc())?);
-    for (input, output) in [
-        (STORM, ITS_LOG),
-        (ZOMBIE, ITS_NOTES),
-        (crowd.as_str(), its_ends.as_str()),
-    ] {
-        let ran = run_on(rt.alloc(), input, &[], PLENTY)?;
-        assert_eq!(rt; ran.status, Status::DONE, "of {input}");
-        assert!(rt; ran.got.as_slice() == output.as_bytes(), "of {input}");
-    }
+    expect_answer(&rt, rt.alloc(), STORM, Status::DONE, ITS_LOG)?;
+    expect_answer(&rt, rt.alloc(), ZOMBIE, Status::DONE, ITS_NOTES)?;
+    Ok(())
+}
+
+#[test]
+fn sessions_of_a_crowd_end_in_storms(rt: HostRuntime) -> Result<(), Fail> {
+    let crowd = crowd(rt.alloc())?;
+    let ends = its_ends(rt.alloc())?;
+    expect_answer(&rt, rt.alloc(), crowd.as_str(), Status::DONE, ends.as_str())?;
     Ok(())
 }

@@ -1,4 +1,5 @@
 //! Logs that are judged.
+use crate::tests::expect;
 use hx_app::{Status, judged};
 use std::alloc::{AllocError, Global};
 use std::test::Fail;
@@ -47,85 +48,89 @@ const TAKEN: &str = "take s1 m1\nwrite s1 m1 ok\nack s1 m1\n";
 
 const LED_ANEW: &str = "stop c1\nlead c2 e2\nstop c2\nstart c1\nlead c1 e3\n";
 
-#[test]
-fn lawful_logs_are_counted(rt: HostRuntime) -> Result<(), Fail> {
-    let alloc = rt.alloc();
-    for (log, want) in [
-        ([].as_slice(), "lawful 0\n"),
-        (
-            ["! 1 x\n\nline 1\n? y\njoin n1 s1\n= z\n"].as_slice(),
-            "lawful 2\n",
-        ),
-        (
-            [LED, BEGUN, READ, SENT, POSTED, FETCHED, TAKEN].as_slice(),
-            "lawful 17\n",
-        ),
-    ] {
-        let answered = answer_to(alloc, log)?;
-        assert_eq!(rt; answered.status, Status::DONE);
-        assert_eq!(rt; answered.text.as_slice(), want.as_bytes());
-    }
-    Ok(())
-}
+/// Logs in parts, each with its answer: lawful ones, and ones whose first line at fault is named with
+/// the cause.
+static LOGS: &[(&[&str], Status, &str)] = &[
+    (&[], Status::DONE, "lawful 0\n"),
+    (
+        &["! 1 x\n\nline 1\n? y\njoin n1 s1\n= z\n"],
+        Status::DONE,
+        "lawful 2\n",
+    ),
+    (
+        &[LED, BEGUN, READ, SENT, POSTED, FETCHED, TAKEN],
+        Status::DONE,
+        "lawful 17\n",
+    ),
+    (
+        &["  sent m1 s1 db#0/0 OFFLINE>ONLINE\n"],
+        Status::UNLAWFUL,
+        "unlawful 1 grammar\n",
+    ),
+    (
+        &[LED, "leads c1 e1\n"],
+        Status::UNLAWFUL,
+        "unlawful 5 grammar\n",
+    ),
+    (
+        &["line 1\njoin n1 s2\n"],
+        Status::UNLAWFUL,
+        "unlawful 2 step\n",
+    ),
+    // The answer of a proposal is another.
+    (
+        &[
+            LED,
+            BEGUN,
+            READ,
+            "send c1 e1 p1\n  sent m1 s1 db#0/0 OFFLINE>ONLINE\n  busy m1 s1 db#0/1 OFFLINE>ONLINE\n",
+        ],
+        Status::UNLAWFUL,
+        "unlawful 11 step\n",
+    ),
+    // States are read before mail.
+    (
+        &[LED, BEGUN, "states c1 p1 s1\nmail c1 p1 s1\n"],
+        Status::UNLAWFUL,
+        "unlawful 8 order\n",
+    ),
+    // What is sent is of the epoch of another begin.
+    (
+        &[
+            LED,
+            BEGUN,
+            READ,
+            LED_ANEW,
+            "send c1 e3 p1\n  sent m1 s1 db#0/0 OFFLINE>ONLINE\n  sent m2 s1 db#0/1 OFFLINE>ONLINE\n",
+        ],
+        Status::UNLAWFUL,
+        "unlawful 16 order\n",
+    ),
+    // A proposal is left out.
+    (
+        &[
+            LED,
+            BEGUN,
+            READ,
+            "send c1 e1 p1\n  sent m1 s1 db#0/0 OFFLINE>ONLINE\n",
+        ],
+        Status::UNLAWFUL,
+        "unlawful 11 plan\n",
+    ),
+    // No fetch showed what is taken.
+    (
+        &[LED, BEGUN, READ, SENT, POSTED, TAKEN],
+        Status::UNLAWFUL,
+        "unlawful 17 fetch\n",
+    ),
+];
 
 #[test]
-fn the_first_line_at_fault_is_named_with_its_cause(rt: HostRuntime) -> Result<(), Fail> {
-    let alloc = rt.alloc();
-    for (log, want) in [
-        (
-            ["  sent m1 s1 db#0/0 OFFLINE>ONLINE\n"].as_slice(),
-            "unlawful 1 grammar\n",
-        ),
-        ([LED, "leads c1 e1\n"].as_slice(), "unlawful 5 grammar\n"),
-        (["line 1\njoin n1 s2\n"].as_slice(), "unlawful 2 step\n"),
-        // The answer of a proposal is another.
-        (
-            [
-                LED,
-                BEGUN,
-                READ,
-                "send c1 e1 p1\n  sent m1 s1 db#0/0 OFFLINE>ONLINE\n  busy m1 s1 db#0/1 OFFLINE>ONLINE\n",
-            ]
-            .as_slice(),
-            "unlawful 11 step\n",
-        ),
-        // States are read before mail.
-        (
-            [LED, BEGUN, "states c1 p1 s1\nmail c1 p1 s1\n"].as_slice(),
-            "unlawful 8 order\n",
-        ),
-        // What is sent is of the epoch of another begin.
-        (
-            [
-                LED,
-                BEGUN,
-                READ,
-                LED_ANEW,
-                "send c1 e3 p1\n  sent m1 s1 db#0/0 OFFLINE>ONLINE\n  sent m2 s1 db#0/1 OFFLINE>ONLINE\n",
-            ]
-            .as_slice(),
-            "unlawful 16 order\n",
-        ),
-        // A proposal is left out.
-        (
-            [
-                LED,
-                BEGUN,
-                READ,
-                "send c1 e1 p1\n  sent m1 s1 db#0/0 OFFLINE>ONLINE\n",
-            ]
-            .as_slice(),
-            "unlawful 11 plan\n",
-        ),
-        // No fetch showed what is taken.
-        (
-            [LED, BEGUN, READ, SENT, POSTED, TAKEN].as_slice(),
-            "unlawful 17 fetch\n",
-        ),
-    ] {
-        let answered = answer_to(alloc, log)?;
-        assert_eq!(rt; answered.status, Status::UNLAWFUL);
-        assert_eq!(rt; answered.text.as_slice(), want.as_bytes());
+fn logs_are_judged(rt: HostRuntime) -> Result<(), Fail> {
+    for (log, status, text) in LOGS {
+        let answered = answer_to(rt.alloc(), *log)?;
+        expect(&rt, &answered.status, status);
+        expect(&rt, &answered.text.as_slice(), &text.as_bytes());
     }
     Ok(())
 }
